@@ -1,0 +1,101 @@
+-- When a rule is refused, and the limits of an accepted one: numbers 5 to 9 of 01.
+use Prim.Native.Nat.{ℕ, suc, _≤_, _<_}
+use mathlib.Core.Path.{_≡_}
+use mathlib.Core.List.{List, _∷_, _++_}
+use lib.ListN.{length, take}
+use Rattle.lists.specs.Lists.{Occurs}
+use Rattle.refusals.specs.Refusals.{Refusal, ruleLength, unreadable, nesting}
+use Rattle.refusals.specs.Refusals as Refusals
+use Rattle.xpath.specs.Syntax.{Test}
+use Rattle.grammar.specs.Spelling.{spellTest, LegalTest}
+use Rattle.grammar.specs.Parts.{Part, comparison, parts, tests}
+
+-- 01: a rule has at most 1,024 bytes and 64 tests; 32 is the most nesting; a comparison has at most 14 steps
+abbrev pub maxBytes : ℕ
+maxBytes = 1024
+
+abbrev pub maxNesting : ℕ
+maxNesting = 32
+
+abbrev pub maxTests : ℕ
+maxTests = 64
+
+abbrev pub maxSteps : ℕ
+maxSteps = 14
+
+-- p is a comparison above 14 steps
+abbrev pub Heavy : Part → Type 0
+Heavy p = (m : ℕ) × (p .sort ≡ comparison m) × (maxSteps < m)
+
+module _ (s : List ℕ) where
+  -- the rule reads as T
+  pub record Reads (T : Test) : Type 0 where
+    pub legal : LegalTest T
+    pub spelled : s ≡ spellTest T
+
+  -- the first k bytes begin the rule T, with nesting, steps, tests and whole length set aside
+  pub record BeginsAs (k : ℕ) (T : Test) : Type 0 where
+    pub inside : k ≤ length s
+    pub legal : LegalTest T
+    pub rest : List ℕ
+    pub spelled : spellTest T ≡ take k s ++ rest
+
+  abbrev pub Begins : ℕ → Type 0
+  Begins k = (T : Test) × BeginsAs k T
+
+  -- number 6: the rule does not read, and k is the length of its longest prefix that begins some rule
+  pub record Unreadable (k : ℕ) : Type 0 where
+    pub unread : (T : Test) → ¬ Reads T
+    pub begins : Begins k
+    pub longest : (i : ℕ) → Begins i → i ≤ k
+
+  -- p is a part whose first byte lies inside a prefix that begins some rule (in a rule that reads, any part)
+  pub record IsPart (p : Part) : Type 0 where
+    pub rule : Test
+    pub begins : BeginsAs (suc (p .offset)) rule
+    pub among : Occurs p (parts rule)
+
+  -- number 7: the first byte of the first part at nesting 33
+  pub record TooDeep (o : ℕ) : Type 0 where
+    pub part : Part
+    pub isPart : IsPart part
+    pub here : part .offset ≡ o
+    pub deep : part .nesting ≡ suc maxNesting
+    pub first : (p : Part) → IsPart p → p .nesting ≡ suc maxNesting → o ≤ p .offset
+
+  -- number 8: the first byte of the 65th test
+  pub record ManyTests (o : ℕ) : Type 0 where
+    pub rule : Test
+    pub reads : Reads rule
+    pub before : List Part
+    pub part : Part
+    pub after : List Part
+    pub split : tests (parts rule) ≡ before ++ part ∷ after
+    pub full : length before ≡ maxTests
+    pub here : part .offset ≡ o
+
+  -- number 9: the opening bracket of the first comparison above 14 steps
+  pub record ManySteps (o : ℕ) : Type 0 where
+    pub rule : Test
+    pub reads : Reads rule
+    pub part : Part
+    pub among : Occurs part (parts rule)
+    pub heavy : Heavy part
+    pub here : part .offset ≡ o
+    pub first : (p : Part) → Occurs p (parts rule) → Heavy p → o ≤ p .offset
+
+  -- the grounds that judge a rule
+  pub data RuleGround : Refusal → Type 0 where
+    long : maxBytes < length s → RuleGround ruleLength
+    unread : {k : ℕ} → Unreadable k → RuleGround (unreadable k)
+    deep : {o : ℕ} → TooDeep o → RuleGround (nesting o)
+    crowded : {o : ℕ} → ManyTests o → RuleGround (Refusals.tests o)
+    heavy : {o : ℕ} → ManySteps o → RuleGround (Refusals.steps o)
+
+  -- the rule reads as T, within the limits
+  pub record Accepts (T : Test) : Type 0 where
+    pub reads : Reads T
+    pub short : length s ≤ maxBytes
+    pub shallow : (p : Part) → Occurs p (parts T) → p .nesting ≤ maxNesting
+    pub few : length (tests (parts T)) ≤ maxTests
+    pub light : (p : Part) → Occurs p (parts T) → ¬ Heavy p

@@ -1,0 +1,4 @@
+pub mod Decide
+pub mod Lists
+pub mod Numerals
+pub mod Search

@@ -1,0 +1,139 @@
+-- Laws of All, Occurs, Distinct and Number.
+use Prim.Native.Nat.{ℕ, zero, suc, _+_, _*_, _≤_, _<_}
+use mathlib.Core.Path.{_≡_, refl, sym, ap, ap₂, _∙_, subst}
+use mathlib.Core.Logic.{_⊎_, inl, inr, _↔_, ⊎-map, ⊎-elim, Dec·and}
+use mathlib.Core.List.{List, [], _∷_, _++_, map}
+use lib.ListN.{length, length-append, length-map}
+use native.Mathlib.Omega.{arith}
+use native.Mathlib.Decide.{ℕ-discrete}
+use Rattle.lists.proofs.Decide.{dec-or}
+use Rattle.lists.specs.Lists.{All, Occurs, Distinct, Number}
+
+-- ── Every element ──
+module _ {A : Type 0} (B : A → Type 0) where
+  pub all-append : (xs ys : List A) → All B (xs ++ ys) ↔ (All B xs × All B ys)
+  all-append [] ys = (λ h. (tt, h), λ h. h .1)
+  all-append (x ∷ xs) ys =
+      (λ h. let r = all-append xs ys .0 (h .1) in ((h .0, r .0), r .1), λ h. (h .0 .0, all-append xs ys .1 (h .0 .1, h .1)))
+
+  pub all-occurs : (xs : List A) → All B xs ↔ ((a : A) → Occurs a xs → B a)
+  all-occurs [] = (λ h a o. absurd o, λ f. tt)
+  all-occurs (x ∷ xs) = (
+    (λ h a o. ⊎-elim (λ e. subst B (sym e) (h .0)) (all-occurs xs .0 (h .1) a) o),
+    λ f. (f x (inl refl), all-occurs xs .1 (λ a o. f a (inr o))),
+  )
+
+  -- what follows from B holds of every element, and of every image
+  pub all-map : {D : Type 0} (C : D → Type 0) (f : A → D) → ((a : A) → B a → C (f a)) → (xs : List A) → All B xs → All C (map f xs)
+  all-map C f g [] h = tt
+  all-map C f g (x ∷ xs) h = (g x (h .0), all-map C f g xs (h .1))
+
+  pub all-imp : (C : A → Type 0) → ((a : A) → B a → C a) → (xs : List A) → All B xs → All C xs
+  all-imp C g [] h = tt
+  all-imp C g (x ∷ xs) h = (g x (h .0), all-imp C g xs (h .1))
+
+pub all-dec : {A : Type 0} {B : A → Type 0} → ((a : A) → Dec (B a)) → (xs : List A) → Dec (All B xs)
+all-dec d [] = yes tt
+all-dec d (x ∷ xs) = Dec·and (d x) (all-dec d xs)
+
+-- where g undoes f, map g undoes map f
+pub map-back : {A B : Type 0} (f : A → B) (g : B → A) (xs : List A) → All (λ a. g (f a) ≡ a) xs → map g (map f xs) ≡ xs
+map-back f g [] h = refl
+map-back {A} f g (x ∷ xs) h = ap₂ {C = List A} (λ y ys. y ∷ ys) (h .0) (map-back f g xs (h .1))
+
+-- ── Membership ──
+module _ {A : Type 0} where
+  pub occurs-left : (a : A) (xs ys : List A) → Occurs a xs → Occurs a (xs ++ ys)
+  occurs-left a [] ys h = absurd h
+  occurs-left a (x ∷ xs) ys (inl e) = inl e
+  occurs-left a (x ∷ xs) ys (inr h) = inr (occurs-left a xs ys h)
+
+  pub occurs-right : (a : A) (xs ys : List A) → Occurs a ys → Occurs a (xs ++ ys)
+  occurs-right a [] ys h = h
+  occurs-right a (x ∷ xs) ys h = inr (occurs-right a xs ys h)
+
+  pub occurs-append : (a : A) (xs ys : List A) → Occurs a (xs ++ ys) → Occurs a xs ⊎ Occurs a ys
+  occurs-append a [] ys h = inr h
+  occurs-append a (x ∷ xs) ys (inl e) = inl (inl e)
+  occurs-append a (x ∷ xs) ys (inr h) = ⊎-map (λ o. inr o) (λ o. o) (occurs-append a xs ys h)
+
+  pub occurs-dec : Discrete A → (a : A) (xs : List A) → Dec (Occurs a xs)
+  occurs-dec d a [] = no (λ h. h)
+  occurs-dec d a (x ∷ xs) = dec-or (d a x) (occurs-dec d a xs)
+
+  -- take one occurrence out
+  pub remove : (a : A) (ys : List A) → Occurs a ys → (zs : List A) × (length ys ≡ suc (length zs)) × ((z : A) → Occurs z ys → (z ≡ a) ⊎ Occurs z zs)
+  remove a [] h = absurd h
+  remove a (y ∷ ys) (inl e) = (ys, refl, λ z o. ⊎-map (λ f. f ∙ sym e) (λ p. p) o)
+  remove a (y ∷ ys) (inr h) = let (zs, l, f) = remove a ys h in (y ∷ zs, ap suc l, λ z o. go zs f z o)
+    where
+      go : (zs : List A) → ((z : A) → Occurs z ys → (z ≡ a) ⊎ Occurs z zs) → (z : A) → (z ≡ y) ⊎ Occurs z ys → (z ≡ a) ⊎ ((z ≡ y) ⊎ Occurs z zs)
+      go zs f z (inl e) = inr (inl e)
+      go zs f z (inr o) = ⊎-map (λ e. e) (λ p. inr p) (f z o)
+
+pub occurs-map : {A B : Type 0} (f : A → B) (a : A) (xs : List A) → Occurs a xs → Occurs (f a) (map f xs)
+occurs-map f a [] h = absurd h
+occurs-map f a (x ∷ xs) (inl e) = inl (ap f e)
+occurs-map f a (x ∷ xs) (inr h) = inr (occurs-map f a xs h)
+
+-- ── Pigeonhole ──
+module _ {A B : Type 0} (f : A → B) where
+  pub pigeon : (xs : List A) (ys : List B) → Distinct xs → ((a : A) → Occurs a xs → Occurs (f a) ys)
+      → ((a b : A) → Occurs a xs → Occurs b xs → f a ≡ f b → a ≡ b) → length xs ≤ length ys
+  pigeon [] ys d s inj = omega arith
+  pigeon (x ∷ xs) ys (nx, d) s inj =
+      let (zs, l, g) = remove (f x) ys (s x (inl refl)) in
+      let r = pigeon xs zs d (λ a o. left zs a o (g (f a) (s a (inr o)))) (λ a b o p e. inj a b (inr o) (inr p) e) in
+      omega arith
+    where
+      left : (zs : List B) (a : A) → Occurs a xs → (f a ≡ f x) ⊎ Occurs (f a) zs → Occurs (f a) zs
+      left zs a o (inl e) = absurd (nx (subst (λ z. Occurs z xs) (inj a x (inr o) (inl refl) e) o))
+      left zs a o (inr p) = p
+
+pub number-one : {A : Type 0} {B : A → Type 0} {n m : ℕ} → Number B n → Number B m → n ≡ m
+number-one {A} {B} {n} {m} h g =
+    let le = pigeon (λ (a : A). a) (h .list) (g .list) (h .distinct) (λ a o. g .all a (h .only a o)) (λ a b o p e. e) in
+    let ge = pigeon (λ (a : A). a) (g .list) (h .list) (g .distinct) (λ a o. h .all a (g .only a o)) (λ a b o p e. e) in
+    let i = h .long in let j = g .long in
+    omega arith
+
+-- ── Lists of candidates ──
+unfoldable pub range : ℕ → ℕ → List ℕ
+range lo zero = []
+range lo (suc n) = lo ∷ range (suc lo) n
+
+pub length-range : (lo n : ℕ) → length (range lo n) ≡ n
+unfolding range
+length-range lo zero = refl
+length-range lo (suc n) = ap suc (length-range (suc lo) n)
+
+pub occurs-range : (i lo n : ℕ) → lo ≤ i → i < lo + n → Occurs i (range lo n)
+unfolding range
+occurs-range i lo zero h g = absurd (omega arith)
+occurs-range i lo (suc n) h g = go (ℕ-discrete i lo) (λ (q : suc lo ≤ i). occurs-range i (suc lo) n q (omega arith))
+  where
+    go : Dec (i ≡ lo) → (suc lo ≤ i → Occurs i (range (suc lo) n)) → (i ≡ lo) ⊎ Occurs i (range (suc lo) n)
+    go (yes e) ih = inl e
+    go (no f) ih = inr (ih (omega arith))
+
+module _ {A B : Type 0} where
+  unfoldable pub prod : List A → List B → List (A × B)
+  prod [] ys = []
+  prod (x ∷ xs) ys = map (λ y. (x, y)) ys ++ prod xs ys
+
+  pub length-prod : (xs : List A) (ys : List B) → length (prod xs ys) ≡ length xs * length ys
+  unfolding prod
+  length-prod [] ys = omega arith
+  length-prod (x ∷ xs) ys =
+      let i = length-append (map (λ (y : B). (x, y)) ys) (prod xs ys) in
+      let j = length-map {B = A × B} ys (λ (y : B). (x, y)) in
+      let k = length-prod xs ys in
+      omega arith
+
+  pub occurs-prod : (a : A) (b : B) (xs : List A) (ys : List B) → Occurs a xs → Occurs b ys → Occurs {A = A × B} (a, b) (prod xs ys)
+  unfolding prod
+  occurs-prod a b [] ys h g = absurd h
+  occurs-prod a b (x ∷ xs) ys (inl e) g =
+      occurs-left {A = A × B} (a, b) (map (λ y. (x, y)) ys) (prod xs ys)
+      (subst (λ z. Occurs {A = A × B} (a, b) (map (λ y. (z, y)) ys)) e (occurs-map (λ (y : B). (a, y)) b ys g))
+  occurs-prod a b (x ∷ xs) ys (inr h) g = occurs-right {A = A × B} (a, b) (map (λ y. (x, y)) ys) (prod xs ys) (occurs-prod a b xs ys h g)

@@ -1,0 +1,4 @@
+pub mod Glushkov
+pub mod Tables
+pub mod Runs
+pub mod Chains

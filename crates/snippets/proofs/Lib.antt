@@ -1,0 +1,3 @@
+pub mod Skeletons
+pub mod Settles
+pub mod Counting

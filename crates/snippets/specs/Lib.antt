@@ -1,0 +1,2 @@
+pub mod Snippets
+pub mod Count

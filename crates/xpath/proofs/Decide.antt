@@ -1,0 +1,329 @@
+-- The meaning of a rule as a test that computes.
+use Prim.Native.Nat.{ℕ, zero, suc, _≤_, _<_}
+use mathlib.Core.Path.{_≡_, refl, subst}
+use mathlib.Core.Logic.{_⊎_, inl, inr, _↔_}
+use mathlib.Core.Bool.{Bool, true, false}
+use mathlib.Core.List.{List, [], _∷_}
+use native.Mathlib.Omega.{arith}
+use native.Mathlib.Decide.{ℕ-discrete}
+use lib.Dec.{T, ltb, eqb, ltb→lt, lt→ltb, eqb→eq, eqb-refl}
+use Rattle.xpath.specs.Syntax.{Op, eq, ne, lt, le, gt, ge, Test, named, not, and, or, compare, compareTo, XPath, empty, one, seq, union, star, Step, toLeft, toRight, fromLeft, fromRight, stay}
+use Rattle.xpath.specs.Tree.{Tree, Child, WellFormed}
+use Rattle.xpath.specs.Meaning.{Less, Rel, Many, none, more, Holds, Reaches, Moves}
+
+-- ── Tests ──
+abbrev pub both : Bool → Bool → Bool
+both true b = b
+both false b = false
+
+abbrev pub either : Bool → Bool → Bool
+either true b = true
+either false b = b
+
+abbrev pub neg : Bool → Bool
+neg true = false
+neg false = true
+
+pub T-both : (a b : Bool) → T (both a b) ↔ (T a × T b)
+T-both true b = (λ h. (tt, h), λ h. h .1)
+T-both false b = (λ h. absurd h, λ h. absurd (h .0))
+
+pub T-either : (a b : Bool) → T (either a b) ↔ (T a ⊎ T b)
+T-either true b = (λ h. inl tt, λ h. tt)
+T-either false b = (λ h. inr h, out)
+  where
+    out : ⊥ ⊎ T b → T b
+    out (inl h) = absurd h
+    out (inr h) = h
+
+pub T-neg : (a : Bool) → T (neg a) ↔ (¬ T a)
+T-neg true = (λ h. absurd h, λ f. f tt)
+T-neg false = (λ h f. f, λ f. tt)
+
+pub ⊎-iff : {A B C D : Type 0} → A ↔ C → B ↔ D → (A ⊎ B) ↔ (C ⊎ D)
+⊎-iff {A} {B} {C} {D} f g = (to, from)
+  where
+    to : A ⊎ B → C ⊎ D
+    to (inl a) = inl (f .0 a)
+    to (inr b) = inr (g .0 b)
+
+    from : C ⊎ D → A ⊎ B
+    from (inl c) = inl (f .1 c)
+    from (inr d) = inr (g .1 d)
+
+pub eqb-iff : (m n : ℕ) → T (eqb m n) ↔ (m ≡ n)
+eqb-iff m n = (eqb→eq m n, λ e. subst (λ x. T (eqb m x)) e (eqb-refl m))
+
+pub ltb-iff : (m n : ℕ) → T (ltb m n) ↔ (m < n)
+ltb-iff m n = (ltb→lt m n, lt→ltb m n)
+
+abbrev pub someBelow : ℕ → (ℕ → Bool) → Bool
+someBelow zero f = false
+someBelow (suc n) f = either (f n) (someBelow n f)
+
+some-step : (n : ℕ) (f : ℕ → Bool) → T (someBelow n f) ↔ ((i : ℕ) × (i < n) × T (f i)) → T (someBelow (suc n) f) ↔ ((i : ℕ) × (i < suc n) × T (f i))
+some-step n f ih = (λ h. to (T-either (f n) (someBelow n f) .0 h), λ h. from (h .0) (h .1) (h .2) (ℕ-discrete (h .0) n))
+  where
+    to : T (f n) ⊎ T (someBelow n f) → (i : ℕ) × (i < suc n) × T (f i)
+    to (inl h) = (n, (omega arith), h)
+    to (inr h) = let (i, r, g) = ih .0 h in (i, (omega arith), g)
+
+    from : (i : ℕ) → i < suc n → T (f i) → Dec (i ≡ n) → T (someBelow (suc n) f)
+    from i r h (yes e) = T-either (f n) (someBelow n f) .1 (inl (subst (λ x. T (f x)) e h))
+    from i r h (no g) = T-either (f n) (someBelow n f) .1 (inr (ih .1 (i, (omega arith), h)))
+
+pub some-iff : (n : ℕ) (f : ℕ → Bool) → T (someBelow n f) ↔ ((i : ℕ) × (i < n) × T (f i))
+some-iff zero f = (λ h. absurd h, λ h. let r = h .1 in absurd (omega arith))
+some-iff (suc n) f = some-step n f (some-iff n f)
+
+-- ── Strings ──
+abbrev pub sameb : List ℕ → List ℕ → Bool
+sameb [] [] = true
+sameb [] (y ∷ ys) = false
+sameb (x ∷ xs) [] = false
+sameb (x ∷ xs) (y ∷ ys) = both (eqb x y) (sameb xs ys)
+
+pub same-iff : (xs ys : List ℕ) → T (sameb xs ys) ↔ (xs ≡ ys)
+same-iff [] [] = (λ h. refl, λ e. tt)
+same-iff [] (y ∷ ys) = (λ h. absurd h, λ e. let z : _≡_ {A = ℕ} 0 1 = cc in absurd (omega arith))
+same-iff (x ∷ xs) [] = (λ h. absurd h, λ e. let z : _≡_ {A = ℕ} 0 1 = cc in absurd (omega arith))
+same-iff (x ∷ xs) (y ∷ ys) =
+    let ih = same-iff xs ys in (
+      λ h. let a = eqb→eq x y (T-both (eqb x y) (sameb xs ys) .0 h .0) in let b = ih .0 (T-both (eqb x y) (sameb xs ys) .0 h .1) in (cc),
+      λ e. T-both (eqb x y) (sameb xs ys) .1 (eqb-iff x y .1 (cc), ih .1 (cc)),
+    )
+
+abbrev pub lessb : List ℕ → List ℕ → Bool
+lessb [] [] = false
+lessb [] (y ∷ ys) = true
+lessb (x ∷ xs) [] = false
+lessb (x ∷ xs) (y ∷ ys) = either (ltb x y) (both (eqb x y) (lessb xs ys))
+
+pub ×-iff : {A B C D : Type 0} → A ↔ C → B ↔ D → (A × B) ↔ (C × D)
+×-iff f g = (λ h. (f .0 (h .0), g .0 (h .1)), λ h. (f .1 (h .0), g .1 (h .1)))
+
+pub trans : {A B C : Type 0} → A ↔ B → B ↔ C → A ↔ C
+trans f g = (λ a. g .0 (f .0 a), λ c. f .1 (g .1 c))
+
+pub same : {A : Type 0} → A ↔ A
+same = (λ a. a, λ a. a)
+
+less-iff : (xs ys : List ℕ) → T (lessb xs ys) ↔ Less xs ys
+less-iff [] [] = same
+less-iff [] (y ∷ ys) = same
+less-iff (x ∷ xs) [] = same
+less-iff (x ∷ xs) (y ∷ ys) =
+    trans (T-either (ltb x y) (both (eqb x y) (lessb xs ys)))
+    (⊎-iff (ltb-iff x y) (trans (T-both (eqb x y) (lessb xs ys)) (×-iff (eqb-iff x y) (less-iff xs ys))))
+
+abbrev pub relb : Op → List ℕ → List ℕ → Bool
+relb eq a b = sameb a b
+relb ne a b = neg (sameb a b)
+relb lt a b = lessb a b
+relb le a b = either (sameb a b) (lessb a b)
+relb gt a b = lessb b a
+relb ge a b = either (sameb a b) (lessb b a)
+
+pub ¬-iff : {A B : Type 0} → A ↔ B → (¬ A) ↔ (¬ B)
+¬-iff f = (λ g b. g (f .1 b), λ g a. g (f .0 a))
+
+rel-iff : (o : Op) (a b : List ℕ) → T (relb o a b) ↔ Rel o a b
+rel-iff eq a b = same-iff a b
+rel-iff ne a b = trans (T-neg (sameb a b)) (¬-iff (same-iff a b))
+rel-iff lt a b = less-iff a b
+rel-iff le a b = trans (T-either (sameb a b) (lessb a b)) (⊎-iff (same-iff a b) (less-iff a b))
+rel-iff gt a b = less-iff b a
+rel-iff ge a b = trans (T-either (sameb a b) (lessb b a)) (⊎-iff (same-iff a b) (less-iff b a))
+
+-- ── Zero or more times, over nodes below n (Warshall) ──
+abbrev pub close : ℕ → (ℕ → ℕ → Bool) → ℕ → ℕ → Bool
+close zero f a b = either (eqb a b) (f a b)
+close (suc k) f a b = either (close k f a b) (both (close k f a k) (close k f k b))
+
+module _ (f : ℕ → ℕ → Bool) where
+  abbrev Reach : ℕ → ℕ → ℕ → Type 0
+  Reach k a b = T (close k f a b)
+
+  abbrev Two : ℕ → ℕ → ℕ → Type 0
+  Two k a b = Reach k a b ⊎ (Reach k a k × Reach k k b)
+
+  two : (k a b : ℕ) → Reach (suc k) a b ↔ Two k a b
+  two k a b = trans (T-either (close k f a b) (both (close k f a k) (close k f k b))) (⊎-iff same (T-both (close k f a k) (close k f k b)))
+
+  fst-at : (k a : ℕ) → Two k a k → Reach k a k
+  fst-at k a (inl h) = h
+  fst-at k a (inr h) = h .0
+
+  snd-at : (k b : ℕ) → Two k k b → Reach k k b
+  snd-at k b (inl h) = h
+  snd-at k b (inr h) = h .1
+
+  join-step : (k : ℕ) → ((m a b : ℕ) → m < k → Reach k a m → Reach k m b → Reach k a b) → (m a b : ℕ) → m < suc k → Dec (m ≡ k) → Two k a m → Two k m b → Two k a b
+  join-step k ih m a b r (yes e) h g = inr (fst-at k a (subst (λ x. Two k a x) e h), snd-at k b (subst (λ x. Two k x b) e g))
+  join-step k ih m a b r (no n) (inl h) (inl g) = inl (ih m a b (omega arith) h g)
+  join-step k ih m a b r (no n) (inl h) (inr g) = inr (ih m a k (omega arith) h (g .0), g .1)
+  join-step k ih m a b r (no n) (inr h) (inl g) = inr (h .0, ih m k b (omega arith) (h .1) g)
+  join-step k ih m a b r (no n) (inr h) (inr g) = inr (h .0, g .1)
+
+  close-join : (k m a b : ℕ) → m < k → Reach k a m → Reach k m b → Reach k a b
+  close-join zero m a b r h g = absurd (omega arith)
+  close-join (suc k) m a b r h g = two k a b .1 (join-step k (close-join k) m a b r (ℕ-discrete m k) (two k a m .0 h) (two k m b .0 g))
+
+  close-up : (k a b : ℕ) → T (either (eqb a b) (f a b)) → Reach k a b
+  close-up zero a b h = h
+  close-up (suc k) a b h = two k a b .1 (inl (close-up k a b h))
+
+  module _ (n : ℕ) (R : ℕ → ℕ → Type 0) (iff : (a b : ℕ) → a < n → b < n → T (f a b) ↔ R a b) (stays : (a b : ℕ) → a < n → R a b → b < n) where
+    many-join : {a b c : ℕ} → Many R a b → Many R b c → Many R a c
+    many-join none h = h
+    many-join (more r g) h = more r (many-join g h)
+
+    close-many : (k : ℕ) → k ≤ n → (a b : ℕ) → a < n → b < n → Reach k a b → Many R a b
+    close-many zero l a b ra rb h = go (T-either (eqb a b) (f a b) .0 h)
+      where
+        go : T (eqb a b) ⊎ T (f a b) → Many R a b
+        go (inl e) = subst (λ x. Many R a x) (eqb→eq a b e) none
+        go (inr g) = more (iff a b ra rb .0 g) none
+    close-many (suc k) l a b ra rb h = go (λ x y rx ry g. close-many k (omega arith) x y rx ry g) (two k a b .0 h)
+      where
+        go : ((x y : ℕ) → x < n → y < n → Reach k x y → Many R x y) → Two k a b → Many R a b
+        go ih (inl g) = ih a b ra rb g
+        go ih (inr g) = many-join (ih a k ra (omega arith) (g .0)) (ih k b (omega arith) rb (g .1))
+
+    many-close : {a b : ℕ} → a < n → Many R a b → Reach n a b
+    many-close {a} ra none = close-up n a a (T-either (eqb a a) (f a a) .1 (inl (eqb-refl a)))
+    many-close {a} {b} ra (more {u = u} r h) =
+        let ru = stays a u ra r in
+        close-join n u a b ru (close-up n a u (T-either (eqb a u) (f a u) .1 (inr (iff a u ra ru .1 r)))) (many-close ru h)
+
+    close-iff : (a b : ℕ) → a < n → b < n → Reach n a b ↔ Many R a b
+    close-iff a b ra rb = (close-many n (omega arith) a b ra rb, many-close ra)
+
+-- ── The evaluator ──
+abbrev pub sideb : Bool → Bool → Bool
+sideb true b = b
+sideb false b = neg b
+
+pub side-iff : (a b : Bool) → T (sideb a b) ↔ (a ≡ b)
+side-iff true true = (λ h. refl, λ e. tt)
+side-iff true false = (λ h. absurd h, λ e. let z : _≡_ {A = ℕ} 0 1 = cc in absurd (omega arith))
+side-iff false true = (λ h. absurd h, λ e. let z : _≡_ {A = ℕ} 0 1 = cc in absurd (omega arith))
+side-iff false false = (λ h. refl, λ e. tt)
+
+abbrev pub childb : Tree → Bool → ℕ → ℕ → Bool
+childb t side v w = both (both (ltb 0 w) (ltb w (t .size))) (both (eqb (t .parent w) v) (sideb (t .isLeft w) side))
+
+child-iff : (t : Tree) (side : Bool) (v w : ℕ) → T (childb t side v w) ↔ Child t side v w
+child-iff t side v w = trans parts (λ h. record { inner = h .0 .0; inside = h .0 .1; above = h .1 .0; which = h .1 .1 }, λ c. ((c .inner, c .inside), (c .above, c .which)))
+  where
+    parts : T (childb t side v w) ↔ (((0 < w) × (w < t .size)) × ((t .parent w ≡ v) × (t .isLeft w ≡ side)))
+    parts =
+        trans (T-both (both (ltb 0 w) (ltb w (t .size))) (both (eqb (t .parent w) v) (sideb (t .isLeft w) side)))
+        (×-iff (trans (T-both (ltb 0 w) (ltb w (t .size))) (×-iff (ltb-iff 0 w) (ltb-iff w (t .size))))
+        (trans (T-both (eqb (t .parent w) v) (sideb (t .isLeft w) side)) (×-iff (eqb-iff (t .parent w) v) (side-iff (t .isLeft w) side))))
+
+abbrev mutual
+  pub holdsb : Tree → Test → ℕ → Bool
+  holdsb t (named n) v = sameb (t .label v) n
+  holdsb t (not U) v = neg (holdsb t U v)
+  holdsb t (and U W) v = both (holdsb t U v) (holdsb t W v)
+  holdsb t (or U W) v = either (holdsb t U v) (holdsb t W v)
+  holdsb t (compare o P Q) v =
+      someBelow (t .size) (λ w. both (reachb t P v w) (someBelow (t .size) (λ u. both (reachb t Q v u) (relb o (t .value w) (t .value u)))))
+  holdsb t (compareTo o P c) v = someBelow (t .size) (λ w. both (reachb t P v w) (relb o (t .value w) c))
+
+  pub reachb : Tree → XPath → ℕ → ℕ → Bool
+  reachb t empty v w = eqb v w
+  reachb t (one s) v w = moveb t s v w
+  reachb t (seq P Q) v w = someBelow (t .size) (λ u. both (reachb t P v u) (reachb t Q u w))
+  reachb t (union P Q) v w = either (reachb t P v w) (reachb t Q v w)
+  reachb t (star P) v w = close (t .size) (λ a b. reachb t P a b) v w
+
+  pub moveb : Tree → Step → ℕ → ℕ → Bool
+  moveb t toLeft v w = childb t true v w
+  moveb t toRight v w = childb t false v w
+  moveb t fromLeft v w = childb t true w v
+  moveb t fromRight v w = childb t false w v
+  moveb t (stay U) v w = both (eqb v w) (holdsb t U v)
+
+module _ (t : Tree) (wf : WellFormed t) where
+  up-inside : (side : Bool) (v w : ℕ) → Child t side w v → w < t .size
+  up-inside side v w c = let h = wf .upwards v (c .inner) (c .inside) in let e = c .above in let r = c .inside in omega arith
+
+  moves-inside : (s : Step) (v w : ℕ) → v < t .size → Moves t s v w → w < t .size
+  moves-inside toLeft v w r m = m .inside
+  moves-inside toRight v w r m = m .inside
+  moves-inside fromLeft v w r m = up-inside true v w m
+  moves-inside fromRight v w r m = up-inside false v w m
+  moves-inside (stay U) v w r m = let e = m .0 in omega arith
+
+  many-inside : (R : ℕ → ℕ → Type 0) → ((a b : ℕ) → a < t .size → R a b → b < t .size) → (v w : ℕ) → v < t .size → Many R v w → w < t .size
+  many-inside R f v w r none = r
+  many-inside R f v w r (more {u = u} h k) = many-inside R f u w (f v u r h) k
+
+  pub reaches-inside : (P : XPath) (v w : ℕ) → v < t .size → Reaches t P v w → w < t .size
+  reaches-inside empty v w r e = omega arith
+  reaches-inside (one s) v w r m = moves-inside s v w r m
+  reaches-inside (seq P Q) v w r (u, h, g) = reaches-inside Q u w (reaches-inside P v u r h) g
+  reaches-inside (union P Q) v w r (inl h) = reaches-inside P v w r h
+  reaches-inside (union P Q) v w r (inr h) = reaches-inside Q v w r h
+  reaches-inside (star P) v w r h = many-inside (λ a b. Reaches t P a b) (λ a b x y. reaches-inside P a b x y) v w r h
+
+  -- some node below the size, told by a test
+  some-node : (f : ℕ → Bool) (A : ℕ → Type 0) → ((u : ℕ) → u < t .size → T (f u) ↔ A u) → ((u : ℕ) → A u → u < t .size) → T (someBelow (t .size) f) ↔ ((u : ℕ) × A u)
+  some-node f A iff stays =
+      trans (some-iff (t .size) f) (λ h. (h .0, iff (h .0) (h .1) .0 (h .2)), λ h. (h .0, stays (h .0) (h .1), iff (h .0) (stays (h .0) (h .1)) .1 (h .1)))
+
+  flat : {A B : ℕ → Type 0} → ((u : ℕ) × (A u × B u)) ↔ ((u : ℕ) × A u × B u)
+  flat = (λ h. (h .0, h .1 .0, h .1 .1), λ h. (h .0, (h .1, h .2)))
+
+  two-nodes : (f g : ℕ → Bool) (A B : ℕ → Type 0) (r : ℕ → ℕ → Bool) (S : ℕ → ℕ → Type 0)
+      → ((u : ℕ) → u < t .size → T (f u) ↔ A u) → ((u : ℕ) → A u → u < t .size)
+      → ((u : ℕ) → u < t .size → T (g u) ↔ B u) → ((u : ℕ) → B u → u < t .size)
+      → ((w u : ℕ) → T (r w u) ↔ S w u)
+      → T (someBelow (t .size) (λ w. both (f w) (someBelow (t .size) (λ u. both (g u) (r w u))))) ↔ ((w u : ℕ) × A w × B u × S w u)
+  two-nodes f g A B r S fi fs gi gs ri =
+      trans
+      (some-node (λ w. both (f w) (someBelow (t .size) (λ u. both (g u) (r w u)))) (λ w. A w × ((u : ℕ) × (B u × S w u)))
+      (λ w x. trans (T-both (f w) (someBelow (t .size) (λ u. both (g u) (r w u))))
+      (×-iff (fi w x) (some-node (λ u. both (g u) (r w u)) (λ u. B u × S w u) (λ u y. trans (T-both (g u) (r w u)) (×-iff (gi u y) (ri w u))) (λ u h. gs u (h .0)))))
+      (λ w h. fs w (h .0)))
+      (λ h. (h .0, h .1 .1 .0, h .1 .0, h .1 .1 .1 .0, h .1 .1 .1 .1), λ h. (h .0, (h .2, (h .1, (h .3, h .4)))))
+
+  mutual
+    pub holds-iff : (U : Test) (v : ℕ) → v < t .size → T (holdsb t U v) ↔ Holds t U v
+    holds-iff (named n) v r = same-iff (t .label v) n
+    holds-iff (not U) v r = trans (T-neg (holdsb t U v)) (¬-iff (holds-iff U v r))
+    holds-iff (and U W) v r = trans (T-both (holdsb t U v) (holdsb t W v)) (×-iff (holds-iff U v r) (holds-iff W v r))
+    holds-iff (or U W) v r = trans (T-either (holdsb t U v) (holdsb t W v)) (⊎-iff (holds-iff U v r) (holds-iff W v r))
+    holds-iff (compare o P Q) v r =
+        two-nodes (λ w. reachb t P v w) (λ u. reachb t Q v u) (λ w. Reaches t P v w) (λ u. Reaches t Q v u)
+        (λ w u. relb o (t .value w) (t .value u)) (λ w u. Rel o (t .value w) (t .value u))
+        (λ w x. reach-iff P v w r x) (λ w h. reaches-inside P v w r h) (λ u x. reach-iff Q v u r x) (λ u h. reaches-inside Q v u r h)
+        (λ w u. rel-iff o (t .value w) (t .value u))
+    holds-iff (compareTo o P c) v r =
+        trans
+        (some-node (λ w. both (reachb t P v w) (relb o (t .value w) c)) (λ w. Reaches t P v w × Rel o (t .value w) c)
+        (λ w x. trans (T-both (reachb t P v w) (relb o (t .value w) c)) (×-iff (reach-iff P v w r x) (rel-iff o (t .value w) c)))
+        (λ w h. reaches-inside P v w r (h .0)))
+        flat
+
+    pub reach-iff : (P : XPath) (v w : ℕ) → v < t .size → w < t .size → T (reachb t P v w) ↔ Reaches t P v w
+    reach-iff empty v w r x = eqb-iff v w
+    reach-iff (one s) v w r x = move-iff s v w r x
+    reach-iff (seq P Q) v w r x =
+        trans
+        (some-node (λ u. both (reachb t P v u) (reachb t Q u w)) (λ u. Reaches t P v u × Reaches t Q u w)
+        (λ u y. trans (T-both (reachb t P v u) (reachb t Q u w)) (×-iff (reach-iff P v u r y) (reach-iff Q u w y x)))
+        (λ u h. reaches-inside P v u r (h .0)))
+        flat
+    reach-iff (union P Q) v w r x = trans (T-either (reachb t P v w) (reachb t Q v w)) (⊎-iff (reach-iff P v w r x) (reach-iff Q v w r x))
+    reach-iff (star P) v w r x =
+        close-iff (λ a b. reachb t P a b) (t .size) (λ a b. Reaches t P a b) (λ a b y z. reach-iff P a b y z) (λ a b y h. reaches-inside P a b y h) v w r x
+
+    pub move-iff : (s : Step) (v w : ℕ) → v < t .size → w < t .size → T (moveb t s v w) ↔ Moves t s v w
+    move-iff toLeft v w r x = child-iff t true v w
+    move-iff toRight v w r x = child-iff t false v w
+    move-iff fromLeft v w r x = child-iff t true w v
+    move-iff fromRight v w r x = child-iff t false w v
+    move-iff (stay U) v w r x = trans (T-both (eqb v w) (holdsb t U v)) (×-iff (eqb-iff v w) (holds-iff U v r))

@@ -1,0 +1,3 @@
+pub mod Syntax
+pub mod Tree
+pub mod Meaning
