@@ -1,2 +1,15 @@
 pub mod Binary
 pub mod Intervals
+pub mod Lines
+pub mod Spelling
+pub mod Cursor
+pub mod Reading
+pub mod Fields
+pub mod Grounds
+pub mod Good
+pub mod Rules
+pub mod Forms
+pub mod Accepted
+pub mod Verdict
+pub mod Legality
+pub mod Examples

@@ -1,3 +1,4 @@
 pub mod Library
 pub mod Binary
 pub mod Verdict
+pub mod Example

@@ -48,10 +48,6 @@ module _ (P R : XPath) where
   abbrev pub StartOf : ℕ → ℕ → Type 0
   StartOf p s = ((p ≤ size P) × (s ≡ 0)) ⊎ ((size P < p) × (s ≡ second))
 
-  -- p and q belong to different paths
-  abbrev pub Different : ℕ → ℕ → Type 0
-  Different p q = ((p ≤ size P) × (size P < q)) ⊎ ((size P < p) × (q ≤ size P))
-
   module _ (t : Tree) where
     -- i at v comes to j at w: a chain of following positions, possibly none, leads from v to w with every test on the way holding
     pub data Comes : ℕ → ℕ → ℕ → ℕ → Type 0 where

@@ -14,10 +14,10 @@ use Rattle.lists.proofs.Lists.{pigeon, number-one, occurs-left, occurs-right, r
 use Rattle.lists.proofs.Numerals.{binary-above}
 use Rattle.xpath.specs.Syntax.{XPath, Test, size}
 use Rattle.xpath.specs.Tree.{Tree, WellFormed, Down}
-use Rattle.positions.specs.Positions.{second, Follows, IsLast, Comes, Different}
+use Rattle.positions.specs.Positions.{second, Follows, IsLast, Comes}
 use Rattle.positions.proofs.Glushkov.{next-in, stops-in}
 use Rattle.positions.proofs.Chains.{RightAfter, AtEnd, follows-iff, last-iff}
-use Rattle.snippets.specs.Snippets.{Yielded, SettledBy}
+use Rattle.snippets.specs.Snippets.{Different, Yielded, SettledBy}
 use Rattle.snippets.specs.Count.{Snippet, Pair, IsSnippet, Sized, Counted, SnippetCount, comparisons}
 use Rattle.xpath.proofs.Trees.{down-le, down-zero, ancestors}
 use Rattle.snippets.proofs.Settles.{sound, yielded-down, settles}

@@ -10,8 +10,8 @@ use lib.Pow.{pow-pos}
 use Rattle.xpath.specs.Syntax.{XPath, Step, toLeft, toRight, fromLeft, fromRight, stay, compare, eq, size}
 use Rattle.xpath.specs.Tree.{Tree, Child, WellFormed, Down, Under}
 use Rattle.xpath.specs.Meaning.{Holds, Moves}
-use Rattle.positions.specs.Positions.{IsLast, Comes, Ends, second, StartOf, Different}
-use Rattle.snippets.specs.Snippets.{Closest, Has, Skeleton, Edge, First, Yielded, upper, lower, upperHalf, lowerHalf, Settled}
+use Rattle.positions.specs.Positions.{IsLast, Comes, Ends, second, StartOf}
+use Rattle.snippets.specs.Snippets.{Different, Closest, Has, Skeleton, Edge, First, Yielded, upper, lower, upperHalf, lowerHalf, Settled}
 use Rattle.positions.proofs.Chains.{first-ends, second-ends, first-stays, second-stays}
 use Rattle.xpath.proofs.Trees.{child-after, down-le, down-split, down-zero, ancestors, under-trans, under-le, under-antisym, under-up, under-child, towards, dec-under}
 use Rattle.snippets.proofs.Skeletons.{closest, lowest}

@@ -3,9 +3,13 @@ use Prim.Native.Nat.{ℕ, suc, _^_, _≤_, _<_}
 use mathlib.Core.Path.{_≡_}
 use mathlib.Core.Logic.{_⊎_, _≢_}
 use mathlib.Core.List.{List}
-use Rattle.xpath.specs.Syntax.{XPath}
+use Rattle.xpath.specs.Syntax.{XPath, size}
 use Rattle.xpath.specs.Tree.{Tree, Down, Under}
-use Rattle.positions.specs.Positions.{second, StartOf, Different, Comes, Ends}
+use Rattle.positions.specs.Positions.{second, StartOf, Comes, Ends}
+
+-- p and q belong to different paths
+abbrev pub Different : XPath → XPath → ℕ → ℕ → Type 0
+Different P R p q = ((p ≤ size P) × (size P < q)) ⊎ ((size P < p) × (q ≤ size P))
 
 module _ (t : Tree) where
   -- x is the closest common ancestor of u and w (a node is its own, with itself)

@@ -1,0 +1,90 @@
+//! The meaning of tests and paths (document 000, 1.2.2): a test is a set of
+//! nodes, a path is a relation over nodes.
+
+use crate::relation::Relation;
+use crate::rule::{Operand, Path, Sign, Test};
+use crate::tree::Tree;
+
+/// For each node whether the test holds there.
+pub fn holds(tree: &Tree, test: &Test) -> Vec<bool> {
+    let at_each = |condition: &dyn Fn(usize) -> bool| -> Vec<bool> {
+        (0..tree.size()).map(condition).collect()
+    };
+    match test {
+        // "`:name` if v has that label"
+        Test::Name(name) => at_each(&|v| tree.labels[v] == *name),
+        // "`!` if T fails at v"
+        Test::Not(inner) => {
+            let inner = holds(tree, inner);
+            at_each(&|v| !inner[v])
+        }
+        // "`&` if both hold"
+        Test::And(a, b) => {
+            let (a, b) = (holds(tree, a), holds(tree, b));
+            at_each(&|v| a[v] && b[v])
+        }
+        // "`|` if at least one does"
+        Test::Or(a, b) => {
+            let (a, b) = (holds(tree, a), holds(tree, b));
+            at_each(&|v| a[v] || b[v])
+        }
+        // "A comparison holds at v if some node reached by the first path and
+        // some node reached by the second (or c) have values in that relation."
+        Test::Compare(p, sign, operand) => {
+            let first = reached_values(tree, p);
+            let second = match operand {
+                Operand::Path(r) => reached_values(tree, r),
+                Operand::Constant(c) => vec![vec![c.as_slice()]; tree.size()],
+            };
+            let related = |a: &[u8], v: usize| second[v].iter().any(|b| compare(*sign, a, b));
+            at_each(&|v| first[v].iter().any(|a| related(a, v)))
+        }
+    }
+}
+
+/// For each node the values of all nodes that a path reaches from it.
+fn reached_values<'a>(tree: &'a Tree, path: &Path) -> Vec<Vec<&'a [u8]>> {
+    let reached = reaches(tree, path);
+    let value = |w: usize| tree.values[w].as_slice();
+    (0..tree.size())
+        .map(|v| reached.from(v).into_iter().map(value).collect())
+        .collect()
+}
+
+/// The pairs of nodes from and to which a path leads.
+pub fn reaches(tree: &Tree, path: &Path) -> Relation {
+    let pairs =
+        |condition: &dyn Fn(usize, usize) -> bool| Relation::where_holds(tree.size(), condition);
+    match path {
+        // "`e` the empty path"
+        Path::Empty => pairs(&|v, w| v == w),
+        // "`l`, `r` to the left or right child"
+        Path::Left => pairs(&|v, w| tree.left[v] == Some(w)),
+        Path::Right => pairs(&|v, w| tree.right[v] == Some(w)),
+        // "`L`, `R` from a left or right child to its parent"
+        Path::FromLeft => pairs(&|v, w| tree.left[w] == Some(v)),
+        Path::FromRight => pairs(&|v, w| tree.right[w] == Some(v)),
+        // "`[T]` stay where T holds"
+        Path::Stay(test) => {
+            let test = holds(tree, test);
+            pairs(&|v, w| v == w && test[v])
+        }
+        // "`.PP` one after the other; `+PP` either; `*P` zero or more times"
+        Path::Then(a, b) => reaches(tree, a).then(&reaches(tree, b)),
+        Path::Either(a, b) => reaches(tree, a).union(&reaches(tree, b)),
+        Path::Repeat(inner) => reaches(tree, inner).repeated(),
+    }
+}
+
+/// "Strings compare by unsigned bytes, a proper prefix being smaller." That is
+/// the order of byte slices.
+pub fn compare(sign: Sign, a: &[u8], b: &[u8]) -> bool {
+    match sign {
+        Sign::Equal => a == b,
+        Sign::Unequal => a != b,
+        Sign::Less => a < b,
+        Sign::LessOrEqual => a <= b,
+        Sign::Greater => a > b,
+        Sign::GreaterOrEqual => a >= b,
+    }
+}

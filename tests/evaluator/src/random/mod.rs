@@ -1,0 +1,52 @@
+//! Random libraries, rules and damage, all drawn from one printed seed.
+
+mod damage;
+mod library;
+mod rule;
+
+pub use damage::{damage_document, damage_rule};
+pub use library::library;
+pub use rule::rule;
+
+/// The splitmix64 generator.
+pub struct Random(u64);
+
+impl Random {
+    pub fn new(seed: u64) -> Random {
+        Random(seed)
+    }
+
+    fn next(&mut self) -> u64 {
+        self.0 = self.0.wrapping_add(0x9E37_79B9_7F4A_7C15);
+        let mut z = self.0;
+        z = (z ^ (z >> 30)).wrapping_mul(0xBF58_476D_1CE4_E5B9);
+        z = (z ^ (z >> 27)).wrapping_mul(0x94D0_49BB_1331_11EB);
+        z ^ (z >> 31)
+    }
+
+    /// A number below the given one.
+    pub fn below(&mut self, bound: usize) -> usize {
+        (self.next() % bound as u64) as usize
+    }
+
+    /// True in so many cases of a hundred.
+    pub fn percent(&mut self, cases: usize) -> bool {
+        self.below(100) < cases
+    }
+
+    pub fn pick<'a, T>(&mut self, items: &'a [T]) -> &'a T {
+        &items[self.below(items.len())]
+    }
+}
+
+/// Names and values that libraries and rules share, so that rules hit.
+const NAMES: [&str; 5] = ["lib", "drug", "name", "text", "max-dose-rate-16"];
+const VALUES: [&str; 6] = ["", "a", "heparin", "ab", "b", "~ !"];
+
+/// Up to so many bytes from 0x20 to 0x7E.
+fn printable(random: &mut Random, longest: usize) -> Vec<u8> {
+    let length = random.below(longest + 1);
+    (0..length)
+        .map(|_| 0x20 + random.below(0x5F) as u8)
+        .collect()
+}

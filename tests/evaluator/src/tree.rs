@@ -1,0 +1,79 @@
+//! The binary tree of a library, with labels and string values.
+
+use crate::document::{Kind, Library};
+
+/// "The tree is binary: the left child is the first child in the document,
+/// attributes included; the right child is the next sibling."
+pub struct Tree {
+    pub left: Vec<Option<usize>>,
+    pub right: Vec<Option<usize>>,
+    pub labels: Vec<Vec<u8>>,
+    /// The string value of each node.
+    pub values: Vec<Vec<u8>>,
+    /// For each node the way up from it.
+    upward: Vec<Vec<usize>>,
+}
+
+impl Tree {
+    pub fn of(library: &Library) -> Tree {
+        let nodes = 0..library.nodes.len();
+        let mut tree = Tree {
+            left: nodes.clone().map(|v| first_child(library, v)).collect(),
+            right: nodes.clone().map(|v| next_sibling(library, v)).collect(),
+            labels: library.nodes.iter().map(|n| n.label.clone()).collect(),
+            values: nodes.clone().map(|v| string_value(library, v)).collect(),
+            upward: Vec::new(),
+        };
+        tree.upward = nodes.map(|v| way_up(&tree, v)).collect();
+        tree
+    }
+
+    /// The number of nodes, N.
+    pub fn size(&self) -> usize {
+        self.labels.len()
+    }
+
+    /// The node itself, its parent, that one's parent, and so on to the root.
+    /// "Parent, ancestor and below are meant in this binary tree".
+    pub fn upward(&self, node: usize) -> &[usize] {
+        &self.upward[node]
+    }
+}
+
+fn way_up(tree: &Tree, node: usize) -> Vec<usize> {
+    let parent = |child: &usize| {
+        let is_child = |v: &usize| tree.left[*v] == Some(*child) || tree.right[*v] == Some(*child);
+        (0..tree.size()).find(is_child)
+    };
+    std::iter::successors(Some(node), parent).collect()
+}
+
+/// The nodes inside an element in the document: those directly behind it as
+/// long as they are deeper.
+fn inside(library: &Library, node: usize) -> impl Iterator<Item = usize> + '_ {
+    let depth = library.nodes[node].depth;
+    (node + 1..library.nodes.len()).take_while(move |w| library.nodes[*w].depth > depth)
+}
+
+fn first_child(library: &Library, node: usize) -> Option<usize> {
+    inside(library, node).next()
+}
+
+/// The node behind everything inside this one, if it has the same depth.
+fn next_sibling(library: &Library, node: usize) -> Option<usize> {
+    let next = node + inside(library, node).count() + 1;
+    let same = library.nodes.get(next)?.depth == library.nodes[node].depth;
+    same.then_some(next)
+}
+
+/// "The string value of text or an attribute is its V. An element's is all
+/// text V inside it in the document, joined in order, without attributes".
+fn string_value(library: &Library, node: usize) -> Vec<u8> {
+    if library.nodes[node].kind != Kind::Element {
+        return library.nodes[node].value.clone();
+    }
+    inside(library, node)
+        .filter(|w| library.nodes[*w].kind == Kind::Text)
+        .flat_map(|w| library.nodes[w].value.clone())
+        .collect()
+}

@@ -1,0 +1,72 @@
+//! The two evaluations as calls: buffers, and the order of all the checks.
+
+use crate::samples::{balanced, flat, steps, X};
+use evaluator::evaluate::{evaluate, needed_words, Evaluation, Outcome};
+
+const KINDS: [Evaluation; 2] = [Evaluation::Plain, Evaluation::Snippets];
+
+fn assert_refused(document: &[u8], rule: &str, words: usize, marks: usize, due: (u32, usize)) {
+    for kind in KINDS {
+        let (outcome, handed_back) = evaluate(document, rule.as_bytes(), words, marks, kind);
+        let refused = Outcome {
+            number: due.0,
+            place: due.1,
+            selected: 0,
+            snippets: 0,
+        };
+        assert_eq!(outcome, refused, "rule {rule}");
+        assert_eq!(handed_back, None);
+    }
+}
+
+#[test]
+fn the_plain_evaluation_reports_no_snippets() {
+    let run = |kind| evaluate(X.as_bytes(), b"(e=e)", usize::MAX, usize::MAX, kind);
+    let (plain, plain_marks) = run(Evaluation::Plain);
+    let (snippets, snippet_marks) = run(Evaluation::Snippets);
+    assert_eq!((plain.selected, plain.snippets), (5, 0));
+    assert_eq!((snippets.selected, snippets.snippets), (5, 4));
+    assert_eq!(plain_marks, Some(vec![1; 5]));
+    assert_eq!(snippet_marks, plain_marks);
+}
+
+#[test]
+fn scratch_too_short_is_10_and_too_few_marks_11() {
+    for nodes in [1, 2, 3, 4, 63, 64, 4_096] {
+        let document = flat(nodes);
+        let words = needed_words(nodes);
+        assert_refused(&document, ":a", words - 1, nodes, (10, 0));
+        assert_refused(&document, ":a", 0, 0, (10, 0));
+        assert_refused(&document, ":a", words - 1, nodes - 1, (10, 0));
+        assert_refused(&document, ":a", words, nodes - 1, (11, 0));
+        assert_refused(&document, ":a", words, 0, (11, 0));
+    }
+    for nodes in [1, 2, 7, 8, 63, 64] {
+        for kind in KINDS {
+            let words = needed_words(nodes);
+            let (outcome, marks) = evaluate(&flat(nodes), b":text", words, nodes, kind);
+            assert_eq!((outcome.number, outcome.selected), (0, nodes - 1));
+            assert_eq!(marks.map(|marks| marks.len()), Some(nodes));
+        }
+    }
+}
+
+#[test]
+fn the_document_is_judged_before_the_rule_and_the_buffers() {
+    assert_refused(b"", "", 0, 0, (2, 1));
+    assert_refused(&vec![b'x'; 1_048_577], &"x".repeat(2_000), 0, 0, (1, 0));
+    assert_refused(b"nodes=0\n", "x", 0, 0, (3, 1));
+    assert_refused(b"nodes=1\ndepth=1\n", "x", 0, 0, (4, 2));
+}
+
+#[test]
+fn the_rule_is_judged_before_the_buffers() {
+    let document = X.as_bytes();
+    assert_refused(document, &"x".repeat(1_025), 0, 0, (5, 0));
+    assert_refused(document, "", 0, 0, (6, 0));
+    assert_refused(document, ":a!", 0, 0, (6, 2));
+    assert_refused(document, &("!".repeat(32) + ":a"), 0, 0, (7, 32));
+    let many = balanced(33);
+    assert_refused(document, &many, 0, 0, (8, many.len() - 2));
+    assert_refused(document, &format!("({}=e)", steps(15)), 0, 0, (9, 0));
+}
