@@ -3,8 +3,10 @@ use Prim.Native.Nat.{ℕ, _≤_}
 use mathlib.Core.Logic.{_≢_}
 use mathlib.Core.List.{List, _++_}
 use lib.ListN.{length}
+use Rattle.limits.specs.Limits.{constantBytes}
 use Rattle.lists.specs.Lists.{All}
-use Rattle.lists.specs.Text.{bytes, Printable, Name}
+use Rattle.lists.specs.Text.{bytes, Printable}
+use Rattle.limits.specs.Names.{Name}
 use Rattle.xpath.specs.Syntax.{Op, eq, ne, lt, le, gt, ge, Test, named, not, and, or, compare, compareTo, XPath, empty, one, seq, union, star, Step, toLeft, toRight, fromLeft, fromRight, stay}
 
 -- o is one of = != < <= > >=
@@ -41,7 +43,7 @@ unfoldable mutual
 
 -- c is 0 to 32 bytes from 0x20 to 0x7E without the double quote
 unfoldable pub Constant : List ℕ → Type 0
-Constant c = All (λ b. Printable b × (b ≢ 34)) c × (length c ≤ 32)
+Constant c = All (λ b. Printable b × (b ≢ 34)) c × (length c ≤ constantBytes)
 
 -- every name is spelled as S and every constant as c
 unfoldable mutual

@@ -3,6 +3,7 @@ use Prim.Native.Nat.{ℕ, suc, _≤_, _<_}
 use mathlib.Core.Path.{_≡_}
 use mathlib.Core.List.{List, _∷_, _++_}
 use lib.ListN.{length, take}
+use Rattle.limits.specs.Limits.{ruleBytes, ruleNesting, ruleTests, comparisonSteps}
 use Rattle.lists.specs.Lists.{Occurs}
 use Rattle.refusals.specs.Refusals.{Refusal, ruleLength, unreadable, nesting}
 use Rattle.refusals.specs.Refusals as Refusals
@@ -10,22 +11,9 @@ use Rattle.xpath.specs.Syntax.{Test}
 use Rattle.grammar.specs.Spelling.{spellTest, LegalTest}
 use Rattle.grammar.specs.Parts.{Part, comparison, parts, tests}
 
--- 01: a rule has at most 1,024 bytes and 64 tests; 32 is the most nesting; a comparison has at most 14 steps
-abbrev pub maxBytes : ℕ
-maxBytes = 1024
-
-abbrev pub maxNesting : ℕ
-maxNesting = 32
-
-abbrev pub maxTests : ℕ
-maxTests = 64
-
-abbrev pub maxSteps : ℕ
-maxSteps = 14
-
 -- p is a comparison above 14 steps
 abbrev pub Heavy : Part → Type 0
-Heavy p = (m : ℕ) × (p .sort ≡ comparison m) × (maxSteps < m)
+Heavy p = (m : ℕ) × (p .sort ≡ comparison m) × (comparisonSteps < m)
 
 module _ (s : List ℕ) where
   -- the rule reads as T
@@ -60,8 +48,8 @@ module _ (s : List ℕ) where
     pub part : Part
     pub isPart : IsPart part
     pub here : part .offset ≡ o
-    pub deep : part .nesting ≡ suc maxNesting
-    pub first : (p : Part) → IsPart p → p .nesting ≡ suc maxNesting → o ≤ p .offset
+    pub deep : part .nesting ≡ suc ruleNesting
+    pub first : (p : Part) → IsPart p → p .nesting ≡ suc ruleNesting → o ≤ p .offset
 
   -- number 8: the first byte of the 65th test
   pub record ManyTests (o : ℕ) : Type 0 where
@@ -71,7 +59,7 @@ module _ (s : List ℕ) where
     pub part : Part
     pub after : List Part
     pub split : tests (parts rule) ≡ before ++ part ∷ after
-    pub full : length before ≡ maxTests
+    pub full : length before ≡ ruleTests
     pub here : part .offset ≡ o
 
   -- number 9: the opening bracket of the first comparison above 14 steps
@@ -86,7 +74,7 @@ module _ (s : List ℕ) where
 
   -- the grounds that judge a rule
   pub data RuleGround : Refusal → Type 0 where
-    long : maxBytes < length s → RuleGround ruleLength
+    long : ruleBytes < length s → RuleGround ruleLength
     unread : {k : ℕ} → Unreadable k → RuleGround (unreadable k)
     deep : {o : ℕ} → TooDeep o → RuleGround (nesting o)
     crowded : {o : ℕ} → ManyTests o → RuleGround (Refusals.tests o)
@@ -95,7 +83,7 @@ module _ (s : List ℕ) where
   -- the rule reads as T, within the limits
   pub record Accepts (T : Test) : Type 0 where
     pub reads : Reads T
-    pub short : length s ≤ maxBytes
-    pub shallow : (p : Part) → Occurs p (parts T) → p .nesting ≤ maxNesting
-    pub few : length (tests (parts T)) ≤ maxTests
+    pub short : length s ≤ ruleBytes
+    pub shallow : (p : Part) → Occurs p (parts T) → p .nesting ≤ ruleNesting
+    pub few : length (tests (parts T)) ≤ ruleTests
     pub light : (p : Part) → Occurs p (parts T) → ¬ Heavy p

@@ -4,7 +4,8 @@ use mathlib.Core.Path.{_≡_, refl, sym, ap, _∙_}
 use mathlib.Core.List.{List, [], _∷_, _++_, append-nil, append-assoc}
 use native.Mathlib.Omega.{arith}
 use lib.ListN.{length}
-use Rattle.library.specs.Library.{Node, at, maxBytes, Legal, nodesLine, nodeLines, spell}
+use Rattle.limits.specs.Limits.{documentBytes}
+use Rattle.library.specs.Library.{Node, at, Legal, nodesLine, nodeLines, spell}
 use Rattle.library.specs.Verdict.{behindLines, line, Accepts}
 use Rattle.library.proofs.Lines.{line-none}
 use Rattle.library.proofs.Reading.{NodeIs, Reads, Writable, reads-one, reads-text, text-reads}
@@ -101,7 +102,7 @@ pub accepts-one : (s : List ℕ) (ns ms : List Node) → Accepts s ns → Accept
 accepts-one s ns ms a b = spell-injective ns ms (a .legal) (b .legal) (sym (a .spelled) ∙ b .spelled)
 
 -- lines that say a legal library are good
-pub reads-good : (s : List ℕ) (ns : List Node) → length s ≤ maxBytes → Legal ns → Reads s (length ns) ns → Good s (length ns) (4 * length ns + 1)
+pub reads-good : (s : List ℕ) (ns : List Node) → length s ≤ documentBytes → Legal ns → Reads s (length ns) ns → Good s (length ns) (4 * length ns + 1)
 reads-good s ns short legal r = record {
   short = short;
   count = r .count;

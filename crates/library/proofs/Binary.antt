@@ -9,9 +9,10 @@ use lib.Dec.{eqb}
 use native.Mathlib.Nat.{eq-or-lt-of-le}
 use native.Mathlib.Omega.{arith}
 use borrow.Author.Tests.{ltb-true, ltb-false, eqb-true, eqb-false, lt-ltb, le-ltb}
+use Rattle.limits.specs.Limits.{documentNodes}
 use Rattle.xpath.specs.Tree.{Child, WellFormed}
 use Rattle.xpath.proofs.Trees.{parent-of}
-use Rattle.library.specs.Library.{Node, at, Legal, maxNodes}
+use Rattle.library.specs.Library.{Node, at, Legal}
 use Rattle.library.specs.Binary.{pick, back, isFirst, treeOf}
 
 -- what holds at v and before it holds up to v; what holds at v and behind it holds from v on
@@ -132,5 +133,5 @@ module _ {ns : List Node} (ok : Legal ns) where
   depth-le zero l = let e = ok .top in omega arith
   depth-le (suc v) l = let h = ok .depths v l .1 in let k = depth-le v (omega arith) in omega arith
 
-  pub depth-small : (v : ℕ) → v < length ns → deep ns v < maxNodes
+  pub depth-small : (v : ℕ) → v < length ns → deep ns v < documentNodes
   depth-small v l = let h = depth-le v l in let k = ok .few in omega arith

@@ -3,7 +3,7 @@ use Prim.Native.Nat.{ℕ, suc, _+_, _*_, _<_}
 use mathlib.Core.Path.{_≡_, ap, _∙_}
 use mathlib.Core.List.{List, _++_}
 use native.Mathlib.Omega.{arith}
-use Rattle.lists.specs.Text.{Name}
+use Rattle.limits.specs.Names.{Name}
 use Rattle.library.specs.Library.{Kind, Value, nodesLine, depthLine, kindLine, labelLine, valueLine}
 use Rattle.library.specs.Verdict.{behindLines, CountIs, DepthIs, KindIs, LabelIs, ValueIs}
 use Rattle.library.proofs.Lines.{line-here, line-split}

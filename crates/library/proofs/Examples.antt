@@ -7,7 +7,8 @@ use native.Mathlib.Omega.{arith}
 use lib.ListN.{length, getD}
 use lib.Dec.{lit<, lit≤}
 use Rattle.lists.specs.Lists.{All}
-use Rattle.lists.specs.Text.{bytes, Letter, NameByte, Name, digitsBy, digits, decimal}
+use Rattle.lists.specs.Text.{bytes, Letter, NameByte, digitsBy, digits, decimal}
+use Rattle.limits.specs.Names.{Name}
 use Rattle.lists.proofs.Lists.{all-imp}
 use Rattle.lists.proofs.Numerals.{reading, reading-decimal}
 use Rattle.refusals.specs.Refusals.{lineForm, nodeCount, treeRule, First}

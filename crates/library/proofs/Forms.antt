@@ -7,10 +7,12 @@ use native.Mathlib.Omega.{arith}
 use native.Mathlib.Decide.{ℕ-discrete, decLe, decLt}
 use lib.ListN.{length, getD, take, drop, length-append}
 use lib.Seq.{drop-append-seam, take-at}
-use Rattle.lists.specs.Text.{bytes, Name, decimal}
+use Rattle.lists.specs.Text.{bytes, decimal}
+use Rattle.limits.specs.Names.{Name}
 use Rattle.lists.proofs.Lists.{all-dec}
 use Rattle.lists.proofs.Numerals.{reading, reading-decimal}
-use Rattle.lists.proofs.Search.{dec-printable, dec-name}
+use Rattle.lists.proofs.Search.{dec-printable}
+use Rattle.limits.proofs.Names.{dec-name}
 use Rattle.library.specs.Library.{Kind, Value, kindLine}
 use Rattle.library.specs.Verdict.{line, CountIs}
 use Rattle.library.proofs.Spelling.{kindOf, kind-told}

@@ -6,8 +6,8 @@ use mathlib.Core.List.{List, []}
 use native.Mathlib.Omega.{arith}
 use native.Mathlib.Decide.{decLe}
 use lib.ListN.{length}
+use Rattle.limits.specs.Limits.{documentBytes, documentNodes}
 use Rattle.refusals.specs.Refusals.{Refusal, lineForm, treeRule, First}
-use Rattle.library.specs.Library.{maxBytes, maxNodes}
 use Rattle.library.specs.Verdict.{line, CountIs, Malformed, Breaks, DocumentGround}
 use Rattle.library.proofs.Reading.{count-one}
 use Rattle.library.proofs.Fields.{Field, lineOf, Formed, Ruled, offset-bounds, same-line, Unformed, count, field, extra, unformed, malformed, unruled}
@@ -15,14 +15,14 @@ use Rattle.library.proofs.Grounds.{Bad, form, few, rule, Ground, long, 
 
 -- the length and N are good, and so are the first k lines
 pub record Good (s : List ℕ) (n k : ℕ) : Type 0 where
-  pub short : length s ≤ maxBytes
+  pub short : length s ≤ documentBytes
   pub count : CountIs s n
   pub some : 0 < n
-  pub few : n ≤ maxNodes
+  pub few : n ≤ documentNodes
   pub within : k ≤ 4 * n + 1
   pub lines : (v : ℕ) (f : Field) → lineOf v f ≤ k → Formed s v f × Ruled s v f
 
-pub good-start : (s : List ℕ) (n : ℕ) → length s ≤ maxBytes → CountIs s n → 0 < n → n ≤ maxNodes → Good s n 1
+pub good-start : (s : List ℕ) (n : ℕ) → length s ≤ documentBytes → CountIs s n → 0 < n → n ≤ documentNodes → Good s n 1
 good-start s n short c p l =
     record { short = short; count = c; some = p; few = l; within = omega arith; lines = λ v f h. let o = offset-bounds f in absurd (omega arith) }
 
@@ -66,7 +66,7 @@ module _ {s : List ℕ} {n k : ℕ} (g : Good s n k) where
       let e = count-one s m n c (g .count) in
       let p = g .some in
       let l = g .few in
-      absurd (⊎-elim (λ (z : m ≡ 0). omega arith) (λ (z : maxNodes < m). omega arith) h)
+      absurd (⊎-elim (λ (z : m ≡ 0). omega arith) (λ (z : documentNodes < m). omega arith) h)
   good-later i q (rule h) = let u = unruled s i h in subst (λ j. k < j) (sym (u .here)) (beyond (u .node) (u .field) (λ p. u .broken (p .1)))
 
   -- so a ground on the next line is the first

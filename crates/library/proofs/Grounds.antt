@@ -5,8 +5,8 @@ use mathlib.Core.Logic.{_⊎_, inl, inr, _≢_}
 use mathlib.Core.List.{List, []}
 use native.Mathlib.Omega.{arith}
 use lib.ListN.{length}
+use Rattle.limits.specs.Limits.{documentBytes, documentNodes}
 use Rattle.refusals.specs.Refusals.{Refusal, documentLength, lineForm, nodeCount, treeRule, place, number, stage, Earlier, First}
-use Rattle.library.specs.Library.{maxBytes, maxNodes}
 use Rattle.library.specs.Verdict.{line, CountIs, Malformed, Breaks, DocumentGround}
 use Rattle.library.proofs.Reading.{count-one}
 use Rattle.library.proofs.Fields.{offset-bounds, Unformed, count, field, extra, unformed, unruled, breaks-formed}
@@ -14,12 +14,12 @@ use Rattle.library.proofs.Fields.{offset-bounds, Unformed, count, field
 -- a ground on line i
 pub data Bad (s : List ℕ) : ℕ → Refusal → Type 0 where
   form : {i : ℕ} → Malformed s i → Bad s i (lineForm i)
-  few : (n : ℕ) → CountIs s n → (n ≡ 0) ⊎ (maxNodes < n) → Bad s 1 nodeCount
+  few : (n : ℕ) → CountIs s n → (n ≡ 0) ⊎ (documentNodes < n) → Bad s 1 nodeCount
   rule : {i : ℕ} → Breaks s i → Bad s i (treeRule i)
 
 -- a ground of a document is its length, or is on a line
 pub data Ground (s : List ℕ) : Refusal → Type 0 where
-  long : maxBytes < length s → Ground s documentLength
+  long : documentBytes < length s → Ground s documentLength
   bad : {i : ℕ} {q : Refusal} → Bad s i q → Ground s q
 
 -- what is not earlier in the written order
@@ -83,7 +83,7 @@ module _ (s : List ℕ) where
       inl (omega arith)
 
   -- ── The first ground ──
-  pub first-long : maxBytes < length s → First (DocumentGround s) documentLength
+  pub first-long : documentBytes < length s → First (DocumentGround s) documentLength
   first-long h = record { applies = DocumentGround.long h; first = λ q g. go q (ground q g) }
     where
       go : (q : Refusal) → Ground s q → ¬ Earlier q documentLength
@@ -91,7 +91,7 @@ module _ (s : List ℕ) where
       go q (bad {i} b) = let e = bad-place i q b in later q documentLength (omega arith) (omega arith)
 
   -- a ground on a line before which no line has one
-  pub first-line : length s ≤ maxBytes → (i : ℕ) (q : Refusal) → Bad s i q → ((j : ℕ) (p : Refusal) → Bad s j p → i ≤ j) → First (DocumentGround s) q
+  pub first-line : length s ≤ documentBytes → (i : ℕ) (q : Refusal) → Bad s i q → ((j : ℕ) (p : Refusal) → Bad s j p → i ≤ j) → First (DocumentGround s) q
   first-line short i q b least = record { applies = bad-ground i q b; first = λ p g. go p (ground p g) }
     where
       go : (p : Refusal) → Ground s p → ¬ Earlier p q
@@ -103,7 +103,7 @@ module _ (s : List ℕ) where
           later p q (omega arith) (λ _. (omega arith, λ h. let n = bad-number i j q p (omega arith) b c in omega arith))
 
   -- line 1 is not formed, or its N is 0 or too large
-  first-count : length s ≤ maxBytes → (q : Refusal) → Bad s 1 q → First (DocumentGround s) q
+  first-count : length s ≤ documentBytes → (q : Refusal) → Bad s 1 q → First (DocumentGround s) q
   first-count short q b = first-line short 1 q b from-one
     where
       from-one : (j : ℕ) (p : Refusal) → Bad s j p → 1 ≤ j
@@ -111,8 +111,8 @@ module _ (s : List ℕ) where
       from-one j p (few n c h) = omega arith
       from-one j p (rule h) = let l = unruled-line j h in omega arith
 
-  pub first-uncounted : length s ≤ maxBytes → ((n : ℕ) → ¬ CountIs s n) → First (DocumentGround s) (lineForm 1)
+  pub first-uncounted : length s ≤ documentBytes → ((n : ℕ) → ¬ CountIs s n) → First (DocumentGround s) (lineForm 1)
   first-uncounted short h = first-count short (lineForm 1) (form (Malformed.count h))
 
-  pub first-number : length s ≤ maxBytes → (n : ℕ) → CountIs s n → (n ≡ 0) ⊎ (maxNodes < n) → First (DocumentGround s) nodeCount
+  pub first-number : length s ≤ documentBytes → (n : ℕ) → CountIs s n → (n ≡ 0) ⊎ (documentNodes < n) → First (DocumentGround s) nodeCount
   first-number short n c h = first-count short nodeCount (few n c h)

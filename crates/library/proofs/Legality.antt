@@ -4,9 +4,10 @@ use mathlib.Core.Path.{_≡_}
 use mathlib.Core.List.{List, [], _∷_}
 use native.Mathlib.Omega.{arith}
 use lib.ListN.{length}
+use Rattle.limits.specs.Limits.{documentNodes}
 use Rattle.lists.specs.Lists.{All}
-use Rattle.lists.specs.Text.{Name}
-use Rattle.library.specs.Library.{Node, element, at, maxNodes, Value, DepthBehind, KindBehind, LabelRule, ValueRule, Legal}
+use Rattle.limits.specs.Names.{Name}
+use Rattle.library.specs.Library.{Node, element, at, Value, DepthBehind, KindBehind, LabelRule, ValueRule, Legal}
 
 pub record Fits (x : Node) : Type 0 where
   pub name : Name (x .label)
@@ -32,7 +33,7 @@ chain-at x [] h v l = absurd (omega arith)
 chain-at x (y ∷ ns) h zero l = h .0
 chain-at x (y ∷ ns) h (suc v) l = chain-at y ns (h .1) v (omega arith)
 
-pub legal-chain : (x : Node) (ns : List Node) → length (x ∷ ns) ≤ maxNodes → x .depth ≡ 0 → x .kind ≡ element
+pub legal-chain : (x : Node) (ns : List Node) → length (x ∷ ns) ≤ documentNodes → x .depth ≡ 0 → x .kind ≡ element
     → All Fits (x ∷ ns) → Chain x ns → Legal (x ∷ ns)
 legal-chain x ns l d k f c = record {
   some = omega arith;

@@ -5,7 +5,7 @@ use mathlib.Core.List.{List, [], _∷_, _++_, append-assoc}
 use native.Mathlib.Omega.{arith}
 use lib.ListN.{length}
 use lib.Seq.{ext-getD}
-use Rattle.lists.specs.Text.{Name}
+use Rattle.limits.specs.Names.{Name}
 use Rattle.library.specs.Library.{Node, Kind, at, Value, nodesLine, depthLine, kindLine, labelLine, valueLine, nodeLines}
 use Rattle.library.specs.Verdict.{behindLines, CountIs, DepthIs, KindIs, LabelIs, ValueIs}
 use Rattle.library.proofs.Cursor.{count-here, depth-here, kind-here, label-here, value-here, count-split, depth-split, kind-split, label-split, value-split}

@@ -8,7 +8,8 @@ use native.Mathlib.Omega.{arith}
 use lib.ListN.{getD}
 use lib.Dec.{eqb}
 use Rattle.lists.specs.Lists.{All}
-use Rattle.lists.specs.Text.{bytes, Printable, NameByte, Name, decimal}
+use Rattle.lists.specs.Text.{bytes, Printable, NameByte, decimal}
+use Rattle.limits.specs.Names.{Name}
 use Rattle.library.specs.Library.{Kind, element, attribute, text, Value, nodesLine, depthLine, kindLine, labelLine, valueLine}
 use Rattle.lists.proofs.Lists.{all-imp}
 use Rattle.lists.proofs.Numerals.{Digit, decimal-injective, decimal-digits}

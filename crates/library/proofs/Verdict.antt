@@ -6,8 +6,9 @@ use mathlib.Core.List.{List, [], _∷_, _++_, List-discrete}
 use native.Mathlib.Omega.{arith}
 use native.Mathlib.Decide.{ℕ-discrete, decLe}
 use lib.ListN.{length}
+use Rattle.limits.specs.Limits.{documentBytes, documentNodes}
 use Rattle.refusals.specs.Refusals.{Refusal, documentLength, lineForm, nodeCount, treeRule, First}
-use Rattle.library.specs.Library.{Node, maxBytes, maxNodes, Legal, spell}
+use Rattle.library.specs.Library.{Node, Legal, spell}
 use Rattle.library.specs.Verdict.{line, CountIs, Breaks, DocumentGround, Accepts}
 use Rattle.library.proofs.Lines.{line-none}
 use Rattle.library.proofs.Fields.{Field, depth, kind, label, value, lineOf, Formed, Ruled}
@@ -22,7 +23,7 @@ pub accepted-unrefused : (s : List ℕ) (ns : List Node) → Accepts s ns → (r
 accepted-unrefused s ns a r h = let (g, e) = accepts-good s ns a in good-whole g e r h
 
 -- any byte behind the spelling of a legal library is a line too many
-pub further-bytes : (ns : List Node) → Legal ns → (b : ℕ) (r : List ℕ) → length (spell ns ++ b ∷ r) ≤ maxBytes
+pub further-bytes : (ns : List Node) → Legal ns → (b : ℕ) (r : List ℕ) → length (spell ns ++ b ∷ r) ≤ documentBytes
     → First (DocumentGround (spell ns ++ b ∷ r)) (lineForm (4 * length ns + 2))
 further-bytes ns legal b r short =
     let s = spell ns ++ b ∷ r in
@@ -69,19 +70,19 @@ module _ (s : List ℕ) where
       go (no h) = inl (lineForm (4 * n + 2), first-extra g refl h)
 
   -- the first line
-  first-line : length s ≤ maxBytes → Dec ((n : ℕ) × CountIs s n) → Refused ⊎ ((n : ℕ) × Good s n 1)
+  first-line : length s ≤ documentBytes → Dec ((n : ℕ) × CountIs s n) → Refused ⊎ ((n : ℕ) × Good s n 1)
   first-line short (no h) = inl (lineForm 1, first-uncounted s short (λ n c. h (n, c)))
-  first-line short (yes (n, c)) = go (ℕ-discrete n 0) (decLe n maxNodes)
+  first-line short (yes (n, c)) = go (ℕ-discrete n 0) (decLe n documentNodes)
     where
-      go : Dec (n ≡ 0) → Dec (n ≤ maxNodes) → Refused ⊎ ((n : ℕ) × Good s n 1)
+      go : Dec (n ≡ 0) → Dec (n ≤ documentNodes) → Refused ⊎ ((n : ℕ) × Good s n 1)
       go (yes e) d = inl (nodeCount, first-number s short n c (inl e))
       go (no e) (no h) = inl (nodeCount, first-number s short n c (inr (omega arith)))
       go (no e) (yes h) = inr (n, good-start s n short c (omega arith) h)
 
   pub document-judged : ((r : Refusal) × First (DocumentGround s) r) ⊎ ((ns : List Node) × Accepts s ns)
-  document-judged = go (decLe (length s) maxBytes)
+  document-judged = go (decLe (length s) documentBytes)
     where
-      go : Dec (length s ≤ maxBytes) → Refused ⊎ ((ns : List Node) × Accepts s ns)
+      go : Dec (length s ≤ documentBytes) → Refused ⊎ ((ns : List Node) × Accepts s ns)
       go (no h) = inl (documentLength, first-long s (omega arith))
       go (yes short) = on (first-line short (dec-count s)) (λ (n, g). on (nodes-from 0 n (omega arith) (good-as g _ (omega arith))) all-lines)
 

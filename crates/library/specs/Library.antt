@@ -5,7 +5,9 @@ use mathlib.Core.Logic.{_⊎_}
 use mathlib.Core.List.{List, [], _∷_, _++_}
 use lib.ListN.{length, getD}
 use Rattle.lists.specs.Lists.{All}
-use Rattle.lists.specs.Text.{bytes, Printable, Name, decimal}
+use Rattle.lists.specs.Text.{bytes, Printable, decimal}
+use Rattle.limits.specs.Limits.{documentNodes, valueBytes}
+use Rattle.limits.specs.Names.{Name}
 
 pub data Kind : Type 0 where
   element attribute text : Kind
@@ -20,15 +22,9 @@ pub record Node : Type 0 where
 abbrev pub at : List Node → ℕ → Node
 at ns v = getD ns v (record { depth = 0; kind = element; label = []; value = [] })
 
--- N is 1 to 4,096; V is 0 to 255 bytes from 0x20 to 0x7E; a document has at most 1,048,576 bytes
-abbrev pub maxNodes : ℕ
-maxNodes = 4096
-
-abbrev pub maxBytes : ℕ
-maxBytes = 1_048_576
-
+-- V is 0 to 255 bytes from 0x20 to 0x7E
 unfoldable pub Value : List ℕ → Type 0
-Value b = All Printable b × (length b ≤ 255)
+Value b = All Printable b × (length b ≤ valueBytes)
 
 -- ── The tree rules ──
 -- behind a node of depth d and kind k: a depth is at most one more than the depth before it, and one more only behind an element; only the first node has depth 0
@@ -49,7 +45,7 @@ ValueRule k b = k ≡ element → b ≡ []
 
 pub record Legal (ns : List Node) : Type 0 where
   pub some : 0 < length ns
-  pub few : length ns ≤ maxNodes
+  pub few : length ns ≤ documentNodes
   pub names : (v : ℕ) → v < length ns → Name (at ns v .label)
   pub values : (v : ℕ) → v < length ns → Value (at ns v .value)
   -- the first node is an element at depth 0

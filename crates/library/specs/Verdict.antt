@@ -6,9 +6,10 @@ use mathlib.Core.Bool.{true, false}
 use mathlib.Core.List.{List, [], _∷_}
 use lib.ListN.{length}
 use lib.Dec.{eqb}
-use Rattle.lists.specs.Text.{Name}
-use Rattle.refusals.specs.Refusals.{Refusal, documentLength, lineForm, nodeCount, treeRule}
-use Rattle.library.specs.Library.{Node, Kind, element, maxBytes, maxNodes, Value, DepthBehind, KindBehind, LabelRule, ValueRule, Legal, nodesLine, depthLine, kindLine, labelLine, valueLine, spell}
+use Rattle.limits.specs.Limits.{documentBytes, documentNodes}
+use Rattle.limits.specs.Names.{Name}
+use Rattle.refusals.specs.Refusals.{Refusal, documentLength, lineForm, nodeCount, treeRule, number, place, First}
+use Rattle.library.specs.Library.{Node, Kind, element, Value, DepthBehind, KindBehind, LabelRule, ValueRule, Legal, nodesLine, depthLine, kindLine, labelLine, valueLine, spell}
 
 -- a line with the LF that ends it; the last line may lack it
 unfoldable pub firstLine : List ℕ → List ℕ
@@ -68,13 +69,18 @@ module _ (s : List ℕ) where
 
   -- the grounds that judge a document
   pub data DocumentGround : Refusal → Type 0 where
-    long : maxBytes < length s → DocumentGround documentLength
+    long : documentBytes < length s → DocumentGround documentLength
     malformed : {i : ℕ} → Malformed i → DocumentGround (lineForm i)
-    range : {n : ℕ} → CountIs n → (n ≡ 0) ⊎ (maxNodes < n) → DocumentGround nodeCount
+    range : {n : ℕ} → CountIs n → (n ≡ 0) ⊎ (documentNodes < n) → DocumentGround nodeCount
     breaks : {i : ℕ} → Breaks i → DocumentGround (treeRule i)
 
   -- the document spells the library ns
   pub record Accepts (ns : List Node) : Type 0 where
-    pub short : length s ≤ maxBytes
+    pub short : length s ≤ documentBytes
     pub legal : Legal ns
     pub spelled : s ≡ spell ns
+
+  -- what the document check returns, by number, place and N: the first ground and N 0, or no number and the N of the library
+  pub record Checked (n p nodes : ℕ) : Type 0 where
+    pub refused : (r : Refusal) → First DocumentGround r → (n ≡ number r) × (p ≡ place r) × (nodes ≡ 0)
+    pub accepted : (ns : List Node) → Accepts ns → (n ≡ 0) × (p ≡ 0) × (nodes ≡ length ns)

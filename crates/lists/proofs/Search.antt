@@ -3,13 +3,10 @@ use Prim.Native.Nat.{ℕ, zero, suc, _≤_, _<_, suc-le-suc}
 use mathlib.Core.Path.{_≡_, refl, ap₂, subst}
 use mathlib.Core.Logic.{Dec·and}
 use mathlib.Core.List.{List, [], _∷_, _++_}
-use lib.ListN.{length}
 use native.Mathlib.Omega.{arith}
 use native.Mathlib.Decide.{ℕ-discrete, decLe, map-dec}
 use Rattle.lists.proofs.Decide.{dec-or}
-use Rattle.lists.proofs.Lists.{all-dec}
-use Rattle.lists.specs.Lists.{All}
-use Rattle.lists.specs.Text.{Printable, Letter, NameByte, Name}
+use Rattle.lists.specs.Text.{Printable, NameByte}
 
 -- ── Numbers ──
 pub search-below : (n : ℕ) (A : ℕ → Type 0) → ((i : ℕ) → Dec (A i)) → Dec ((i : ℕ) × (i < n) × A i)
@@ -38,21 +35,14 @@ least (suc n) A d a = go (d 0) (least n (λ i. A (suc i)) (λ i. d (suc i)) a)
         low (suc i) k = suc-le-suc (l i k)
 
 -- ── Texts ──
-between : (lo hi b : ℕ) → Dec ((lo ≤ b) × (b ≤ hi))
-between lo hi b = Dec·and (decLe lo b) (decLe b hi)
+pub dec-between : (lo hi b : ℕ) → Dec ((lo ≤ b) × (b ≤ hi))
+dec-between lo hi b = Dec·and (decLe lo b) (decLe b hi)
 
 pub dec-printable : (b : ℕ) → Dec (Printable b)
-dec-printable b = between 0x20 0x7e b
+dec-printable b = dec-between 0x20 0x7e b
 
 pub dec-name-byte : (b : ℕ) → Dec (NameByte b)
-dec-name-byte b = dec-or (between 97 122 b) (dec-or (between 48 57 b) (ℕ-discrete b 45))
-
-pub dec-name : (s : List ℕ) → Dec (Name s)
-unfolding Name
-dec-name [] = no (λ h. h)
-dec-name (b ∷ bs) =
-    map-dec {A = Letter b × (All NameByte bs × (length (b ∷ bs) ≤ 16))} (λ h. (h .0, h .1 .0, h .1 .1)) (λ h. (h .0, (h .1, h .2)))
-    (Dec·and (between 97 122 b) (Dec·and (all-dec dec-name-byte bs) (decLe (length (b ∷ bs)) 16)))
+dec-name-byte b = dec-or (dec-between 97 122 b) (dec-or (dec-between 48 57 b) (ℕ-discrete b 45))
 
 -- s begins with l
 pub dec-begins : (l s : List ℕ) → Dec ((r : List ℕ) × (s ≡ l ++ r))

@@ -9,7 +9,6 @@ use mathlib.Core.Path.{_≡_}
 use mathlib.Core.List.{List, [], _∷_, _++_, map}
 use lib.ListN.{length}
 use lib.Dec.{ltb}
-use Rattle.lists.specs.Lists.{All}
 
 -- the bytes of a quoted text
 abbrev pub bytes : String → List ℕ
@@ -27,11 +26,6 @@ Letter b = (97 ≤ b) × (b ≤ 122)
 -- a-z, 0-9 and hyphen
 abbrev pub NameByte : ℕ → Type 0
 NameByte b = Letter b ⊎ ((48 ≤ b) × (b ≤ 57)) ⊎ (b ≡ 45)
-
--- 01: S is 1 to 16 bytes of a-z, 0-9 and hyphen, the first a letter; a rule's names are spelled as S
-unfoldable pub Name : List ℕ → Type 0
-Name [] = ⊥
-Name (b ∷ bs) = Letter b × All NameByte bs × (length (b ∷ bs) ≤ 16)
 
 -- the digits of n in a base, the highest first; the fuel n is enough
 unfoldable pub digitsBy : ℕ → ℕ → ℕ → List ℕ

@@ -1,12 +1,13 @@
 -- The meaning of a rule as a test that computes.
 use Prim.Native.Nat.{ℕ, zero, suc, _≤_, _<_}
-use mathlib.Core.Path.{_≡_, refl, subst}
+use mathlib.Core.Path.{_≡_, refl, subst, sym}
 use mathlib.Core.Logic.{_⊎_, inl, inr, _↔_}
 use mathlib.Core.Bool.{Bool, true, false}
 use mathlib.Core.List.{List, [], _∷_}
 use native.Mathlib.Omega.{arith}
 use native.Mathlib.Decide.{ℕ-discrete}
 use lib.Dec.{T, ltb, eqb, ltb→lt, lt→ltb, eqb→eq, eqb-refl}
+use Rattle.lists.specs.Lists.{Occurs}
 use Rattle.xpath.specs.Syntax.{Op, eq, ne, lt, le, gt, ge, Test, named, not, and, or, compare, compareTo, XPath, empty, one, seq, union, star, Step, toLeft, toRight, fromLeft, fromRight, stay}
 use Rattle.xpath.specs.Tree.{Tree, Child, WellFormed}
 use Rattle.xpath.specs.Meaning.{Less, Rel, Many, none, more, Holds, Reaches, Moves}
@@ -75,6 +76,17 @@ some-step n f ih = (λ h. to (T-either (f n) (someBelow n f) .0 h), λ h. from (
 pub some-iff : (n : ℕ) (f : ℕ → Bool) → T (someBelow n f) ↔ ((i : ℕ) × (i < n) × T (f i))
 some-iff zero f = (λ h. absurd h, λ h. let r = h .1 in absurd (omega arith))
 some-iff (suc n) f = some-step n f (some-iff n f)
+
+-- ── All of a list ──
+module _ {A : Type 0} (f : A → Bool) where
+  abbrev pub allb : List A → Bool
+  allb [] = true
+  allb (x ∷ xs) = both (f x) (allb xs)
+
+  pub each-by : (B : A → Type 0) → ((a : A) → T (f a) → B a) → (xs : List A) → T (allb xs) → (a : A) → Occurs a xs → B a
+  each-by B g [] h a o = absurd o
+  each-by B g (x ∷ xs) h a (inl e) = subst B (sym e) (g x (T-both (f x) (allb xs) .0 h .0))
+  each-by B g (x ∷ xs) h a (inr o) = each-by B g xs (T-both (f x) (allb xs) .0 h .1) a o
 
 -- ── Strings ──
 abbrev pub sameb : List ℕ → List ℕ → Bool

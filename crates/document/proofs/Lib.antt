@@ -1,0 +1,4 @@
+pub mod TreeRules
+pub mod LineForms
+pub mod Steps
+pub mod Walk

@@ -1,0 +1,56 @@
+-- The walk over the nodes: from the count line to what is behind the last node.
+use Prim.Native.Nat.{ℕ, suc, _+_, _*_, _≤_, _<_}
+use mathlib.Core.Path.{_≡_, refl, sym, ap, _∙_, subst}
+use mathlib.Core.Logic.{_⊎_}
+use mathlib.Core.List.{List}
+use lib.ListN.{length, drop, length-drop, drop-of-length-le}
+use native.Mathlib.Omega.{arith}
+use native.Mathlib.Numerals.{add-one}
+use Rattle.limits.specs.Limits.{documentBytes, documentNodes}
+use Rattle.lists.specs.Text.{bytes}
+use Rattle.refusals.specs.Refusals.{lineForm, nodeCount, First}
+use Rattle.library.specs.Library as Library
+use Rattle.library.specs.Verdict.{CountIs, DocumentGround, Accepts, behindLines}
+use Rattle.library.proofs.Lines.{line-none}
+use Rattle.library.proofs.Cursor.{count-here, count-split}
+use Rattle.library.proofs.Grounds.{first-uncounted, first-number}
+use Rattle.library.proofs.Good.{good-start, first-extra}
+use Rattle.library.proofs.Accepted.{good-accepts}
+use Rattle.fields.specs.declared.Numeral.the-variants.{Value, NoNumeral}
+use Rattle.fields.specs.Reading.{NumberedLine}
+use Rattle.document.specs.declared.rules.Node.{Node}
+use Rattle.document.specs.Check.{Cursor, Says, Before}
+
+-- ── Behind a node ──
+pub next-cursor : {s : List ℕ} {n j : ℕ} (v : ℕ) → Cursor s n (4 * suc v + 1) j → Cursor s n (4 * (v + 1) + 1) j
+next-cursor {s} {n} {j} v c = let e : 4 * suc v + 1 ≡ 4 * (v + 1) + 1 = omega arith in subst (λ k. Cursor s n k j) e c
+
+pub next-before : {s : List ℕ} {v : ℕ} {x : Node} → Says s v x → Before s (v + 1) x
+next-before {s} {v} {x} h = subst (λ w. Before s w x) (sym (add-one v)) h
+
+-- ── Behind the last node ──
+module _ {s : List ℕ} {n : ℕ} where
+  module _ {i : ℕ} (c : Cursor s n (4 * n + 1) i) where
+    pub more-lines : i < length s → First (DocumentGround s) (lineForm (4 * n + 2))
+    more-lines h = first-extra (c .good) refl
+        (λ e. let z = line-none s (4 * n + 1) (4 * n + 2) (omega arith) .0 e in omega (arith, length-drop i s, ap length (sym (c .here) ∙ z)))
+
+    pub no-more : length s ≤ i → (ns : List Library.Node) × Accepts s ns × (length ns ≡ n)
+    no-more h =
+        let (ns, l, a) = good-accepts (c .good) (line-none s (4 * n + 1) (4 * n + 2) (omega arith) .1 (c .here ∙ drop-of-length-le s h)) in
+        (ns, a, l)
+
+-- ── The first line ──
+module _ (s : List ℕ) (short : length s ≤ documentBytes) where
+  pub no-count : NumberedLine (bytes "nodes=") 5 s 0 NoNumeral → First (DocumentGround s) (lineForm 1)
+  no-count h = first-uncounted s short (λ n q. h n (behindLines 1 s) (q .0) (count-split s n q))
+
+  module _ (n i : ℕ) (h : NumberedLine (bytes "nodes=") 5 s 0 (Value n i)) where
+    counted : CountIs s n × (behindLines 1 s ≡ drop i s)
+    counted = count-here s n (drop i s) (h .0) (h .1 .spelled)
+
+    pub bad-count : (n ≡ 0) ⊎ (documentNodes < n) → First (DocumentGround s) nodeCount
+    bad-count r = first-number s short n (counted .0) r
+
+    pub good-count : 0 < n → n ≤ documentNodes → Cursor s n 1 i
+    good-count p q = record { good = good-start s n short (counted .0) p q; here = counted .1; inside = h .1 .inside }

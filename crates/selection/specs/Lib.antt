@@ -1,0 +1,3 @@
+pub mod Buffers
+pub mod Evaluation
+pub mod Marked

@@ -1,0 +1,25 @@
+-- The ten rules that 01 marks on document X (M), with the nodes marked.
+use Prim.Native.Nat.{ℕ}
+use mathlib.Core.List.{List, [], _∷_}
+use Rattle.lists.specs.Text.{bytes}
+
+pub record Case : Type 0 where
+  pub rule : List ℕ
+  pub marks : List ℕ
+
+abbrev case : List ℕ → List ℕ → Case
+case r m = record { rule = r; marks = m }
+
+abbrev pub cases : List Case
+cases =
+    case (bytes ":drug") (1 ∷ 3 ∷ [])
+    ∷ case (bytes "!:drug") (0 ∷ 2 ∷ 4 ∷ [])
+    ∷ case (bytes "(e=e)") (0 ∷ 1 ∷ 2 ∷ 3 ∷ 4 ∷ [])
+    ∷ case (bytes "(e!=e)") []
+    ∷ case (bytes "(l=\"heparin\")") (1 ∷ 3 ∷ [])
+    ∷ case (bytes "(e<\"a\")") (0 ∷ 1 ∷ 3 ∷ [])
+    ∷ case (bytes "(*l=\"heparin\")") (0 ∷ 1 ∷ 2 ∷ 3 ∷ 4 ∷ [])
+    ∷ case (bytes "(.R*R=\"\")") (3 ∷ [])
+    ∷ case (bytes "(r=e)") (1 ∷ [])
+    ∷ case (bytes "(.l[:name]=..r*rl)") (1 ∷ [])
+    ∷ []
