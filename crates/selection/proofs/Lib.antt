@@ -1,3 +1,4 @@
 pub mod Judged
 pub mod Agreement
 pub mod Examples
+pub mod Bound

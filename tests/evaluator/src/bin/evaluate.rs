@@ -1,0 +1,9 @@
+//! The program of document 01 by the independent evaluator: standard input to standard output.
+
+use std::io::{self, Read, Write};
+
+fn main() -> io::Result<()> {
+    let mut input = Vec::new();
+    io::stdin().read_to_end(&mut input)?;
+    io::stdout().write_all(evaluator::program::program(&input).as_bytes())
+}
