@@ -1,4 +1,5 @@
 // The document check: any bytes get the verdict of numbers 1 to 4 of document 01.
+mod entries;
 mod lines;
 mod nodes;
 mod rules;

@@ -4,7 +4,7 @@ use mathlib.Core.Path.{_≡_, refl, sym, ap, ap₂, _∙_, subst}
 use mathlib.Core.Bool.{Bool, true, false, _&&_}
 use mathlib.Core.List.{List, [], _∷_, _++_, map, append-assoc}
 use lib.ListN.{length, getD, take, drop, length-drop, length-append, take-append-drop, List·getD-append}
-use lib.Seq.{getD-drop, getD-take, drop-drop, drop-cons, getD-append-seam, length-take-le, slice, slice-cons, slice-empty}
+use lib.Seq.{getD-drop, getD-take, drop-drop, drop-cons, getD-append-seam, length-take-le, slice, slice-cons, slice-empty, take-add, take-append-seam, drop-at}
 use lib.Dec.{T, leb, lit<}
 use native.Mathlib.Omega.{arith}
 use native.Mathlib.Numerals.{add-one}
@@ -120,3 +120,8 @@ digit-between b h = (go (leb 48 b) (leb b 57) refl refl h)
     go true true p q t = (leb-true 48 b p, leb-true b 57 q)
     go true false p q t = absurd t
     go false y p q t = absurd t
+
+-- what stands at an offset, as a slice
+pub slice-of : (s : List ℕ) (i : ℕ) (a r : List ℕ) → i ≤ length s → drop i s ≡ a ++ r → slice i (i + length a) s ≡ a
+slice-of s i a r h e =
+    ap (drop i) (take-add i (length a) s ∙ ap (λ (y : List ℕ). take i s ++ y) (ap (take (length a)) e ∙ take-append-seam a r)) ∙ drop-at (take i s) a i (length-take-le i s h)

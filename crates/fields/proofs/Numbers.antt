@@ -4,8 +4,8 @@ use mathlib.Core.Path.{_≡_, refl, sym, ap, _∙_, subst}
 use mathlib.Core.Logic.{_⊎_, inl, inr}
 use mathlib.Core.Bool.{Bool, true, false, _&&_}
 use mathlib.Core.List.{List, [], _∷_, _++_, append-assoc}
-use lib.ListN.{length, getD, take, drop, length-drop, length-append, length-map, List·getD-append}
-use lib.Seq.{getD-drop, slice, length-take-le, take-add, take-append-seam, drop-at}
+use lib.ListN.{length, getD, drop, length-drop, length-append, length-map, List·getD-append}
+use lib.Seq.{getD-drop, slice}
 use lib.Dec.{T, ltb, eqb}
 use native.Mathlib.Omega.{arith}
 use native.Mathlib.Nat.{pow-le-pow-right}
@@ -20,7 +20,7 @@ use Rattle.fields.specs.declared.Numeral.the-variants.{Value, NoNumeral}
 use Rattle.fields.specs.declared.Class.{Class}
 use Rattle.fields.specs.declared.Class.the-variants as Classes
 use Rattle.fields.specs.Reading.{Ended, inClass, Run, Digits, zeroLed, numeralLine, Numbered}
-use Rattle.fields.proofs.Laws.{lf-out, digit-between, at-all}
+use Rattle.fields.proofs.Laws.{slice-of, lf-out, digit-between, at-all}
 
 -- ── A run that was read ──
 pub record Found (k : Class) (most : ℕ) (s : List ℕ) (at j : ℕ) : Type 0 where
@@ -45,10 +45,7 @@ found k most s at j r (l, f, p) = record { field = x; all = f .all; short = f .s
     next = omega (arith, p .inside, length-drop at s, length-drop j s, ap length spelled, length-append x (10 ∷ drop j s))
 
     slices : slice at (j - 1) s ≡ x
-    slices =
-        let e : j - 1 ≡ at + length x = omega (arith, next) in
-        let t : take (at + length x) s ≡ take at s ++ x = take-add at (length x) s ∙ ap (λ (y : List ℕ). take at s ++ y) (ap (take (length x)) spelled ∙ take-append-seam x (10 ∷ drop j s)) in
-        ap (λ (n : ℕ). drop at (take n s)) e ∙ ap (drop at) t ∙ drop-at (take at s) x at (length-take-le at s r)
+    slices = let e : j - 1 ≡ at + length x = omega (arith, next) in ap (λ (n : ℕ). slice at n s) e ∙ slice-of s at x (10 ∷ drop j s) r spelled
 
 pub byte-at : {k : Class} {most : ℕ} {s : List ℕ} {at j : ℕ} (f : Found k most s at j) (i : ℕ) → i < length (f .field) → getD (f .field) i 0 ≡ getD s (at + i) 0
 byte-at {s = s} {at = at} {j = j} f i r =
