@@ -1,28 +1,21 @@
 -- Bytes that stand at an offset, and what is behind them.
 use Prim.Native.Nat.{ℕ, zero, suc, _+_, _-_, _*_, _^_, _≤_, _<_}
 use mathlib.Core.Path.{_≡_, refl, sym, ap, ap₂, _∙_, subst}
-use mathlib.Core.Bool.{Bool, true, false, _&&_}
+use mathlib.Core.Bool.{false}
 use mathlib.Core.List.{List, [], _∷_, _++_, map, append-assoc}
 use lib.ListN.{length, getD, take, drop, length-drop, length-append, take-append-drop, List·getD-append}
 use lib.Seq.{getD-drop, getD-take, drop-drop, drop-cons, getD-append-seam, length-take-le, slice, slice-cons, slice-empty, take-add, take-append-seam, drop-at}
-use lib.Dec.{T, leb, lit<}
+use lib.Dec.{T, lit<}
 use native.Mathlib.Omega.{arith}
 use native.Mathlib.Numerals.{add-one}
 use native.Mathlib.Nat.{pow-le-pow-right}
-use borrow.Author.Tests.{leb-true}
 use Rattle.lists.proofs.Numerals.{valueFrom}
 use native.Mathlib.Decide.{decLt}
 use Rattle.lists.specs.Lists.{All}
 use Rattle.fields.specs.declared.Ending.the-variants.{Next, Bad}
 use Rattle.fields.specs.declared.Class.{Class}
-use Rattle.fields.specs.declared.Class.the-variants.{Digit, Label, Text}
+use Rattle.fields.proofs.Classes.{lf-out}
 use Rattle.fields.specs.Reading.{Ended, inClass, Run}
-
--- no class has the LF
-pub lf-out : (k : Class) → inClass k 10 ≡ false
-lf-out Digit = refl
-lf-out Label = refl
-lf-out Text = refl
 
 -- what holds at each index holds of all of a list
 pub all-at : (B : ℕ → Type 0) (l : List ℕ) → ((j : ℕ) → j < length l → B (getD l j 0)) → All B l
@@ -111,15 +104,6 @@ ten-more n d k m h g e = subst (λ x. n * 10 + d < 10 ^ x) (sym e) (omega (arith
 
 pub ten-small : (n k : ℕ) → n < 10 ^ k → k ≤ 5 → n < 100000
 ten-small n k h g = omega (arith, h, pow-le-pow-right {n = 10} (lit< tt) g)
-
--- the digits of a class are between 48 and 57
-pub digit-between : (b : ℕ) → T (inClass Digit b) → (48 ≤ b) × (b ≤ 57)
-digit-between b h = (go (leb 48 b) (leb b 57) refl refl h)
-  where
-    go : (x y : Bool) → leb 48 b ≡ x → leb b 57 ≡ y → T (x && y) → (48 ≤ b) × (b ≤ 57)
-    go true true p q t = (leb-true 48 b p, leb-true b 57 q)
-    go true false p q t = absurd t
-    go false y p q t = absurd t
 
 -- what stands at an offset, as a slice
 pub slice-of : (s : List ℕ) (i : ℕ) (a r : List ℕ) → i ≤ length s → drop i s ≡ a ++ r → slice i (i + length a) s ≡ a

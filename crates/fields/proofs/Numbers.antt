@@ -20,7 +20,8 @@ use Rattle.fields.specs.declared.Numeral.the-variants.{Value, NoNumeral}
 use Rattle.fields.specs.declared.Class.{Class}
 use Rattle.fields.specs.declared.Class.the-variants as Classes
 use Rattle.fields.specs.Reading.{Ended, inClass, Run, Digits, zeroLed, numeralLine, Numbered}
-use Rattle.fields.proofs.Laws.{slice-of, lf-out, digit-between, at-all}
+use Rattle.fields.proofs.Classes.{between-is, lf-out}
+use Rattle.fields.proofs.Laws.{slice-of, at-all}
 
 -- ── A run that was read ──
 pub record Found (k : Class) (most : ℕ) (s : List ℕ) (at j : ℕ) : Type 0 where
@@ -144,7 +145,7 @@ module _ (most : ℕ) (some : 0 < most) (s : List ℕ) (at : ℕ) where
 
             leads : (y : List ℕ) → All (λ b. T (inClass Classes.Digit b)) y → x ≡ y → 0 < length x → Decimal y
             leads [] a i l = omega (arith, ap length i)
-            leads (b ∷ y) a i l = (all-imp (λ b. T (inClass Classes.Digit b)) Digit digit-between (b ∷ y) a, first b y i (digit-between b (a .0)) (ltb (at + 1) (j - 1)) (eqb (getD s at 0) 48) refl refl q)
+            leads (b ∷ y) a i l = (all-imp (λ b. T (inClass Classes.Digit b)) Digit (λ b. between-is 48 57 b) (b ∷ y) a, first b y i (between-is 48 57 b (a .0)) (ltb (at + 1) (j - 1)) (eqb (getD s at 0) 48) refl refl q)
 
         bound : n < 10 ^ most
         bound = let h : 10 ^ length (decimal n) ≤ 10 ^ most = pow-le-pow-right {n = 10} (lit< tt) (subst (λ (y : List ℕ). length y ≤ most) (sym whole) (f .short)) in omega (arith, h, decimal-above n)

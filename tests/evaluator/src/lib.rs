@@ -17,6 +17,7 @@ pub mod reader;
 pub mod relation;
 pub mod rule;
 pub mod rule_check;
+pub mod samples;
 pub mod shrink;
 pub mod snippets;
 pub mod tree;

@@ -1,15 +1,26 @@
 //! Makes a failing input small, so that a failing test can print it.
 
+use std::cell::Cell;
+
 /// Leaves out as many items as the failure allows: runs of items, from half
 /// the input down to single ones, are dropped whenever the rest still fails,
 /// until no single item can be dropped.
 pub fn shrink<T: Clone>(items: &[T], still_fails: impl Fn(&[T]) -> bool) -> Vec<T> {
+    shrink_while(items, still_fails, || true)
+}
+
+/// The same, but with what is left once there is no more going on.
+fn shrink_while<T: Clone>(
+    items: &[T],
+    still_fails: impl Fn(&[T]) -> bool,
+    go_on: impl Fn() -> bool,
+) -> Vec<T> {
     let mut small = items.to_vec();
     let mut run = small.len().div_ceil(2);
     while run > 0 {
         let before = small.len();
         let mut begin = 0;
-        while begin < small.len() {
+        while begin < small.len() && go_on() {
             let end = (begin + run).min(small.len());
             let without = [&small[..begin], &small[end..]].concat();
             if still_fails(&without) {
@@ -22,4 +33,48 @@ pub fn shrink<T: Clone>(items: &[T], still_fails: impl Fn(&[T]) -> bool) -> Vec<
         run = if again { 1 } else { run / 2 };
     }
     small
+}
+
+/// How many bytes all tries together may have, for nodes and for bytes each:
+/// some seconds. To the end, a large document would take hours.
+const BUDGET: usize = 500_000_000;
+
+/// Makes a failing document small. Whole nodes are left out first, as four
+/// lines with N lowered to match, so that what follows stays in its place;
+/// then bytes. A large document is made as small as the budget allows.
+pub fn shrink_document(document: &[u8], still_fails: impl Fn(&[u8]) -> bool) -> Vec<u8> {
+    let lines: Vec<&[u8]> = document.split_inclusive(|byte| *byte == b'\n').collect();
+    let Some((first, rest)) = lines.split_first() else {
+        return Vec::new();
+    };
+    let nodes: Vec<&[&[u8]]> = rest.chunks(4).collect();
+    let spell = |kept: &[&[&[u8]]]| {
+        let mut bytes = lowered(first, nodes.len() - kept.len());
+        bytes.extend(kept.concat().concat());
+        bytes
+    };
+    let spent = Cell::new(0);
+    let counted = |bytes: &[u8]| {
+        spent.set(spent.get() + bytes.len());
+        still_fails(bytes)
+    };
+    let affordable = || spent.get() < BUDGET;
+    let kept = shrink_while(&nodes, |kept| counted(&spell(kept)), affordable);
+    spent.set(0);
+    shrink_while(&spell(&kept), counted, affordable)
+}
+
+/// The first line with so many nodes less, or as it is if it has no number or
+/// too small a one.
+fn lowered(first: &[u8], less: usize) -> Vec<u8> {
+    let text = String::from_utf8_lossy(first);
+    let count = text
+        .strip_prefix("nodes=")
+        .and_then(|rest| rest.strip_suffix('\n'))
+        .and_then(|digits| digits.parse::<usize>().ok())
+        .and_then(|count| count.checked_sub(less));
+    match count {
+        Some(count) if less > 0 => format!("nodes={count}\n").into_bytes(),
+        _ => first.to_vec(),
+    }
 }

@@ -6,7 +6,8 @@ use lib.ListN.{getD}
 use lib.Seq.{slice}
 use native.Mathlib.Omega.{arith}
 use Rattle.lists.proofs.Numerals.{valueFrom, reading}
-use Rattle.fields.proofs.Laws.{reading-step, reading-end, ten-more, ten-small, digit-between}
+use Rattle.fields.proofs.Classes.{between-is}
+use Rattle.fields.proofs.Laws.{reading-step, reading-end, ten-more, ten-small}
 use Rattle.fields.proofs.value.Statement.{statement}
 use Rattle.fields.proofs.value.Tie as tie
 
@@ -31,17 +32,17 @@ shared-slice-read-n c = omega (arith, c .before .before .before .pre .inside)
 sub-n : tie.Need-sub-n Inv-loop μ-loop
 sub-n c =
     let l = c .before .before .loop in let p = c .before .before .before .pre in
-    let d = digit-between (getD (c .before .before .before .args .s .now) (l .i) 0) (p .digits (l .i) (l .inv .0) (omega arith)) in omega arith
+    let d = between-is 48 57 (getD (c .before .before .before .args .s .now) (l .i) 0) (p .digits (l .i) (l .inv .0) (omega arith)) in omega arith
 
 cast-n : tie.Need-cast-n Inv-loop μ-loop
 cast-n c =
     let l = c .before .before .loop in let p = c .before .before .before .pre in
-    let d = digit-between (getD (c .before .before .before .args .s .now) (l .i) 0) (p .digits (l .i) (l .inv .0) (omega arith)) in omega arith
+    let d = between-is 48 57 (getD (c .before .before .before .args .s .now) (l .i) 0) (p .digits (l .i) (l .inv .0) (omega arith)) in omega arith
 
 add-n : tie.Need-add-n Inv-loop μ-loop
 add-n c =
     let l = c .before .before .loop in let p = c .before .before .before .pre in
-    let d = digit-between (getD (c .before .before .before .args .s .now) (l .i) 0) (p .digits (l .i) (l .inv .0) (omega arith)) in
+    let d = between-is 48 57 (getD (c .before .before .before .args .s .now) (l .i) 0) (p .digits (l .i) (l .inv .0) (omega arith)) in
     let h = ten-small (l .n) (l .i - c .before .before .before .args .at) (l .inv .2) (omega (arith, p .few)) in omega arith
 
 add-i : tie.Need-add-i Inv-loop μ-loop
@@ -53,7 +54,7 @@ loop-less c = omega arith
 loop-again : tie.Need-loop-again Inv-loop μ-loop
 loop-again c =
     let l = c .before .before .loop in let p = c .before .before .before .pre in
-    let d = digit-between (getD (c .before .before .before .args .s .now) (l .i) 0) (p .digits (l .i) (l .inv .0) (omega arith)) in
+    let d = between-is 48 57 (getD (c .before .before .before .args .s .now) (l .i) 0) (p .digits (l .i) (l .inv .0) (omega arith)) in
     let s = c .before .before .before .args .s .now in let at = c .before .before .before .args .at in let end = c .before .before .before .args .end in (
       omega arith,
       omega arith,

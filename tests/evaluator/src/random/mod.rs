@@ -2,10 +2,12 @@
 
 mod damage;
 mod library;
+mod line_damage;
 mod rule;
 
 pub use damage::{damage_document, damage_rule};
-pub use library::library;
+pub use library::{any_library, library};
+pub use line_damage::damage_one_line;
 pub use rule::rule;
 
 /// The splitmix64 generator.
@@ -46,6 +48,11 @@ const VALUES: [&str; 6] = ["", "a", "heparin", "ab", "b", "~ !"];
 /// Up to so many bytes from 0x20 to 0x7E.
 fn printable(random: &mut Random, longest: usize) -> Vec<u8> {
     let length = random.below(longest + 1);
+    printable_of(random, length)
+}
+
+/// Just so many bytes from 0x20 to 0x7E.
+fn printable_of(random: &mut Random, length: usize) -> Vec<u8> {
     (0..length)
         .map(|_| 0x20 + random.below(0x5F) as u8)
         .collect()

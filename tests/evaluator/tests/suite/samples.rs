@@ -1,55 +1,8 @@
-//! Documents and shorthands that the tests share.
+//! Shorthands for accepted evaluations, beside the shared documents and rules.
 
-use evaluator::document::{spell, Kind, Library, Node};
+pub use evaluator::samples::{balanced, document, flat, steps, X};
+
 use evaluator::evaluate::{evaluate, needed_words, Evaluation, Outcome};
-
-/// Document X, letter by letter as the session in document 01 gives it.
-pub const X: &str = "nodes=5
-depth=0
-kind=e
-label=lib
-value=
-depth=1
-kind=e
-label=drug
-value=
-depth=2
-kind=a
-label=name
-value=heparin
-depth=1
-kind=e
-label=drug
-value=
-depth=2
-kind=a
-label=name
-value=heparin
-";
-
-/// The document of the given rows: kind, depth, label, value.
-pub fn document(rows: &[(char, usize, &str, &str)]) -> Vec<u8> {
-    let node = |&(kind, depth, label, value): &(char, usize, &str, &str)| Node {
-        depth,
-        kind: match kind {
-            'e' => Kind::Element,
-            'a' => Kind::Attribute,
-            _ => Kind::Text,
-        },
-        label: label.as_bytes().to_vec(),
-        value: value.as_bytes().to_vec(),
-    };
-    spell(&Library {
-        nodes: rows.iter().map(node).collect(),
-    })
-}
-
-/// A root with so many nodes in all, the others text directly inside it.
-pub fn flat(nodes: usize) -> Vec<u8> {
-    let mut rows = vec![('t', 1, "text", ""); nodes];
-    rows[0] = ('e', 0, "lib", "");
-    document(&rows)
-}
 
 /// An accepted snippet evaluation with buffers just large enough: the record
 /// and the numbers of the marked nodes.
@@ -72,17 +25,4 @@ pub fn run(document: &[u8], rule: &str) -> (Outcome, Vec<usize>) {
 /// The numbers of the nodes that a rule marks.
 pub fn marked(document: &[u8], rule: &str) -> Vec<usize> {
     run(document, rule).1
-}
-
-/// So many names joined by `|` two and two: 2 * names - 1 tests, not deep.
-pub fn balanced(names: usize) -> String {
-    match names {
-        1 => ":a".to_string(),
-        _ => format!("|{}{}", balanced(names / 2), balanced(names - names / 2)),
-    }
-}
-
-/// A path of so many steps with `.` before each but the last.
-pub fn steps(count: usize) -> String {
-    ".l".repeat(count - 1) + "l"
 }

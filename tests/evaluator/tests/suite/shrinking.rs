@@ -1,6 +1,9 @@
 //! The shrinker leaves only what a failure needs.
 
-use evaluator::shrink::shrink;
+use evaluator::document::{check, read, spell, BYTE_LIMIT};
+use evaluator::random::{any_library, Random};
+use evaluator::samples::document;
+use evaluator::shrink::{shrink, shrink_document};
 
 #[test]
 fn only_the_bytes_that_matter_are_left() {
@@ -19,4 +22,45 @@ fn an_input_that_needs_every_item_stays() {
 fn runs_may_go_where_no_single_item_may() {
     let fails = |items: &[i32]| items.len() % 2 == 1;
     assert_eq!(shrink(&[1, 2, 3, 4, 5, 6, 7], fails).len(), 1);
+}
+
+#[test]
+fn a_document_loses_whole_nodes_and_stays_accepted() {
+    let library = any_library(&mut Random::new(1), 200);
+    let large = |bytes: &[u8]| check(bytes).nodes >= 3;
+    let small = shrink_document(&spell(&library), large);
+    assert_eq!(check(&small).nodes, 3);
+    assert!(small.len() < 120, "{}", small.escape_ascii());
+}
+
+#[test]
+fn what_stands_behind_the_last_node_stays_there() {
+    let mut longer = spell(&any_library(&mut Random::new(2), 100));
+    longer.push(b'x');
+    let extra = |bytes: &[u8]| {
+        let record = check(bytes);
+        record.number == 2 && record.place > 5
+    };
+    let small = shrink_document(&longer, extra);
+    assert_eq!(check(&small).place, 6);
+    assert_eq!(
+        small.len(),
+        "nodes=1\ndepth=0\nkind=e\nlabel=a\nvalue=\nx".len()
+    );
+}
+
+#[test]
+fn a_document_that_needs_its_length_is_given_up_soon() {
+    let line = vec![b'x'; BYTE_LIMIT + 1];
+    let too_long = |bytes: &[u8]| check(bytes).number == 1;
+    assert_eq!(shrink_document(&line, too_long), line);
+}
+
+#[test]
+fn a_deep_chain_is_given_up_soon() {
+    // Only the last node can be left out, so that the end is far away.
+    let rows: Vec<_> = (0..4_096).map(|depth| ('e', depth, "a", "")).collect();
+    let deep = |bytes: &[u8]| read(bytes).is_ok_and(|library| library.nodes.len() > 10);
+    let small = shrink_document(&document(&rows), deep);
+    assert!(check(&small).nodes > 10);
 }

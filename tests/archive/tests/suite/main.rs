@@ -1,0 +1,10 @@
+//! The proved functions in the archive against the independent evaluator.
+//!
+//! The proof holds of the source; these tests run what was compiled from it,
+//! through the calling convention that other languages use.
+
+mod agreement;
+mod every_small_change;
+mod fixed_documents;
+mod large_documents;
+mod random_documents;

@@ -1,0 +1,67 @@
+//! Documents and shorthands for rules that the tests share, also those of
+//! other packages.
+
+pub mod documents;
+
+use crate::document::{spell, Kind, Library, Node};
+
+/// Document X, letter by letter as the session in document 01 gives it.
+pub const X: &str = "nodes=5
+depth=0
+kind=e
+label=lib
+value=
+depth=1
+kind=e
+label=drug
+value=
+depth=2
+kind=a
+label=name
+value=heparin
+depth=1
+kind=e
+label=drug
+value=
+depth=2
+kind=a
+label=name
+value=heparin
+";
+
+/// The document of the given rows: kind, depth, label, value.
+pub fn document(rows: &[(char, usize, &str, &str)]) -> Vec<u8> {
+    let node = |&(kind, depth, label, value): &(char, usize, &str, &str)| Node {
+        depth,
+        kind: match kind {
+            'e' => Kind::Element,
+            'a' => Kind::Attribute,
+            _ => Kind::Text,
+        },
+        label: label.as_bytes().to_vec(),
+        value: value.as_bytes().to_vec(),
+    };
+    spell(&Library {
+        nodes: rows.iter().map(node).collect(),
+    })
+}
+
+/// A root with so many nodes in all, the others text directly inside it.
+pub fn flat(nodes: usize) -> Vec<u8> {
+    let mut rows = vec![('t', 1, "text", ""); nodes];
+    rows[0] = ('e', 0, "lib", "");
+    document(&rows)
+}
+
+/// So many names joined by `|` two and two: 2 * names - 1 tests, not deep.
+pub fn balanced(names: usize) -> String {
+    match names {
+        1 => ":a".to_string(),
+        _ => format!("|{}{}", balanced(names / 2), balanced(names - names / 2)),
+    }
+}
+
+/// A path of so many steps with `.` before each but the last.
+pub fn steps(count: usize) -> String {
+    ".l".repeat(count - 1) + "l"
+}
