@@ -1,8 +1,8 @@
 // The document check: any bytes get the verdict of numbers 1 to 4 of document 01.
-mod entries;
+pub mod entries;
 mod lines;
 mod nodes;
-mod rules;
+pub mod rules;
 
 use fields::Numeral;
 use fields::number_line;
