@@ -1,7 +1,8 @@
 // What C and Rust call: numbers pass as themselves, and a slice as a pointer and a length.
 use document::Verdict;
 ghost use mathlib.Core.Path.{_≡_};
-ghost use Rattle.exports.specs.Answers.{answerOf};
+ghost use Rattle.exports.specs.Answers.{answerOf, ruleAnswerOf};
+ghost use Rattle.grammar.specs.Verdict as Grammar;
 ghost use Rattle.library.specs.Verdict.{Checked};
 
 // What the document check returns: number, place and N.
@@ -50,4 +51,50 @@ pub extern "C" fn yurzhoad_check_document(document: &[u8]) -> DocumentAnswer
     ensures { λ r. ⌜ Checked (now (document .entry)) (r .number) (r .place) (r .nodes) ⌝ }
 {
     document_answer(document::check(document))
+}
+
+// What the rule check returns: number and place.
+#[repr(C)]
+pub struct RuleAnswer {
+    pub number: u16,
+    pub place: usize,
+}
+
+fn rule_answer(v: rule::Verdict) -> RuleAnswer
+    ensures { λ r. ⌜ r ≡ ruleAnswerOf v ⌝ }
+{
+    match v {
+        rule::Verdict::Accepted => RuleAnswer {
+            number: 0,
+            place: 0,
+        },
+        rule::Verdict::Length => RuleAnswer {
+            number: 5,
+            place: 0,
+        },
+        rule::Verdict::Unreadable(offset) => RuleAnswer {
+            number: 6,
+            place: offset,
+        },
+        rule::Verdict::Nesting(offset) => RuleAnswer {
+            number: 7,
+            place: offset,
+        },
+        rule::Verdict::Tests(offset) => RuleAnswer {
+            number: 8,
+            place: offset,
+        },
+        rule::Verdict::Steps(offset) => RuleAnswer {
+            number: 9,
+            place: offset,
+        },
+    }
+}
+
+// Judges a rule by numbers 5 to 9.
+#[no_mangle]
+pub extern "C" fn yurzhoad_check_rule(rule: &[u8]) -> RuleAnswer
+    ensures { λ r. ⌜ Grammar.Checked (now (rule .entry)) (r .number) (r .place) ⌝ }
+{
+    rule_answer(rule::check(rule))
 }

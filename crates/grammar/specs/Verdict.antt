@@ -5,7 +5,7 @@ use mathlib.Core.List.{List, _∷_, _++_}
 use lib.ListN.{length, take}
 use Rattle.limits.specs.Limits.{ruleBytes, ruleNesting, ruleTests, comparisonSteps}
 use Rattle.lists.specs.Lists.{Occurs}
-use Rattle.refusals.specs.Refusals.{Refusal, ruleLength, unreadable, nesting}
+use Rattle.refusals.specs.Refusals.{Refusal, ruleLength, unreadable, nesting, number, place, First}
 use Rattle.refusals.specs.Refusals as Refusals
 use Rattle.xpath.specs.Syntax.{Test}
 use Rattle.grammar.specs.Spelling.{spellTest, LegalTest}
@@ -87,3 +87,8 @@ module _ (s : List ℕ) where
     pub shallow : (p : Part) → Occurs p (parts T) → p .nesting ≤ ruleNesting
     pub few : length (tests (parts T)) ≤ ruleTests
     pub light : (p : Part) → Occurs p (parts T) → ¬ Heavy p
+
+  -- what the rule check returns, by number and place: the first ground, or no number and no place
+  pub record Checked (n p : ℕ) : Type 0 where
+    pub refused : (r : Refusal) → First RuleGround r → (n ≡ number r) × (p ≡ place r)
+    pub accepted : (T : Test) → Accepts T → (n ≡ 0) × (p ≡ 0)

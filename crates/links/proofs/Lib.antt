@@ -1,0 +1,5 @@
+pub mod Wrote
+pub mod Cells
+pub mod Upto
+pub mod Building
+pub mod Linked

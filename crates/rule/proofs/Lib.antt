@@ -1,0 +1,11 @@
+pub mod Tallied
+pub mod Joins
+pub mod Places
+pub mod Words
+pub mod Halted
+pub mod Firsts
+pub mod Tests
+pub mod Paths
+pub mod Operands
+pub mod Counted
+pub mod Verdicts

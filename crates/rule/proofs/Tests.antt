@@ -1,0 +1,144 @@
+-- The readers of tests: what they may conclude from what stands inside.
+use Prim.Native.Nat.{ℕ, suc, _+_}
+use native.Mathlib.Omega.{arith}
+use native.Mathlib.Numerals.{add-one}
+use mathlib.Core.Path.{_≡_, refl, sym, ap, ap₂, _∙_, subst, subst₂}
+use mathlib.Core.Logic.{inl, inr, ⊎-elim}
+use mathlib.Core.Option.{some}
+use mathlib.Core.List.{List, [], _∷_, _++_, append-nil}
+use lib.ListN.{length, length-append}
+use Rattle.xpath.specs.Syntax.{Op, Test, named, not, and, or, XPath, size}
+use Rattle.grammar.specs.Spelling.{sign, spellTest, spellPath}
+use Rattle.grammar.specs.Parts.{Part, Sort, testParts, pathParts}
+use Rattle.grammar.proofs.Machine.{test, path, label, signed, move, comparing, Operand, Answer, Key}
+use Rattle.grammar.proofs.Reading.{spellOperand}
+use Rattle.rule.specs.declared.tally.Tally.{Tally}
+use Rattle.rule.specs.declared.readers.Read.{Read}
+use Rattle.rule.specs.declared.heads.TestHead.the-variants.{Name, Not, TwoTests}
+use Rattle.rule.specs.Tallies.{begun, weighed, noted, tallied}
+use Rattle.rule.specs.Readers.{partsOf, sizeOf, Stands, Opened, Back, Halts, Reading}
+use Rattle.rule.specs.Heads.{TestBegins}
+use Rattle.rule.proofs.Tallied.{tallied-append, weighed-last}
+use Rattle.rule.proofs.Joins.{Lead, LeadParts, lead-reads, Fork, ForkParts, first-halts, second-halts, both, fork-reads, back-as}
+
+-- the part that begins at i
+abbrev pub only : ℕ → Sort → ℕ → List Part
+only n x i = record { offset = i; nesting = n; sort = x } ∷ []
+
+-- ── :name and !T ──
+name-lead : (n : ℕ) → Lead (test n) label 58 (some n)
+unfolding move
+name-lead n = record { join = named; moves = λ st. refl }
+
+name-parts : (n : ℕ) → LeadParts (only n Sort.test) (test n) label named
+unfolding testParts spellTest
+name-parts n = record { parts = λ v i. refl; wide = λ v. refl; size = λ v. refl }
+
+not-lead : (n : ℕ) → Lead (test n) (test (suc n)) 33 (some n)
+unfolding move
+not-lead n = record { join = not; moves = λ st. refl }
+
+not-parts : (n : ℕ) → LeadParts (only n Sort.test) (test n) (test (suc n)) not
+unfolding testParts spellTest
+not-parts n = record { parts = λ v i. refl; wide = λ v. refl; size = λ v. refl }
+
+-- ── &TT and |TT ──
+and-fork : (n : ℕ) → Fork (test n) (test (suc n)) (test (suc n)) 38 (some n)
+unfolding move
+and-fork n = record { join = and; moves = λ st. refl }
+
+or-fork : (n : ℕ) → Fork (test n) (test (suc n)) (test (suc n)) 124 (some n)
+unfolding move
+or-fork n = record { join = or; moves = λ st. refl }
+
+and-parts : (n : ℕ) → ForkParts (only n Sort.test) 0 (test n) (test (suc n)) (test (suc n)) and
+unfolding testParts spellTest
+and-parts n = record { parts = λ v w i. refl; wide = λ v w. ap suc (length-append (spellTest v) (spellTest w)); size = λ v w. refl }
+
+or-parts : (n : ℕ) → ForkParts (only n Sort.test) 0 (test n) (test (suc n)) (test (suc n)) or
+unfolding testParts spellTest
+or-parts n = record { parts = λ v w i. refl; wide = λ v w. ap suc (length-append (spellTest v) (spellTest w)); size = λ v w. refl }
+
+-- ── (P o P) and (P o "c") ──
+compare-fork : (n : ℕ) → Fork (test n) (path (suc n)) (signed (suc n)) 40 (some n)
+unfolding move
+compare-fork n = record { join = λ P v. comparing P (v .0) (v .1); moves = λ st. refl }
+
+compare-parts : (P : XPath) (o : Op) (w : Operand) (i n : ℕ)
+    → testParts (comparing P o w) i n
+    ≡ only n (Sort.comparison (size P + sizeOf (signed (suc n)) (o, w))) i ++ (pathParts P (suc i) (suc n) ++ partsOf (signed (suc n)) (o, w) (suc i + length (spellPath P)))
+unfolding testParts
+compare-parts P o (inl Q) i n = refl
+compare-parts P o (inr c) i n =
+    let e : size P ≡ size P + 0 = omega arith in
+    ap₂ (λ m ps. only n (Sort.comparison m) i ++ ps) e (sym (append-nil (pathParts P (suc i) (suc n))))
+
+compare-wide : (P : XPath) (o : Op) (w : Operand) → length (spellTest (comparing P o w)) ≡ suc (length (spellPath P) + (length (sign o) + length (spellOperand w)))
+unfolding spellTest
+compare-wide P o (inl Q) =
+    let a = length-append (spellPath P) (sign o ++ spellOperand (inl Q)) in let b = length-append (sign o) (spellOperand (inl Q)) in omega arith
+compare-wide P o (inr c) =
+    let a = length-append (spellPath P) (sign o ++ spellOperand (inr c)) in let b = length-append (sign o) (spellOperand (inr c)) in omega arith
+
+module _ (s : List ℕ) {i n : ℕ} where
+  pub name-reads : TestBegins s i n Name → (k : ℕ) (t : Tally) (r : Read) → Reading s label (i + 1) k (begun t i) r → Reading s (test n) i k t r
+  unfolding name-lead noted tallied
+  name-reads (b, e, h, l) k t r d =
+      lead-reads s (some n) (subst (Stands s i) e h) (l, tt) (name-lead n) (only n Sort.test) refl (name-parts n) k t r
+      (subst (λ j. Reading s label j k (begun t i) r) (add-one i) d)
+
+  pub not-reads : TestBegins s i n Not → (k : ℕ) (t : Tally) (r : Read) → Reading s (test (n + 1)) (i + 1) k (begun t i) r → Reading s (test n) i k t r
+  unfolding not-lead noted tallied
+  not-reads (b, e, h, l) k t r d =
+      lead-reads s (some n) (subst (Stands s i) e h) (l, tt) (not-lead n) (only n Sort.test) refl (not-parts n) k t r
+      (subst₂ (λ m j. Reading s (test m) j k (begun t i) r) (add-one n) (add-one i) d)
+
+  pub two-halts : TestBegins s i n TwoTests → (E : List Key → Answer Test → Type 0) → Halts s E (test (n + 1)) (i + 1) → Halts s E (test n) i
+  two-halts (b, e, h, l) E d =
+      let d′ = subst₂ (λ m j. Halts s E (test m) j) (add-one n) (add-one i) d in
+      ⊎-elim (λ e. first-halts s (some n) (subst (Stands s i) e h) (l, tt) (and-fork n) E d′) (λ e. first-halts s (some n) (subst (Stands s i) e h) (l, tt) (or-fork n) E d′) e
+
+  pub two-reads : TestBegins s i n TwoTests → (k : ℕ) (t : Tally) {j l : ℕ} {u : Tally} → Back s (test (n + 1)) (i + 1) k (begun t i) j l u
+      → (r : Read) → Reading s (test (n + 1)) j l u r → Reading s (test n) i k t r
+  unfolding and-fork or-fork noted tallied
+  two-reads (b, e, h, low) k t {j} {l} {u} c r d =
+      let same : k ≡ k + 0 = omega arith in
+      let c′ = subst₂ (λ m a. Back s (test m) (suc i) a (begun t i) j l u) (add-one n) same (subst (λ a. Back s (test (n + 1)) a k (begun t i) j l u) (add-one i) c) in
+      let d′ = subst (λ m. Reading s (test m) j l u r) (add-one n) d in
+      ⊎-elim (λ e. fork-reads s (some n) (subst (Stands s i) e h) (low, tt) (and-fork n) (only n Sort.test) refl 0 (and-parts n) k t c′ r d′)
+      (λ e. fork-reads s (some n) (subst (Stands s i) e h) (low, tt) (or-fork n) (only n Sort.test) refl 0 (or-parts n) k t c′ r d′) e
+
+  -- ── Comparisons ──
+  module _ {k : ℕ} (o : Opened s i n k) where
+    pub first-path : (E : List Key → Answer Test → Type 0) → Halts s E (path (n + 1)) (i + 1) → Halts s E (test n) i
+    first-path E d = first-halts s (some n) (o .bracket) (o .nested, tt) (compare-fork n) E (subst₂ (λ m j. Halts s E (path m) j) (add-one n) (add-one i) d)
+
+    module _ (t : Tally) {j l : ℕ} {u : Tally} (c : Back s (path (n + 1)) (i + 1) 0 (begun t i) j l u) where
+      first-back : Back s (path (suc n)) (suc i) 0 (begun t i) j l u
+      first-back = subst₂ (λ m a. Back s (path m) a 0 (begun t i) j l u) (add-one n) (add-one i) c
+
+      pub rest-halts : (E : List Key → Answer Test → Type 0) → Halts s E (signed (n + 1)) j → Halts s E (test n) i
+      rest-halts E d = second-halts s (some n) (o .bracket) (o .nested, tt) (compare-fork n) first-back E (subst (λ m. Halts s E (signed m) j) (add-one n) d)
+
+      pub compare-back : {j₂ m : ℕ} {v : Tally} → Back s (signed (n + 1)) j l u j₂ m v → Back s (test n) i k t j₂ k (weighed v i m)
+      unfolding compare-fork noted tallied
+      compare-back {j₂} {m} {v} d =
+          let c′ = first-back in
+          let d′ = subst (λ x. Back s (signed x) j l u j₂ m v) (add-one n) d in
+          let P = c′ .value in
+          let w = d′ .value in
+          let one = pathParts P (suc i) (suc n) in
+          let two = partsOf (signed (suc n)) w j in
+          let M = size P + sizeOf (signed (suc n)) w in
+          let new = only n (Sort.comparison M) i in
+          let q = both s (some n) (o .bracket) (o .nested, tt) (compare-fork n) c′ new refl d′ in
+          let wide = compare-wide P (w .0) (w .1) in
+          let a₁ = c′ .forth in let a₂ = c′ .long in let a₃ = c′ .steps in
+          let b₁ = d′ .forth in let b₂ = d′ .long in let b₃ = d′ .steps in
+          let few = o .few in
+          let sum : m ≡ M = omega arith in
+          let whole : v ≡ tallied (begun t i) (one ++ two) = d′ .kept ∙ ap (λ x. tallied x two) (c′ .kept) ∙ sym (tallied-append one two (begun t i)) in
+          back-as s (comparing P (w .0) (w .1)) (new ++ (one ++ two))
+          (compare-parts P (w .0) (w .1) i n ∙ ap (λ a. new ++ (one ++ partsOf (signed (suc n)) w a)) (sym (c′ .long)))
+          (omega arith) (d′ .inside) (omega arith) (q .shallow) (q .returns) (omega arith) (omega arith)
+          (ap₂ (λ x y. weighed x i y) whole sum ∙ weighed-last (one ++ two) (begun t i) i M)

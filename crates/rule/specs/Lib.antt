@@ -1,0 +1,4 @@
+pub mod Tallies
+pub mod Readers
+pub mod Heads
+pub mod Check

@@ -1,0 +1,116 @@
+// The readers of tests and paths call each other, and what is left of the rule falls.
+// Each is given the offset, the nesting, the steps of the comparison so far, and the tally.
+use crate::heads::PathHead;
+use crate::heads::TestHead;
+use crate::heads::path_head;
+use crate::heads::test_head;
+use crate::tally::Tally;
+use crate::tally::begin;
+use crate::tally::weigh;
+use crate::tokens::Sign;
+use crate::tokens::closing;
+use crate::tokens::constant;
+use crate::tokens::name;
+use crate::tokens::read_sign;
+use crate::tokens::stands;
+ghost use Rattle.grammar.proofs.Machine.{test, path, signed, operand};
+ghost use Rattle.rule.specs.Readers.{Due, Opened, Reading};
+
+// Behind the part: the offset, the steps and the tally. Or where no rule goes on so, or where a part too deep begins.
+pub enum Read {
+    Behind(usize, usize, Tally),
+    Stuck(usize),
+    Deep(usize),
+}
+
+pub fn read_test(s: &[u8], at: usize, n: usize, k: usize, t: Tally) -> Read
+    requires { ⌜ Due (now s) at n k ⌝ }
+    ensures { λ r. ⌜ Reading (now (s .entry)) (test n) at k t r ⌝ }
+{
+    let h = test_head(s, at, n);
+    let u = begin(t, at);
+    match h {
+        TestHead::Name => name(s, at + 1, k, u),
+        TestHead::Not => read_test(s, at + 1, n + 1, k, u),
+        TestHead::TwoTests => {
+            let r = read_test(s, at + 1, n + 1, k, u);
+            let Read::Behind(j, l, v) = r else {
+                return r;
+            };
+            read_test(s, j, n + 1, l, v)
+        }
+        TestHead::Comparison => comparison(s, at, n, k, t),
+        TestHead::NoTest => Read::Stuck(at),
+        TestHead::DeepTest => Read::Deep(at),
+    }
+}
+
+// A comparison from its opening bracket on; its steps are counted from 0.
+fn comparison(s: &[u8], at: usize, n: usize, k: usize, t: Tally) -> Read
+    requires { ⌜ Opened (now s) at n k ⌝ }
+    ensures { λ r. ⌜ Reading (now (s .entry)) (test n) at k t r ⌝ }
+{
+    let p = read_path(s, at + 1, n + 1, 0, begin(t, at));
+    let Read::Behind(j, l, u) = p else {
+        return p;
+    };
+    let q = signed_operand(s, j, n + 1, l, u);
+    let Read::Behind(i, m, v) = q else {
+        return q;
+    };
+    Read::Behind(i, k, weigh(v, at, m))
+}
+
+fn signed_operand(s: &[u8], at: usize, n: usize, k: usize, t: Tally) -> Read
+    requires { ⌜ Due (now s) at n k ⌝ }
+    ensures { λ r. ⌜ Reading (now (s .entry)) (signed n) at k t r ⌝ }
+{
+    let o = read_sign(s, at);
+    match o {
+        Sign::Passed(i) => second_operand(s, i, n, k, t),
+        Sign::NoSign(j) => Read::Stuck(j),
+    }
+}
+
+// A path or a constant, and the bracket that ends the comparison.
+fn second_operand(s: &[u8], at: usize, n: usize, k: usize, t: Tally) -> Read
+    requires { ⌜ Due (now s) at n k ⌝ }
+    ensures { λ r. ⌜ Reading (now (s .entry)) (operand n) at k t r ⌝ }
+{
+    if stands(s, at, 34) {
+        return constant(s, at, k, t);
+    }
+    let p = read_path(s, at, n, k, t);
+    let Read::Behind(j, l, u) = p else {
+        return p;
+    };
+    closing(s, j, 41, l, u)
+}
+
+pub fn read_path(s: &[u8], at: usize, n: usize, k: usize, t: Tally) -> Read
+    requires { ⌜ Due (now s) at n k ⌝ }
+    ensures { λ r. ⌜ Reading (now (s .entry)) (path n) at k t r ⌝ }
+{
+    let h = path_head(s, at, n);
+    match h {
+        PathHead::Empty => Read::Behind(at + 1, k, t),
+        PathHead::Step => Read::Behind(at + 1, k + 1, t),
+        PathHead::Bracket => {
+            let r = read_test(s, at + 1, n + 1, k + 1, t);
+            let Read::Behind(j, l, u) = r else {
+                return r;
+            };
+            closing(s, j, 93, l, u)
+        }
+        PathHead::TwoPaths => {
+            let r = read_path(s, at + 1, n + 1, k, t);
+            let Read::Behind(j, l, u) = r else {
+                return r;
+            };
+            read_path(s, j, n + 1, l, u)
+        }
+        PathHead::Star => read_path(s, at + 1, n + 1, k, t),
+        PathHead::NoPath => Read::Stuck(at),
+        PathHead::DeepPath => Read::Deep(at),
+    }
+}
