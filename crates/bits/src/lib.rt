@@ -1,5 +1,5 @@
 // Sets of positions below 16, as the bits of a u16: 01, "its size is the number of ones in it".
-mod square;
+pub mod square;
 
 ghost use mathlib.Core.Path.{_≡_};
 ghost use Prim.Native.Nat.{ℕ, _<_};

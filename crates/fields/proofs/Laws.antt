@@ -15,7 +15,7 @@ use Rattle.lists.specs.Lists.{All}
 use Rattle.fields.specs.declared.Ending.the-variants.{Next, Bad}
 use Rattle.fields.specs.declared.Class.{Class}
 use Rattle.fields.proofs.Classes.{lf-out}
-use Rattle.fields.specs.Reading.{Ended, inClass, Run}
+use Rattle.fields.specs.Reading.{Ended, inClass, AllIn, Run}
 
 -- what holds at each index holds of all of a list
 pub all-at : (B : ℕ → Type 0) (l : List ℕ) → ((j : ℕ) → j < length l → B (getD l j 0)) → All B l
@@ -27,7 +27,7 @@ at-all B [] a j r = absurd (omega arith)
 at-all B (x ∷ l) a zero r = a .0
 at-all B (x ∷ l) a (suc j) r = at-all B l (a .1) j (omega arith)
 
-module _ (s : List ℕ) (at i : ℕ) (k : Class) (most : ℕ) (from : at ≤ i) (passed : (j : ℕ) → at ≤ j → j < i → T (inClass k (getD s j 0))) where
+module _ (s : List ℕ) (at i : ℕ) (k : Class) (most : ℕ) (from : at ≤ i) (passed : AllIn k s at i) where
   -- the LF at i ends the run
   pub run-ends : i < length s → getD s i 0 ≡ 10 → i - at ≤ most → Ended (Run k most) s at (Next (i + 1))
   run-ends r e h =
@@ -82,13 +82,6 @@ module _ (s : List ℕ) (at i : ℕ) (k : Class) (most : ℕ) (from : at ≤ i) 
           let z : at + (i - at) ≡ i = omega arith in
           subst T e (subst (λ x. T (inClass k (getD s x 0))) z (f (i - at) (omega arith)))
       go m p h f (no r) = let z : at + m ≡ i = omega arith in ne (subst (λ x. getD s x 0 ≡ 10) z h)
-
-  pub run-more : T (inClass k (getD s i 0)) → (j : ℕ) → at ≤ j → j < i + 1 → T (inClass k (getD s j 0))
-  run-more h j p q = go (decLt j i)
-    where
-      go : Dec (j < i) → T (inClass k (getD s j 0))
-      go (yes r) = passed j p r
-      go (no r) = let z : i ≡ j = omega arith in subst (λ x. T (inClass k (getD s x 0))) z h
 
 -- ── Numerals ──
 -- reading a byte more: what was read so far, times ten, plus the digit

@@ -1,5 +1,5 @@
 -- What the readers of a line answer: the bytes from an offset on are some field and what is behind it, or no field of this form begins there.
-use Prim.Native.Nat.{ℕ, _+_, _^_, _≤_, _<_}
+use Prim.Native.Nat.{ℕ, _+_, _-_, _^_, _≤_, _<_}
 use mathlib.Core.Path.{_≡_}
 use mathlib.Core.Bool.{Bool, _&&_, _||_}
 use mathlib.Core.List.{List, _++_}
@@ -33,6 +33,17 @@ inClass Digit b = isBetween 48 57 b
 inClass Label b = eqb b 45 || (isBetween 48 57 b || isBetween 97 122 b)
 inClass Text b = isBetween 0x20 0x7e b
 
+-- the bytes from i up to j belong to a class
+abbrev pub AllIn : Class → List ℕ → ℕ → ℕ → Type 0
+AllIn k s i j = (m : ℕ) → i ≤ m → m < j → T (inClass k (getD s m 0))
+
+-- from i up to j stand bytes of a class, at most so many
+pub record Passed (k : Class) (most : ℕ) (s : List ℕ) (i j : ℕ) : Type 0 where
+  pub from : i ≤ j
+  pub inside : j ≤ length s
+  pub short : j - i ≤ most
+  pub fits : AllIn k s i j
+
 -- at most so many bytes of a class, and the LF that ends their line
 pub record Run (k : Class) (most : ℕ) (l : List ℕ) : Type 0 where
   pub field : List ℕ
@@ -45,7 +56,7 @@ pub record Digits (s : List ℕ) (i j : ℕ) : Type 0 where
   pub from : i ≤ j
   pub inside : j ≤ length s
   pub few : j ≤ i + 5
-  pub digits : (m : ℕ) → i ≤ m → m < j → T (inClass Digit (getD s m 0))
+  pub digits : AllIn Digit s i j
 
 -- the bytes from i up to j begin with a zero and go on
 abbrev pub zeroLed : List ℕ → ℕ → ℕ → Bool

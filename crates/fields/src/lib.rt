@@ -1,4 +1,7 @@
 // Readers of one field of a line, at an offset of the document.
+mod blocks;
+
+use blocks::pass;
 ghost use mathlib.Core.Path.{_≡_};
 ghost use Prim.Native.Nat.{ℕ, _+_, _≤_, _<_};
 ghost use lib.ListN.{length, getD};
@@ -55,7 +58,7 @@ pub fn run(s: &[u8], at: usize, k: Class, most: usize) -> Ending
     requires { ⌜ at ≤ length (now s) ⌝ }
     ensures { λ r. ⌜ Ended (Run k most) (now (s .entry)) at r ⌝ }
 {
-    let mut i = at;
+    let mut i = pass(s, at, k, most);
     while i < s.len() {
         let b = s[i];
         if b == 10 {
