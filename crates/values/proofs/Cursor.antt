@@ -3,7 +3,7 @@ use Prim.Native.Nat.{ℕ, suc, _+_, _-_, _≤_, _<_}
 use mathlib.Core.Path.{_≡_, refl, sym, ap, _∙_}
 use mathlib.Core.List.{List, [], _∷_, _++_, append-nil}
 use lib.ListN.{length, getD, take, drop, length-take, drop-of-length-le}
-use lib.Seq.{slice, slice-cons, length-slice, take-all, take-length}
+use lib.Seq.{slice, slice-cons, length-slice}
 use native.Mathlib.Omega.{arith}
 use native.Mathlib.Numerals.{add-one}
 use Rattle.limits.specs.Limits.{valueBytes}
@@ -21,10 +21,6 @@ use Rattle.values.specs.declared.reading.Reading.{Reading}
 use Rattle.values.specs.Comes.{Lies, Comes, weight, Filled, Split}
 
 -- ── Spans ──
--- nothing stands behind the end
-pub cut-off : (s : List ℕ) (f t : ℕ) → length s ≤ t → slice f (length s) s ≡ slice f t s
-cut-off s f t h = ap (drop f) (take-length s ∙ sym (take-all t s h))
-
 pub used-up : (s : List ℕ) (f t : ℕ) → t ≤ f → slice f t s ≡ []
 used-up s f t h = drop-of-length-le (take t s) {i = f} (omega (arith, length-take t s))
 
@@ -60,6 +56,10 @@ module _ (ns : List Library.Node) (v : ℕ) where
 module _ {s : List ℕ} {ns : List Library.Node} where
   pub kind-is : {v : ℕ} {e : Entry} {k : Kind} → IsEntry s ns v e → e .kind ≡ k → at ns v .kind ≡ kindOf k
   kind-is h f = sym (h .kind) ∙ ap kindOf f
+
+  -- the value of an entry lies in the document
+  pub value-lies : {v : ℕ} {e : Entry} {bs : List ℕ} → IsEntry s ns v e → at ns v .value ≡ bs → Lies s (e .value) bs
+  value-lies h e = record { within = omega (arith, h .ends, h .behind .inside); bytes = h .value ∙ e }
 
   -- ── The beginning of a value ──
   pub alone-comes : (p : Span) {bs : List ℕ} → Accepts s ns → Lies s p bs → Comes s ns (record { from = p .from; to = p .to; next = 0; left = 0; depth = 0 }) bs

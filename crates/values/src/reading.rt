@@ -7,7 +7,6 @@ ghost use mathlib.Core.List.{List};
 ghost use mathlib.Core.Path.{_≡_};
 ghost use Prim.Native.Nat.{ℕ, suc, _+_, _≤_, _<_};
 ghost use lib.ListN.{length};
-ghost use lib.Seq.{slice};
 ghost use Rattle.library.specs.Library as Library;
 ghost use Rattle.library.specs.Library.{at};
 ghost use Rattle.library.specs.Binary.{textOf, stringOf};
@@ -31,27 +30,12 @@ pub enum Byte {
     End,
 }
 
-// The bytes of a span, cut off where the document ends, so that each of them can be read.
-fn inside(s: &[u8], p: Span) -> Span
-    ensures { λ r. ⌜ Lies (now (s .entry)) r (slice (p .from) (p .to) (now (s .entry))) ⌝ }
-{
-    let n = s.len();
-    if n < p.to {
-        return Span {
-            from: p.from,
-            to: n,
-        };
-    }
-    p
-}
-
 // The text that a node gives to the value of an element around it: only a text node gives any.
-fn text_of(s: &[u8], e: Entry) -> Span
-    ensures { λ r. ⌜ ((ns : List Library.Node) (v : ℕ) → IsEntry (now (s .entry)) ns v e → Lies (now (s .entry)) r (textOf (at ns v))) ⌝ }
+fn text_of(e: Entry) -> Span
+    ensures { λ r. ⌜ ((s : List ℕ) (ns : List Library.Node) (v : ℕ) → IsEntry s ns v e → Lies s r (textOf (at ns v))) ⌝ }
 {
     let k = e.kind;
-    let v = e.value;
-    let p = inside(s, v);
+    let p = e.value;
     let none = Span { from: 0, to: 0 };
     match k {
         Kind::Element => none,
@@ -61,13 +45,12 @@ fn text_of(s: &[u8], e: Entry) -> Span
 }
 
 // The bytes of a span, and nothing behind them.
-fn alone(s: &[u8], p: Span) -> Reading
-    ensures { λ r. ⌜ ((ns : List Library.Node) → Accepts (now (s .entry)) ns → Comes (now (s .entry)) ns r (slice (p .from) (p .to) (now (s .entry)))) ⌝ }
+fn alone(p: Span) -> Reading
+    ensures { λ r. ⌜ ((s : List ℕ) (ns : List Library.Node) (bs : List ℕ) → Accepts s ns → Lies s p bs → Comes s ns r bs) ⌝ }
 {
-    let q = inside(s, p);
     Reading {
-        from: q.from,
-        to: q.to,
+        from: p.from,
+        to: p.to,
         next: 0,
         left: 0,
         depth: 0,
@@ -90,8 +73,8 @@ pub fn open(s: &[u8], at: usize, left: usize) -> Reading
             left,
             depth: e.depth,
         },
-        Kind::Attribute => alone(s, p),
-        Kind::Text => alone(s, p),
+        Kind::Attribute => alone(p),
+        Kind::Text => alone(p),
     }
 }
 
@@ -110,7 +93,7 @@ fn onward(s: &[u8], c: Reading) -> Reading
             depth: 0,
         };
     }
-    let t = text_of(s, e);
+    let t = text_of(e);
     Reading {
         from: t.from,
         to: t.to,

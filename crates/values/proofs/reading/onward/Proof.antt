@@ -27,7 +27,7 @@ returns-2 c =
     let t = c .before .text-of in
     λ ns bs h.
     let ie = e .ensures ns (h .node) (stands h more) in
-    let l = t .ensures ns (h .node) ie in
+    let l = t .ensures _ ns (h .node) ie in
     let d = c .before .before .if1 .left in
     (onward-in h (e .result) used more ie (t .result) d l, onward-lighter h (e .result) used more ie (t .result) d l)
 

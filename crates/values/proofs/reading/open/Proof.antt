@@ -1,7 +1,7 @@
 -- `values::reading::open` meets its contract.
-use mathlib.Core.Path.{sym, _∙_, subst}
-use Rattle.values.specs.Comes.{Comes}
-use Rattle.values.proofs.Cursor.{element-comes, attribute-value, text-value, kind-is}
+use mathlib.Core.Path.{sym}
+use Rattle.library.specs.Binary.{stringOf}
+use Rattle.values.proofs.Cursor.{element-comes, attribute-value, text-value, kind-is, value-lies}
 use borrow.Author.Needs.{needs}
 use Rattle.values.proofs.reading.open.Statement.{statement}
 use Rattle.values.proofs.reading.open.Tie as tie
@@ -33,19 +33,17 @@ returns c =
 
 returns-2 : tie.Need-returns-2
 returns-2 c =
-    let x = c .before .before .before .before .before .before .args in
     let e = c .before .before .before .before .read-entry in
     λ ns v a b.
     let h = e .ensures ns v a in
-    subst (λ bs. Comes (x .s .now) ns (c .alone .result) bs) (h .value ∙ sym (attribute-value ns v (kind-is h (c .before .enum-told2 .given .1)))) (c .alone .ensures ns (a .accepts))
+    c .alone .ensures _ ns (stringOf ns v) (a .accepts) (value-lies h (sym (attribute-value ns v (kind-is h (c .before .enum-told2 .given .1)))))
 
 returns-3 : tie.Need-returns-3
 returns-3 c =
-    let x = c .before .before .before .before .before .before .args in
     let e = c .before .before .before .before .read-entry in
     λ ns v a b.
     let h = e .ensures ns v a in
-    subst (λ bs. Comes (x .s .now) ns (c .alone2 .result) bs) (h .value ∙ sym (text-value ns v (kind-is h (c .before .enum-told3 .given .1)))) (c .alone2 .ensures ns (a .accepts))
+    c .alone2 .ensures _ ns (stringOf ns v) (a .accepts) (value-lies h (sym (text-value ns v (kind-is h (c .before .enum-told3 .given .1)))))
 
 pub open-spec : {M : Type 1} → statement M
 open-spec =
