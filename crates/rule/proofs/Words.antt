@@ -16,7 +16,7 @@ use Rattle.lists.specs.Text.{Letter}
 use Rattle.xpath.specs.Syntax.{Op, eq, ne, lt, le, gt, ge, Test}
 use Rattle.grammar.specs.Spelling.{sign}
 use Rattle.grammar.proofs.Bytes.{choose, isLetter, isNameByte, isPrintable, letter-iff, nameByte-iff, clash}
-use Rattle.grammar.proofs.Machine.{byte, label, tail, quoted, signed, orEqual, operand, Stack, Values, move, rest, over, Answer, stopped, close, Key}
+use Rattle.grammar.proofs.Machine.{Symbol, byte, label, tail, quoted, signed, orEqual, operand, Stack, Value, Values, move, rest, over, Answer, stopped, close, Key}
 use Rattle.grammar.proofs.Comes.{goes, comes-as, comes-none}
 use Rattle.grammar.proofs.Reading.{as-operand}
 use Rattle.grammar.proofs.Unique.{Unnamed}
@@ -62,6 +62,47 @@ not-letter b f = go (isLetter b) refl
     go true e = absurd (f (letter-iff b .0 e))
     go false e = refl
 
+-- ── Bytes one behind the other ──
+-- a symbol x m has room for m more bytes: put takes one up
+module _ (s : List ℕ) (x : ℕ → Symbol) (put : (m : ℕ) → ℕ → Value (x m) → Value (x (suc m))) (size : (m : ℕ) → Value (x m) → ℕ)
+    (sized : (m b : ℕ) (v : Value (x m)) → size (suc m) (put m b v) ≡ suc (size m v)) (most : ℕ) where
+  -- from at to i the machine has taken up so many bytes
+  pub record Run (at i : ℕ) : Type 0 where
+    pub more : ℕ
+    pub done : ℕ
+    pub spelt : Value (x more) → Value (x most)
+    pub room : done + more ≡ most
+    pub here : at + done ≡ i
+    pub long : (v : Value (x more)) → size most (spelt v) ≡ done + size more v
+    pub turns : Turns s (x most) (x more) spelt at i
+
+  pub run-none : (at : ℕ) → Run at at
+  run-none at = record { more = most; done = 0; spelt = λ v. v; room = omega arith; here = omega arith; long = λ v. omega arith; turns = turns-here s }
+
+  pub run-more : {at i : ℕ} (b : ℕ) → Run at i → i < length s → getD s i 0 ≡ b → i - at ≢ most
+      → ((m : ℕ) (st : Stack) → move (x (suc m) ∷ st) b ≡ some (record { after = x m ∷ st; build = λ t. (put m b (t .0), t .1); begins = none })) → Run at (i + 1)
+  run-more {at} {i} b r h e full moves = go (r .more) (r .spelt) (r .long) (r .turns) (r .room)
+    where
+      go : (n : ℕ) (g : Value (x n) → Value (x most)) → ((v : Value (x n)) → size most (g v) ≡ r .done + size n v) → Turns s (x most) (x n) g at i → r .done + n ≡ most → Run at (i + 1)
+      go zero g l c k = absurd (full (let z = r .here in omega arith))
+      go (suc m) g l c k = record {
+        more = m;
+        done = suc (r .done);
+        spelt = λ v. g (put m b v);
+        room = omega arith;
+        here = let z = r .here in omega arith;
+        long = λ v. let z = l (put m b v) in let y = sized m b v in omega arith;
+        turns = subst (λ j. Turns s (x most) (x m) (λ v. g (put m b v)) at j) (sym (add-one i))
+            (turns-then s c (turns-byte s (x (suc m)) (x m) (put m b) (stands-at s h e) (moves m)));
+      }
+
+-- of a name behind its first letter, and of a constant behind its opening quote
+abbrev pub TailRun : List ℕ → ℕ → ℕ → Type 0
+TailRun s = Run s tail (λ m b v. b ∷ v) (λ m v. length v) (λ m b v. refl) 15
+
+abbrev pub QuotedRun : List ℕ → ℕ → ℕ → Type 0
+QuotedRun s = Run s quoted (λ m b v. b ∷ v) (λ m v. length v) (λ m b v. refl) constantBytes
+
 module _ (s : List ℕ) where
   -- ── A byte ──
   pub byte-back : {x i k j : ℕ} {t : Tally} → Stands s i x → j ≡ suc i → k ≤ i → Back s (byte x) i k t j k t
@@ -78,48 +119,26 @@ module _ (s : List ℕ) where
       go (b ∷ w) e l = stuck-at s (stands-cons s e) (λ st. rw (ne-eqb b x l) refl)
 
   -- ── Names ──
-  -- from at to i stand bytes of a name, of which m more may come
-  pub record TailRun (at i : ℕ) : Type 0 where
-    pub more : ℕ
-    pub done : ℕ
-    pub spelt : List ℕ → List ℕ
-    pub most : done + more ≡ 15
-    pub here : at + done ≡ i
-    pub long : (v : List ℕ) → length (spelt v) ≡ done + length v
-    pub turns : Turns s (tail 15) (tail more) spelt at i
+  pub tail-none : (at : ℕ) → TailRun s at at
+  tail-none = run-none s tail (λ m b v. b ∷ v) (λ m v. length v) (λ m b v. refl) 15
 
-  pub tail-none : (at : ℕ) → TailRun at at
-  tail-none at = record { more = 15; done = 0; spelt = λ v. v; most = refl; here = omega arith; long = λ v. omega arith; turns = turns-here s }
-
-  pub tail-more : {at i : ℕ} (b : ℕ) → TailRun at i → i < length s → getD s i 0 ≡ b → i - at ≢ 15 → inClass Label b ≡ true → TailRun at (i + 1)
+  pub tail-more : {at i : ℕ} (b : ℕ) → TailRun s at i → i < length s → getD s i 0 ≡ b → i - at ≢ 15 → inClass Label b ≡ true → TailRun s at (i + 1)
   unfolding move
-  tail-more {at} {i} b r h e full ok = go (r .more) (r .turns) (r .most)
-    where
-      go : (m : ℕ) → Turns s (tail 15) (tail m) (r .spelt) at i → r .done + m ≡ 15 → TailRun at (i + 1)
-      go zero c k = absurd (full (let z = r .here in omega arith))
-      go (suc m) c k = record {
-        more = m;
-        done = suc (r .done);
-        spelt = λ v. r .spelt (b ∷ v);
-        most = omega arith;
-        here = let z = r .here in omega arith;
-        long = λ v. let z = r .long (b ∷ v) in omega arith;
-        turns = subst (λ j. Turns s (tail 15) (tail m) (λ v. r .spelt (b ∷ v)) at j) (sym (add-one i))
-            (turns-then s c (turns-byte s (tail (suc m)) (tail m) (λ v. b ∷ v) (stands-at s h e) (λ st. rw (sym (label-class b) ∙ ok) refl)));
-      }
+  tail-more b r h e full ok =
+      run-more s tail (λ m b v. b ∷ v) (λ m v. length v) (λ m b v. refl) 15 b r h e full (λ m st. rw (sym (label-class b) ∙ ok) refl)
 
-  tail-ends : {at i : ℕ} (r : TailRun at i) → i ≤ length s → Returns (tail (r .more)) [] [] i (drop i s) i (drop i s) → NameEnds s at i
+  tail-ends : {at i : ℕ} (r : TailRun s at i) → i ≤ length s → Returns (tail (r .more)) [] [] i (drop i s) i (drop i s) → NameEnds s at i
   tail-ends {at} {i} r h c = record { value = r .spelt []; inside = h; long = let z = r .here in let y = r .long [] in omega arith; returns = turns-returns s (r .turns) c }
 
-  pub tail-end : {at i : ℕ} → TailRun at i → i ≡ length s → NameEnds s at i
+  pub tail-end : {at i : ℕ} → TailRun s at i → i ≡ length s → NameEnds s at i
   tail-end {at} {i} r e = tail-ends r (omega arith) (name-ends (r .more) i (drop i s) (subst Unnamed (sym (at-end s e)) tt))
 
-  pub tail-full : {at i : ℕ} → TailRun at i → i ≤ length s → i - at ≡ 15 → NameEnds s at i
+  pub tail-full : {at i : ℕ} → TailRun s at i → i ≤ length s → i - at ≡ 15 → NameEnds s at i
   tail-full {at} {i} r h e =
-      let z : r .more ≡ 0 = (let x = r .here in let y = r .most in omega arith) in
+      let z : r .more ≡ 0 = (let x = r .here in let y = r .room in omega arith) in
       tail-ends r h (subst (λ m. Returns (tail m) [] [] i (drop i s) i (drop i s)) (sym z) (name-full i (drop i s)))
 
-  pub tail-stops : {at i : ℕ} → TailRun at i → i < length s → inClass Label (getD s i 0) ≡ false → NameEnds s at i
+  pub tail-stops : {at i : ℕ} → TailRun s at i → i < length s → inClass Label (getD s i 0) ≡ false → NameEnds s at i
   tail-stops {at} {i} r h e =
       tail-ends r (omega arith) (name-ends (r .more) i (drop i s) (subst Unnamed (sym (drop-cons s i 0 h)) (λ n. clash (sym (sym (label-class _) ∙ e) ∙ nameByte-iff _ .1 n))))
 
@@ -144,36 +163,15 @@ module _ (s : List ℕ) where
   name-stuck {i} h f = stuck-at s (stands-at s h refl) (λ st. rw (not-letter (getD s i 0) f) refl)
 
   -- ── Constants ──
-  pub record QuotedRun (at i : ℕ) : Type 0 where
-    pub more : ℕ
-    pub done : ℕ
-    pub spelt : List ℕ → List ℕ
-    pub most : done + more ≡ constantBytes
-    pub here : at + done ≡ i
-    pub long : (v : List ℕ) → length (spelt v) ≡ done + length v
-    pub turns : Turns s (quoted constantBytes) (quoted more) spelt at i
+  pub quoted-none : (at : ℕ) → QuotedRun s at at
+  quoted-none = run-none s quoted (λ m b v. b ∷ v) (λ m v. length v) (λ m b v. refl) constantBytes
 
-  pub quoted-none : (at : ℕ) → QuotedRun at at
-  quoted-none at = record { more = 32; done = 0; spelt = λ v. v; most = refl; here = omega arith; long = λ v. omega arith; turns = turns-here s }
-
-  pub quoted-more : {at i : ℕ} (b : ℕ) → QuotedRun at i → i < length s → getD s i 0 ≡ b → b ≢ 34 → i - at ≢ constantBytes → inClass Text b ≡ true → QuotedRun at (i + 1)
+  pub quoted-more : {at i : ℕ} (b : ℕ) → QuotedRun s at i → i < length s → getD s i 0 ≡ b → b ≢ 34 → i - at ≢ constantBytes → inClass Text b ≡ true → QuotedRun s at (i + 1)
   unfolding move
-  quoted-more {at} {i} b r h e q full ok = go (r .more) (r .turns) (r .most)
-    where
-      go : (m : ℕ) → Turns s (quoted 32) (quoted m) (r .spelt) at i → r .done + m ≡ 32 → QuotedRun at (i + 1)
-      go zero c k = absurd (full (let z = r .here in omega arith))
-      go (suc m) c k = record {
-        more = m;
-        done = suc (r .done);
-        spelt = λ v. r .spelt (b ∷ v);
-        most = omega arith;
-        here = let z = r .here in omega arith;
-        long = λ v. let z = r .long (b ∷ v) in omega arith;
-        turns = subst (λ j. Turns s (quoted 32) (quoted m) (λ v. r .spelt (b ∷ v)) at j) (sym (add-one i))
-            (turns-then s c (turns-byte s (quoted (suc m)) (quoted m) (λ v. b ∷ v) (stands-at s h e) (λ st. rw (ne-eqb b 34 q, sym (text-class b) ∙ ok) refl)));
-      }
+  quoted-more b r h e q full ok =
+      run-more s quoted (λ m b v. b ∷ v) (λ m v. length v) (λ m b v. refl) constantBytes b r h e full (λ m st. rw (ne-eqb b 34 q, sym (text-class b) ∙ ok) refl)
 
-  pub quoted-ends : {at i k : ℕ} {t : Tally} → QuotedRun at i → i < length s → getD s i 0 ≡ 34 → k ≤ at → Back s (quoted constantBytes) at k t (i + 1) k t
+  pub quoted-ends : {at i k : ℕ} {t : Tally} → QuotedRun s at i → i < length s → getD s i 0 ≡ 34 → k ≤ at → Back s (quoted constantBytes) at k t (i + 1) k t
   unfolding move tallied
   quoted-ends {at} {i} {k} {t} r h e few =
       let z = r .here in let y = r .long [] in
@@ -195,20 +193,20 @@ module _ (s : List ℕ) where
       quote (suc m) st = refl
 
   -- the run ends where no constant goes on
-  quoted-stuck : {at i : ℕ} (r : QuotedRun at i) → StuckAt s i (quoted (r .more)) i → StuckAt s i (quoted constantBytes) at
+  quoted-stuck : {at i : ℕ} (r : QuotedRun s at i) → StuckAt s i (quoted (r .more)) i → StuckAt s i (quoted constantBytes) at
   quoted-stuck r h = turns-halts s _ (r .turns) h
 
-  pub quoted-end : {at i : ℕ} → QuotedRun at i → i ≡ length s → StuckAt s i (quoted constantBytes) at
+  pub quoted-end : {at i : ℕ} → QuotedRun s at i → i ≡ length s → StuckAt s i (quoted constantBytes) at
   unfolding rest
   quoted-end r e = quoted-stuck r (stuck-end s (at-end s e) (λ st. refl))
 
-  pub quoted-full : {at i : ℕ} → QuotedRun at i → i < length s → getD s i 0 ≢ 34 → i - at ≡ constantBytes → StuckAt s i (quoted constantBytes) at
+  pub quoted-full : {at i : ℕ} → QuotedRun s at i → i < length s → getD s i 0 ≢ 34 → i - at ≡ constantBytes → StuckAt s i (quoted constantBytes) at
   unfolding move
   quoted-full {at} {i} r h q e =
-      let z : r .more ≡ 0 = (let x = r .here in let y = r .most in omega arith) in
+      let z : r .more ≡ 0 = (let x = r .here in let y = r .room in omega arith) in
       quoted-stuck r (subst (λ m. StuckAt s i (quoted m) i) (sym z) (stuck-at s (stands-at s h refl) (λ st. rw (ne-eqb _ 34 q) refl)))
 
-  pub quoted-stops : {at i : ℕ} → QuotedRun at i → i < length s → getD s i 0 ≢ 34 → inClass Text (getD s i 0) ≡ false → StuckAt s i (quoted constantBytes) at
+  pub quoted-stops : {at i : ℕ} → QuotedRun s at i → i < length s → getD s i 0 ≢ 34 → inClass Text (getD s i 0) ≡ false → StuckAt s i (quoted constantBytes) at
   unfolding move
   quoted-stops {at} {i} r h q e = quoted-stuck r (stuck-at s (stands-at s h refl) (refused (r .more)))
     where

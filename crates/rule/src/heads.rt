@@ -28,10 +28,10 @@ fn test_byte(b: u8) -> TestHead
     ensures { λ r. ⌜ TestByte b r ⌝ }
 {
     match b {
-        58 => TestHead::Name,
-        33 => TestHead::Not,
-        38 | 124 => TestHead::TwoTests,
-        40 => TestHead::Comparison,
+        b':' => TestHead::Name,
+        b'!' => TestHead::Not,
+        b'&' | b'|' => TestHead::TwoTests,
+        b'(' => TestHead::Comparison,
         _ => TestHead::NoTest,
     }
 }
@@ -40,11 +40,11 @@ fn path_byte(b: u8) -> PathHead
     ensures { λ r. ⌜ PathByte b r ⌝ }
 {
     match b {
-        101 => PathHead::Empty,
-        76 | 82 | 108 | 114 => PathHead::Step,
-        91 => PathHead::Bracket,
-        43 | 46 => PathHead::TwoPaths,
-        42 => PathHead::Star,
+        b'e' => PathHead::Empty,
+        b'L' | b'R' | b'l' | b'r' => PathHead::Step,
+        b'[' => PathHead::Bracket,
+        b'+' | b'.' => PathHead::TwoPaths,
+        b'*' => PathHead::Star,
         _ => PathHead::NoPath,
     }
 }

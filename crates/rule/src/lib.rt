@@ -2,7 +2,7 @@
 mod heads;
 pub mod readers;
 pub mod tally;
-mod tokens;
+pub mod tokens;
 
 use limits::Rule;
 use readers::Read;

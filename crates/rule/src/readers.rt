@@ -77,14 +77,14 @@ fn second_operand(s: &[u8], at: usize, n: usize, k: usize, t: Tally) -> Read
     requires { ⌜ Due (now s) at n k ⌝ }
     ensures { λ r. ⌜ Reading (now (s .entry)) (operand n) at k t r ⌝ }
 {
-    if stands(s, at, 34) {
+    if stands(s, at, b'\"') {
         return constant(s, at, k, t);
     }
     let p = read_path(s, at, n, k, t);
     let Read::Behind(j, l, u) = p else {
         return p;
     };
-    closing(s, j, 41, l, u)
+    closing(s, j, b')', l, u)
 }
 
 pub fn read_path(s: &[u8], at: usize, n: usize, k: usize, t: Tally) -> Read
@@ -100,7 +100,7 @@ pub fn read_path(s: &[u8], at: usize, n: usize, k: usize, t: Tally) -> Read
             let Read::Behind(j, l, u) = r else {
                 return r;
             };
-            closing(s, j, 93, l, u)
+            closing(s, j, b']', l, u)
         }
         PathHead::TwoPaths => {
             let r = read_path(s, at + 1, n + 1, k, t);

@@ -5,7 +5,7 @@ use fields::Class;
 use fields::fits;
 use limits::Document;
 use limits::Rule;
-ghost use Prim.Native.Nat.{ℕ, suc, _≤_};
+ghost use Prim.Native.Nat.{ℕ, _≤_};
 ghost use lib.ListN.{length};
 ghost use Rattle.grammar.proofs.Machine.{label, byte, quoted, operand};
 ghost use Rattle.limits.specs.Limits.{constantBytes};
@@ -66,10 +66,10 @@ pub fn name(s: &[u8], at: usize, k: usize, t: Tally) -> Read
         return Read::Stuck(at);
     }
     let b = s[at];
-    if b < 97 {
+    if b < b'a' {
         return Read::Stuck(at);
     }
-    if 122 < b {
+    if b'z' < b {
         return Read::Stuck(at);
     }
     Read::Behind(name_end(s, at + 1), k, t)
@@ -83,7 +83,7 @@ fn quoted_bytes(s: &[u8], at: usize, k: usize, t: Tally) -> Read
     let mut i = at;
     while i < s.len() {
         let b = s[i];
-        if b == 34 {
+        if b == b'\"' {
             return Read::Behind(i + 1, k, t);
         }
         if i - at == Rule::MAX_CONSTANT {
@@ -106,7 +106,7 @@ pub fn constant(s: &[u8], at: usize, k: usize, t: Tally) -> Read
     let Read::Behind(j, l, u) = c else {
         return c;
     };
-    closing(s, j, 41, l, u)
+    closing(s, j, b')', l, u)
 }
 
 // A sign ends behind its first byte unless = follows; a lone ! is none.
@@ -118,17 +118,17 @@ pub fn read_sign(s: &[u8], at: usize) -> Sign
         return Sign::NoSign(at);
     }
     let b = s[at];
-    let equal = stands(s, at + 1, 61);
+    let equal = stands(s, at + 1, b'=');
     match b {
-        61 => Sign::Passed(at + 1),
-        33 => {
+        b'=' => Sign::Passed(at + 1),
+        b'!' => {
             if equal {
                 Sign::Passed(at + 2)
             } else {
                 Sign::NoSign(at + 1)
             }
         }
-        60 | 62 => {
+        b'<' | b'>' => {
             if equal {
                 Sign::Passed(at + 2)
             } else {

@@ -20,7 +20,9 @@ returns-5 : tie.Need-returns-5
 returns-5 c = search needs
 
 returns-6 : tie.Need-returns-6
-returns-6 c = let n = c .match .rest in no-path _ (n .0 .0 .0 .0 .1) (n .0 .0 .0 .1) (n .0 .0 .1) (n .0 .1) (n .1)
+returns-6 c =
+    let n = c .match .rest in
+    no-path _ (n .0 .0 .0 .0 .1) (n .0 .0 .0 .1) (n .0 .0 .1) (n .0 .1) (n .1)
 
 pub path-byte-spec : {M : Type 1} → statement M
 path-byte-spec = tie.close (tie.spec returns returns-2 returns-3 returns-4 returns-5 returns-6)

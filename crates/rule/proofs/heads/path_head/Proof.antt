@@ -15,16 +15,19 @@ path-byte-requires : tie.Need-path-byte-requires
 path-byte-requires c κs = search needs
 
 returns-2 : tie.Need-returns-2
-returns-2 c = path-begins (c .before .before .before .before .before .args .s .now) (omega arith) (omega arith) (c .before .path-byte .result) (c .before .path-byte .ensures)
+returns-2 c =
+    path-begins (c .before .before .before .before .before .args .s .now) (omega arith) (omega arith) (c .before .path-byte .result) (c .before .path-byte .ensures)
 
 enum-told : tie.Need-enum-told
 enum-told c = search needs
 
 returns-3 : tie.Need-returns-3
-returns-3 c = path-stuck (c .before .before .before .before .before .before .before .args .s .now) (omega arith) (c .before .before .before .path-byte .ensures) (c .enum-told .given .1)
+returns-3 c =
+    path-stuck (c .before .before .before .before .before .before .before .args .s .now) (omega arith) (c .before .before .before .path-byte .ensures) (c .enum-told .given .1)
 
 returns-4 : tie.Need-returns-4
-returns-4 c = path-met (c .before .before .before .before .before .before .args .s .now) (omega arith) (omega arith) (c .before .before .path-byte .result) (c .match .keys2) (c .before .before .path-byte .ensures)
+returns-4 c =
+    path-met (c .before .before .before .before .before .before .args .s .now) (omega arith) (omega arith) (c .before .before .path-byte .result) (c .match .keys2) (c .before .before .path-byte .ensures)
 
 pub path-head-spec : {M : Type 1} → statement M
 path-head-spec =

@@ -15,16 +15,19 @@ test-byte-requires : tie.Need-test-byte-requires
 test-byte-requires c κs = search needs
 
 returns-2 : tie.Need-returns-2
-returns-2 c = test-begins (c .before .before .before .before .before .args .s .now) (omega arith) (omega arith) (c .before .test-byte .result) (c .before .test-byte .ensures)
+returns-2 c =
+    test-begins (c .before .before .before .before .before .args .s .now) (omega arith) (omega arith) (c .before .test-byte .result) (c .before .test-byte .ensures)
 
 enum-told : tie.Need-enum-told
 enum-told c = search needs
 
 returns-3 : tie.Need-returns-3
-returns-3 c = test-stuck (c .before .before .before .before .before .before .before .args .s .now) (omega arith) (c .before .before .before .test-byte .ensures) (c .enum-told .given .1)
+returns-3 c =
+    test-stuck (c .before .before .before .before .before .before .before .args .s .now) (omega arith) (c .before .before .before .test-byte .ensures) (c .enum-told .given .1)
 
 returns-4 : tie.Need-returns-4
-returns-4 c = test-met (c .before .before .before .before .before .before .args .s .now) (omega arith) (omega arith) (c .before .before .test-byte .result) (c .match .keys2) (c .before .before .test-byte .ensures)
+returns-4 c =
+    test-met (c .before .before .before .before .before .before .args .s .now) (omega arith) (omega arith) (c .before .before .test-byte .result) (c .match .keys2) (c .before .before .test-byte .ensures)
 
 pub test-head-spec : {M : Type 1} → statement M
 test-head-spec =

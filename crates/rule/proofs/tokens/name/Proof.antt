@@ -28,7 +28,8 @@ name-end-requires : tie.Need-name-end-requires
 name-end-requires c κs = search needs
 
 returns-4 : tie.Need-returns-4
-returns-4 c = name-back (c .before .before .before .before .before .before .args .s .now) (omega arith) (omega arith) (omega arith) (c .name-end .ensures) (omega arith)
+returns-4 c =
+    name-back (c .before .before .before .before .before .before .args .s .now) (omega arith) (omega arith) (omega arith) (c .name-end .ensures) (omega arith)
 
 pub name-spec : {M : Type 1} → statement M
 name-spec =

@@ -33,7 +33,8 @@ fits-requires : tie.Need-fits-requires Inv-loop μ-loop
 fits-requires c κs = tt
 
 returns-2 : tie.Need-returns-2 Inv-loop μ-loop
-returns-2 c = tail-stops (c .before .before .before .before .before .before .before .args .s .now) (c .before .before .before .before .before .loop .inv .2) (omega arith) (sym (c .before .fits2 .ensures) ∙ not-true (c .before .fits2 .result) (c .if2 .taken))
+returns-2 c =
+    tail-stops (c .before .before .before .before .before .before .before .args .s .now) (c .before .before .before .before .before .loop .inv .2) (omega arith) (sym (c .before .fits2 .ensures) ∙ not-true (c .before .fits2 .result) (c .if2 .taken))
 
 add-i : tie.Need-add-i Inv-loop μ-loop
 add-i c = omega arith
@@ -42,7 +43,8 @@ loop-less : tie.Need-loop-less Inv-loop μ-loop
 loop-less c = omega arith
 
 loop-again : tie.Need-loop-again Inv-loop μ-loop
-loop-again c = (omega arith, omega arith, tail-more (c .before .before .before .before .before .before .before .args .s .now) _ (c .before .before .before .before .before .loop .inv .2) (omega arith) refl (c .before .before .before .if1 .left) (sym (c .before .fits2 .ensures) ∙ not-false (c .before .fits2 .result) (c .if2 .left)))
+loop-again c =
+    (omega arith, omega arith, tail-more (c .before .before .before .before .before .before .before .args .s .now) _ (c .before .before .before .before .before .loop .inv .2) (omega arith) refl (c .before .before .before .if1 .left) (sym (c .before .fits2 .ensures) ∙ not-false (c .before .fits2 .result) (c .if2 .left)))
 
 returns-3 : tie.Need-returns-3 Inv-loop μ-loop
 returns-3 c = tail-end (c .before .before .before .args .s .now) (c .before .loop .inv .2) (omega arith)

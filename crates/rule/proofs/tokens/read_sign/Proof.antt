@@ -39,22 +39,29 @@ add-t18 : tie.Need-add-t18
 add-t18 c = search needs
 
 returns-2 : tie.Need-returns-2
-returns-2 c = (eq, equal-sign (c .before .before .before .before .before .args .s .now) (stands-at (c .before .before .before .before .before .args .s .now) {i = c .before .before .before .before .before .args .at} (omega arith) (c .match .keys1)))
+returns-2 c =
+    (eq, equal-sign (c .before .before .before .before .before .args .s .now) (stands-at (c .before .before .before .before .before .args .s .now) {i = c .before .before .before .before .before .args .at} (omega arith) (c .match .keys1)))
 
 returns-3 : tie.Need-returns-3
-returns-3 c = (ne, unequal-sign (c .before .before .before .before .before .before .args .s .now) (stands-at (c .before .before .before .before .before .before .args .s .now) {i = c .before .before .before .before .before .before .args .at} (omega arith) (c .before .match .keys2)) (subst (Stood (c .before .before .before .before .before .before .args .s .now) (c .before .before .before .before .before .before .args .at + 1) 61) (c .if2 .taken) (c .before .before .stands .ensures)))
+returns-3 c =
+    (ne, unequal-sign (c .before .before .before .before .before .before .args .s .now) (stands-at (c .before .before .before .before .before .before .args .s .now) {i = c .before .before .before .before .before .before .args .at} (omega arith) (c .before .match .keys2)) (subst (Stood (c .before .before .before .before .before .before .args .s .now) (c .before .before .before .before .before .before .args .at + 1) 61) (c .if2 .taken) (c .before .before .stands .ensures)))
 
 returns-4 : tie.Need-returns-4
-returns-4 c = unequal-stuck (c .before .before .before .before .before .before .args .s .now) (stands-at (c .before .before .before .before .before .before .args .s .now) {i = c .before .before .before .before .before .before .args .at} (omega arith) (c .before .match .keys2)) (subst (Stood (c .before .before .before .before .before .before .args .s .now) (c .before .before .before .before .before .before .args .at + 1) 61) (c .if2 .left) (c .before .before .stands .ensures))
+returns-4 c =
+    unequal-stuck (c .before .before .before .before .before .before .args .s .now) (stands-at (c .before .before .before .before .before .before .args .s .now) {i = c .before .before .before .before .before .before .args .at} (omega arith) (c .before .match .keys2)) (subst (Stood (c .before .before .before .before .before .before .args .s .now) (c .before .before .before .before .before .before .args .at + 1) 61) (c .if2 .left) (c .before .before .stands .ensures))
 
 returns-5 : tie.Need-returns-5
-returns-5 c = order-equal (c .before .before .before .before .before .before .args .s .now) (c .before .before .before .before .before .before .args .at) (omega arith) (c .before .match .keys3) (subst (Stood (c .before .before .before .before .before .before .args .s .now) (c .before .before .before .before .before .before .args .at + 1) 61) (c .if3 .taken) (c .before .before .stands .ensures))
+returns-5 c =
+    order-equal (c .before .before .before .before .before .before .args .s .now) (c .before .before .before .before .before .before .args .at) (omega arith) (c .before .match .keys3) (subst (Stood (c .before .before .before .before .before .before .args .s .now) (c .before .before .before .before .before .before .args .at + 1) 61) (c .if3 .taken) (c .before .before .stands .ensures))
 
 returns-6 : tie.Need-returns-6
-returns-6 c = order-alone (c .before .before .before .before .before .before .args .s .now) (c .before .before .before .before .before .before .args .at) (omega arith) (c .before .match .keys3) (subst (Stood (c .before .before .before .before .before .before .args .s .now) (c .before .before .before .before .before .before .args .at + 1) 61) (c .if3 .left) (c .before .before .stands .ensures))
+returns-6 c =
+    order-alone (c .before .before .before .before .before .before .args .s .now) (c .before .before .before .before .before .before .args .at) (omega arith) (c .before .match .keys3) (subst (Stood (c .before .before .before .before .before .before .args .s .now) (c .before .before .before .before .before .before .args .at + 1) 61) (c .if3 .left) (c .before .before .stands .ensures))
 
 returns-7 : tie.Need-returns-7
-returns-7 c = let n = c .match .rest in no-sign (c .before .before .before .before .before .args .s .now) (stands-at (c .before .before .before .before .before .args .s .now) {i = c .before .before .before .before .before .args .at} (omega arith) refl) (n .0 .0 .1) (n .0 .1) (λ e. n .1 (inl e)) (λ e. n .1 (inr e))
+returns-7 c =
+    let n = c .match .rest in
+    no-sign (c .before .before .before .before .before .args .s .now) (stands-at (c .before .before .before .before .before .args .s .now) {i = c .before .before .before .before .before .args .at} (omega arith) refl) (n .0 .0 .1) (n .0 .1) (λ e. n .1 (inl e)) (λ e. n .1 (inr e))
 
 pub read-sign-spec : {M : Type 1} → statement M
 read-sign-spec =

@@ -1,0 +1,7 @@
+pub mod Determined
+pub mod Deeper
+pub mod Inner
+pub mod Told
+pub mod Alone
+pub mod Count
+pub mod Sides
