@@ -35,8 +35,8 @@ fn assert_nesting(rule: &str, nesting: usize, place: usize) {
         return assert_judged(name, rule.as_bytes(), (0, 0));
     }
     assert_judged(&name, rule.as_bytes(), (7, place));
-    assert_judged(&name, rule[..=place].as_bytes(), (7, place));
-    assert_judged(&name, rule[..place].as_bytes(), (6, place));
+    assert_judged(&name, &rule.as_bytes()[..=place], (7, place));
+    assert_judged(&name, &rule.as_bytes()[..place], (6, place));
     assert_judged(
         &name,
         &[&rule.as_bytes()[..place], b"X"].concat(),
