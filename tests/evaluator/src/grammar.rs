@@ -85,47 +85,52 @@ fn matches_byte(symbol: Symbol, byte: u8) -> bool {
     }
 }
 
-/// Everything that may be due behind one prefix. Each stack is empty (the
-/// prefix is a rule) or has a terminal symbol due first.
+/// Everything that may be due behind one prefix.
 pub struct Due(BTreeSet<Stack>);
 
 impl Due {
     /// Before the first byte a test is due: "A rule is a test T".
     fn at_start() -> Due {
+        Due(BTreeSet::from([vec![Symbol::Test]]))
+    }
+
+    /// What is due after one more byte; no stack is left if it does not fit.
+    fn after(&self, byte: u8) -> Due {
+        let fitting = self.replaced(|symbol| matches_byte(symbol, byte));
+        let rests = fitting.0.iter().filter_map(|stack| stack.split_last());
+        Due(rests.map(|(_, rest)| rest.to_vec()).collect())
+    }
+
+    /// The stacks with their first symbols replaced by all their alternatives,
+    /// until each is empty (the prefix is a rule) or has a terminal symbol due
+    /// first; of these only the wanted ones.
+    fn replaced(&self, wanted: impl Fn(Symbol) -> bool) -> Due {
         let mut due = Due(BTreeSet::new());
-        due.add(vec![Symbol::Test]);
+        for stack in &self.0 {
+            due.add(stack.clone(), &wanted);
+        }
         due
     }
 
-    /// Adds a stack with its first symbol replaced by all its alternatives.
-    fn add(&mut self, mut stack: Stack) {
+    fn add(&mut self, mut stack: Stack, wanted: &impl Fn(Symbol) -> bool) {
+        let unwanted = |symbol: &Symbol| is_terminal(*symbol) && !wanted(*symbol);
         match stack.last() {
+            Some(symbol) if unwanted(symbol) => {}
             Some(symbol) if !is_terminal(*symbol) => {
-                let symbol = *symbol;
+                let mut choices = alternatives(*symbol);
+                // Most are unwanted, and need no copy of the stack.
+                choices.retain(|choice| !choice.first().is_some_and(unwanted));
                 stack.pop();
-                for alternative in alternatives(symbol) {
+                for choice in choices {
                     let mut next = stack.clone();
-                    next.extend(alternative.iter().rev());
-                    self.add(next);
+                    next.extend(choice.iter().rev());
+                    self.add(next, wanted);
                 }
             }
             _ => {
                 self.0.insert(stack);
             }
         }
-    }
-
-    /// What is due after one more byte; no stack is left if it does not fit.
-    fn after(&self, byte: u8) -> Due {
-        let mut due = Due(BTreeSet::new());
-        for stack in &self.0 {
-            if let Some((first, rest)) = stack.split_last() {
-                if matches_byte(*first, byte) {
-                    due.add(rest.to_vec());
-                }
-            }
-        }
-        due
     }
 
     /// Whether the prefix is a whole rule.
@@ -177,9 +182,9 @@ pub fn longest_prefix(rule: &[u8]) -> (usize, Due) {
     for (length, byte) in rule.iter().enumerate() {
         let next = due.after(*byte);
         if next.0.is_empty() {
-            return (length, due);
+            return (length, due.replaced(|_| true));
         }
         due = next;
     }
-    (rule.len(), due)
+    (rule.len(), due.replaced(|_| true))
 }

@@ -191,7 +191,13 @@ pub fn parts(rule: &Test) -> Vec<Part<'_>> {
     found
 }
 
-fn collect<'a>(piece: Piece<'a>, offset: usize, nesting: usize, found: &mut Vec<Part<'a>>) {
+/// Collects a piece and all inside it, and returns the offset behind it.
+fn collect<'a>(
+    piece: Piece<'a>,
+    offset: usize,
+    nesting: usize,
+    found: &mut Vec<Part<'a>>,
+) -> usize {
     found.push(Part {
         piece,
         offset,
@@ -199,17 +205,23 @@ fn collect<'a>(piece: Piece<'a>, offset: usize, nesting: usize, found: &mut Vec<
     });
     let mut inner = offset + 1;
     for (child, before) in piece.children() {
-        inner += before;
-        collect(child, inner, nesting + 1, found);
-        inner += child.length();
+        inner = collect(child, inner + before, nesting + 1, found);
     }
+    inner + piece.bytes_behind()
 }
 
 impl<'a> Piece<'a> {
-    fn length(self) -> usize {
+    /// The number of this piece's own bytes behind the parts inside it, or
+    /// behind its first byte if there are none.
+    fn bytes_behind(self) -> usize {
         match self {
-            Piece::Test(test) => test.spell().len(),
-            Piece::Path(path) => path.spell().len(),
+            Piece::Test(Test::Name(name)) => name.len(),
+            Piece::Test(Test::Compare(_, sign, Operand::Constant(text))) => {
+                sign.spell().len() + text.len() + "\"\")".len()
+            }
+            Piece::Test(Test::Compare(..)) => ")".len(),
+            Piece::Path(Path::Stay(_)) => "]".len(),
+            _ => 0,
         }
     }
 

@@ -1,6 +1,6 @@
 //! The rule check, numbers 5 to 9.
 
-use crate::grammar::longest_prefix;
+use crate::grammar::{longest_prefix, Due};
 use crate::rule::{parts, Operand, Piece, Test};
 use crate::{reader, refuse, Refusal};
 
@@ -29,7 +29,7 @@ pub fn read(rule: &[u8]) -> Result<Test, Refusal> {
     }
     let (length, due) = longest_prefix(rule);
     if length < rule.len() || !due.is_whole() {
-        return refuse_unreadable(&rule[..length], &due.completions());
+        return refuse_unreadable(&rule[..length], &due);
     }
     let test = reader::read(rule);
     if let Some(place) = too_deep(&test) {
@@ -47,9 +47,15 @@ pub fn read(rule: &[u8]) -> Result<Test, Refusal> {
 /// A rule that does not read: 6 at the length of its longest prefix, unless
 /// "a part begun inside that prefix" is at nesting 33, whose offset is lower.
 /// The parts begun inside it are those of any rule that it begins; that all
-/// the completions at hand agree on them is asserted.
-fn refuse_unreadable(prefix: &[u8], completions: &[Vec<u8>]) -> Result<Test, Refusal> {
-    let places: Vec<Option<usize>> = completions
+/// the completions at hand agree on them is asserted. A part at nesting 33 has
+/// 32 others around it, each with a byte before it, so that a short prefix
+/// need not be completed.
+fn refuse_unreadable(prefix: &[u8], due: &Due) -> Result<Test, Refusal> {
+    if prefix.len() <= NESTING_LIMIT {
+        return refuse(6, prefix.len());
+    }
+    let places: Vec<Option<usize>> = due
+        .completions()
         .iter()
         .map(|rest| too_deep(&reader::read(&[prefix, rest].concat())))
         .map(|place| place.filter(|offset| *offset < prefix.len()))

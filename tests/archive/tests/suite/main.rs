@@ -4,7 +4,13 @@
 //! through the calling convention that other languages use.
 
 mod agreement;
+mod every_short_rule;
 mod every_small_change;
+mod every_small_rule_change;
 mod fixed_documents;
+mod fixed_rules;
 mod large_documents;
 mod random_documents;
+mod random_rules;
+mod rule_agreement;
+mod rule_limits;

@@ -109,7 +109,7 @@ fn draw_values(random: &mut Random) -> Vec<Vec<u8>> {
 }
 
 /// A letter, then any bytes that a label may have.
-fn any_label(random: &mut Random) -> Vec<u8> {
+pub(super) fn any_label(random: &mut Random) -> Vec<u8> {
     let bytes = b"abcdefghijklmnopqrstuvwxyz0123456789-";
     let length = 1 + random.below(LABEL_LIMIT);
     let mut label = vec![*random.pick(&bytes[..26])];

@@ -8,7 +8,7 @@ mod rule;
 pub use damage::{damage_document, damage_rule};
 pub use library::{any_library, library};
 pub use line_damage::damage_one_line;
-pub use rule::rule;
+pub use rule::{any_rule, deep_rule, large_rule, rule};
 
 /// The splitmix64 generator.
 pub struct Random(u64);

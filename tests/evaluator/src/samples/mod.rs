@@ -2,6 +2,7 @@
 //! other packages.
 
 pub mod documents;
+pub mod rules;
 
 use crate::document::{spell, Kind, Library, Node};
 
@@ -53,12 +54,19 @@ pub fn flat(nodes: usize) -> Vec<u8> {
     document(&rows)
 }
 
-/// So many names joined by `|` two and two: 2 * names - 1 tests, not deep.
-pub fn balanced(names: usize) -> String {
-    match names {
-        1 => ":a".to_string(),
-        _ => format!("|{}{}", balanced(names / 2), balanced(names - names / 2)),
+/// So many equal leaves joined by one sign two and two: not deep.
+pub fn joined(sign: &str, leaf: &str, leaves: usize) -> String {
+    if leaves == 1 {
+        return leaf.to_string();
     }
+    let half = leaves / 2;
+    let (first, second) = (joined(sign, leaf, half), joined(sign, leaf, leaves - half));
+    format!("{sign}{first}{second}")
+}
+
+/// So many names joined by `|` two and two: 2 * names - 1 tests.
+pub fn balanced(names: usize) -> String {
+    joined("|", ":a", names)
 }
 
 /// A path of so many steps with `.` before each but the last.

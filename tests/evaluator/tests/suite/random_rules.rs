@@ -2,7 +2,7 @@
 
 use crate::failure::assert_on_bytes;
 use evaluator::grammar::longest_prefix;
-use evaluator::random::{damage_rule, rule, Random};
+use evaluator::random::{damage_rule, deep_rule, rule, Random};
 use evaluator::rule::parts;
 use evaluator::rule_check::{self, check};
 use evaluator::Refusal;
@@ -84,42 +84,6 @@ fn judged_by_the_grammar(damaged: &[u8], whole: &[u8]) {
     }
 }
 
-/// A rule of the given nesting, built from the outside inwards: the bytes
-/// before each inner part, and the bytes behind all of them.
-fn deep_rule(random: &mut Random, nesting: usize) -> (Vec<&'static str>, Vec<u8>) {
-    let tests = [
-        ("!", "", true),
-        ("&", ":b", true),
-        ("|", ":c", true),
-        ("&:b", "", true),
-        ("|:bc", "", true),
-        ("(", "=e)", false),
-        ("(", "<\"c\")", false),
-        ("(l!=", ")", false),
-    ];
-    let paths = [
-        ("*", "", false),
-        (".", "e", false),
-        (".l", "", false),
-        ("+", "r", false),
-        ("+e", "", false),
-        ("[", "]", true),
-        ("[", "]", true),
-    ];
-    let mut in_test = true;
-    let (mut heads, mut tails) = (Vec::new(), Vec::new());
-    for _ in 1..nesting {
-        let (head, tail, next) = *random.pick(if in_test { &tests[..] } else { &paths[..] });
-        heads.push(head);
-        tails.push(tail);
-        in_test = next;
-    }
-    let leaf = if in_test { ":a" } else { "e" };
-    tails.push(leaf);
-    tails.reverse();
-    (heads, tails.concat().into_bytes())
-}
-
 #[test]
 fn in_damaged_deep_rules_7_goes_before_6() {
     let mut sevens_before_sixes = 0;
@@ -128,8 +92,6 @@ fn in_damaged_deep_rules_7_goes_before_6() {
         let nesting = 33 + random.below(30);
         let (heads, tail) = deep_rule(random, nesting);
         let rule = [heads.concat().into_bytes(), tail].concat();
-        // The part at nesting 32 has its first inner part right behind its own
-        // first byte.
         let place = heads[..31].concat().len() + 1;
         assert_eq!(check(&rule), Refusal { number: 7, place }, "seed {seed}");
 

@@ -1,0 +1,230 @@
+//! Random rules: one half legal, the other damaged; and rules beyond the
+//! limits.
+
+use std::collections::{BTreeMap, BTreeSet};
+
+use crate::rule_agreement::{assert_agreement, assert_judged};
+use evaluator::random::{any_rule, damage_rule, deep_rule, large_rule, Random};
+use evaluator::reader;
+use evaluator::rule::{parts, Operand, Path, Piece, Test};
+use evaluator::rule_check::{BYTE_LIMIT, NESTING_LIMIT};
+
+/// So many legal rules, and as many damaged ones.
+const CASES: u64 = 110_000;
+/// So many beyond the limits.
+const LARGE: u64 = 5_000;
+
+/// A rule just as deep as asked for.
+fn draw_deep(random: &mut Random, nesting: usize) -> Vec<u8> {
+    let (heads, tail) = deep_rule(random, nesting);
+    [heads.concat().into_bytes(), tail].concat()
+}
+
+/// Mostly few parts, so that many rules are tried, seldom very many or deep.
+fn draw_legal(random: &mut Random) -> Vec<u8> {
+    let most = match random.below(100) {
+        0..=3 => {
+            let nesting = 1 + random.below(NESTING_LIMIT);
+            return draw_deep(random, nesting);
+        }
+        4 => 200,
+        5..=14 => 60,
+        _ => 12,
+    };
+    let size = 1 + random.below(most);
+    any_rule(random, size).spell()
+}
+
+/// A rule that reads but may break every limit.
+fn draw_large(random: &mut Random) -> Vec<u8> {
+    match random.percent(30) {
+        true => {
+            let nesting = 25 + random.below(20);
+            draw_deep(random, nesting)
+        }
+        false => {
+            let size = 1 + random.below(600);
+            large_rule(random, size).spell()
+        }
+    }
+}
+
+/// Damage at random places; sometimes of a large rule, or to a length around the
+/// limit.
+fn draw_damaged(random: &mut Random) -> Vec<u8> {
+    match random.below(100) {
+        0 => {
+            let mut long = draw_legal(random);
+            let byte = *random.pick(b"!&*a\0");
+            long.resize(BYTE_LIMIT - 1 + random.below(4), byte);
+            long
+        }
+        1..=10 => {
+            let large = draw_large(random);
+            damage_rule(random, &large)
+        }
+        _ => {
+            let legal = draw_legal(random);
+            damage_rule(random, &legal)
+        }
+    }
+}
+
+/// Asserts that each number for rules occurred so often, and no other.
+fn assert_covered(numbers: &BTreeMap<u32, usize>, due: &[u32], at_least: usize) {
+    println!("{numbers:?}");
+    assert!(numbers.keys().eq(due), "{numbers:?}");
+    assert!(
+        numbers.values().all(|count| *count >= at_least),
+        "{numbers:?}"
+    );
+}
+
+#[test]
+fn damaged_rules_are_judged_alike() {
+    let mut numbers = BTreeMap::new();
+    for seed in 0..CASES {
+        let rule = draw_damaged(&mut Random::new(seed));
+        let refusal = assert_agreement(format_args!("seed {seed}"), &rule);
+        *numbers.entry(refusal.number).or_default() += 1;
+    }
+    assert_covered(&numbers, &[0, 5, 6, 7, 8, 9], 50);
+    assert!(numbers.values().sum::<usize>() >= 100_000);
+}
+
+#[test]
+fn rules_beyond_the_limits_are_judged_alike() {
+    let mut numbers = BTreeMap::new();
+    // Other seeds than those of the other two.
+    for seed in 2 * CASES..2 * CASES + LARGE {
+        let rule = draw_large(&mut Random::new(seed));
+        let refusal = assert_agreement(format_args!("seed {seed}"), &rule);
+        *numbers.entry(refusal.number).or_default() += 1;
+    }
+    // They all read.
+    assert_covered(&numbers, &[0, 5, 7, 8, 9], 200);
+}
+
+/// What 01 allows, and how much of it the legal rules had.
+#[derive(Default)]
+struct Seen {
+    constructs: BTreeSet<&'static str>,
+    signs: BTreeSet<&'static [u8]>,
+    first_bytes: BTreeSet<u8>,
+    name_bytes: BTreeSet<u8>,
+    name_lengths: BTreeSet<usize>,
+    constant_bytes: BTreeSet<u8>,
+    constant_lengths: BTreeSet<usize>,
+    nestings: BTreeSet<usize>,
+    tests: BTreeSet<usize>,
+    steps: BTreeSet<usize>,
+    longest: usize,
+}
+
+impl Seen {
+    fn add(&mut self, rule: &[u8]) {
+        let test = reader::read(rule);
+        let all = parts(&test);
+        self.nestings.extend(all.iter().map(|part| part.nesting));
+        let mut tests = 0;
+        for part in &all {
+            match part.piece {
+                Piece::Test(test) => {
+                    tests += 1;
+                    self.add_test(test);
+                }
+                Piece::Path(path) => self.add_path(path),
+            }
+        }
+        self.tests.insert(tests);
+        self.longest = self.longest.max(rule.len());
+    }
+
+    fn add_test(&mut self, test: &Test) {
+        let construct = match test {
+            Test::Name(name) => {
+                self.first_bytes.insert(name[0]);
+                self.name_bytes.extend(&name[1..]);
+                self.name_lengths.insert(name.len());
+                ":name"
+            }
+            Test::Not(_) => "!T",
+            Test::And(..) => "&TT",
+            Test::Or(..) => "|TT",
+            Test::Compare(path, sign, operand) => {
+                self.signs.insert(sign.spell());
+                self.add_operand(path.steps().len(), operand)
+            }
+        };
+        self.constructs.insert(construct);
+    }
+
+    fn add_operand(&mut self, steps: usize, operand: &Operand) -> &'static str {
+        match operand {
+            Operand::Path(path) => {
+                self.steps.insert(steps + path.steps().len());
+                "(P o P)"
+            }
+            Operand::Constant(text) => {
+                self.steps.insert(steps);
+                self.constant_bytes.extend(text);
+                self.constant_lengths.insert(text.len());
+                "(P o \"c\")"
+            }
+        }
+    }
+
+    fn add_path(&mut self, path: &Path) {
+        self.constructs.insert(match path {
+            Path::Empty => "e",
+            Path::Left => "l",
+            Path::Right => "r",
+            Path::FromLeft => "L",
+            Path::FromRight => "R",
+            Path::Stay(_) => "[T]",
+            Path::Then(..) => ".PP",
+            Path::Either(..) => "+PP",
+            Path::Repeat(inner) => match **inner {
+                Path::Repeat(_) => "**P",
+                Path::Empty => "*e",
+                Path::Then(..) => "*.PP",
+                Path::Either(..) => "*+PP",
+                Path::Stay(_) => "*[T]",
+                _ => "*P",
+            },
+        });
+    }
+
+    /// Asserts that all of it occurred: 6 kinds of tests and 14 of paths, 6
+    /// signs, 26 letters at first and 37 bytes behind, 16 lengths of names, 94
+    /// bytes in constants of 33 lengths, nesting 1 to 32, 1 to 64 tests, 0 to
+    /// 14 steps, and some rule of many bytes.
+    fn assert_all(&self) {
+        assert_eq!(self.constructs.len(), 20, "{:?}", self.constructs);
+        assert_eq!(self.signs.len(), 6);
+        assert_eq!(self.first_bytes.len(), 26);
+        assert_eq!(self.name_bytes.len(), 37);
+        assert_eq!(self.name_lengths.len(), 16);
+        assert_eq!(self.constant_bytes.len(), 94);
+        assert_eq!(self.constant_lengths.len(), 33);
+        assert_eq!(self.nestings.len(), 32);
+        assert_eq!(self.tests.len(), 64, "{:?}", self.tests);
+        assert_eq!(self.steps.len(), 15, "{:?}", self.steps);
+        assert!(self.longest > BYTE_LIMIT / 2, "{}", self.longest);
+    }
+}
+
+#[test]
+fn legal_rules_are_accepted() {
+    let mut seen = Seen::default();
+    let mut accepted = 0;
+    // Other seeds than those of the damaged rules.
+    for seed in CASES..2 * CASES {
+        let rule = draw_legal(&mut Random::new(seed));
+        assert_judged(format_args!("seed {seed}"), &rule, (0, 0));
+        accepted += 1;
+        seen.add(&rule);
+    }
+    assert!(accepted >= 100_000);
+    seen.assert_all();
+}
