@@ -1,0 +1,46 @@
+-- The test for a smaller string, and the number 1 or 0 that stands for it.
+use Prim.Native.Nat.{ℕ, _≤_}
+use mathlib.Core.Path.{_≡_, refl}
+use mathlib.Core.Logic.{_⊎_, inl, inr, _↔_}
+use mathlib.Core.Bool.{Bool, true, false}
+use mathlib.Core.List.{List}
+use native.Mathlib.Omega.{arith}
+use lib.Dec.{T}
+use Rattle.xpath.specs.Meaning.{Less}
+use Rattle.xpath.proofs.Order.{less-distinct, less-asymmetric, less-trichotomous}
+use Rattle.ranks.specs.Ranks.{one, isLeft, isLess}
+
+pub less-iff : (bs cs : List ℕ) → T (isLess bs cs) ↔ Less bs cs
+unfolding isLess
+less-iff bs cs = go (less-trichotomous bs cs)
+  where
+    go : (d : Less bs cs ⊎ ((bs ≡ cs) ⊎ Less cs bs)) → T (isLeft d) ↔ Less bs cs
+    go (inl h) = (λ z. h, λ z. tt)
+    go (inr (inl e)) = (λ z. absurd z, λ h. less-distinct bs cs h e)
+    go (inr (inr k)) = (λ z. absurd z, λ h. less-asymmetric bs cs h k)
+
+pub one-le : (b : Bool) → one b ≤ 1
+one-le true = omega arith
+one-le false = omega arith
+
+module _ (bs cs : List ℕ) where
+  pub one-less : Less bs cs → 1 ≡ one (isLess bs cs)
+  one-less h = go (isLess bs cs) (less-iff bs cs .1 h)
+    where
+      go : (b : Bool) → T b → 1 ≡ one b
+      go true k = refl
+      go false k = absurd k
+
+  pub one-not : ¬ Less bs cs → 0 ≡ one (isLess bs cs)
+  one-not h = go (isLess bs cs) (λ k. h (less-iff bs cs .0 k))
+    where
+      go : (b : Bool) → ¬ T b → 0 ≡ one b
+      go true k = absurd (k tt)
+      go false k = refl
+
+  pub less-one : ¬ (one (isLess bs cs) ≡ 0) → Less bs cs
+  less-one h = less-iff bs cs .0 (go (isLess bs cs) h)
+    where
+      go : (b : Bool) → ¬ (one b ≡ 0) → T b
+      go true k = tt
+      go false k = absurd (k refl)

@@ -1,0 +1,10 @@
+pub mod Less
+pub mod Trees
+pub mod Worked
+pub mod Insertion
+pub mod Halving
+pub mod Shifting
+pub mod Sorting
+pub mod Dense
+pub mod Numbering
+pub mod Ranked

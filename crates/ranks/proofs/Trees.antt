@@ -1,0 +1,21 @@
+-- A document spells one library, so what is said of some is said of each that it spells.
+use Prim.Native.Nat.{ℕ, _<_}
+use mathlib.Core.Path.{_≡_, sym, ap, _∙_, subst}
+use mathlib.Core.List.{List}
+use lib.ListN.{length}
+use Rattle.library.specs.Library.{Node}
+use Rattle.library.specs.Verdict.{Accepts}
+use Rattle.library.proofs.Accepted.{accepts-one}
+use Rattle.document.specs.Entries.{Stands}
+use Rattle.links.specs.Table.{offsetOf}
+use Rattle.links.specs.Links.{Linked}
+use Rattle.ranks.specs.Ranks.{Tabled}
+
+module _ {s : List ℕ} {n : ℕ} {t : List ℕ} (h : Tabled s n t) where
+  pub tree-size : (ns : List Node) → Accepts s ns → length ns ≡ n
+  tree-size ns a = ap (λ (l : List Node). length l) (accepts-one s ns (h .nodes) a (h .accepts)) ∙ h .size
+
+  pub tree-stands : (ns : List Node) (v : ℕ) → Accepts s ns → Linked s ns t → v < n → Stands s ns v (offsetOf t n v)
+  tree-stands ns v a k r =
+      let e = tree-size ns a in
+      subst (λ m. Stands s ns v (offsetOf t m v)) e (k .places v (subst (λ m. v < m) (sym e) r))

@@ -1,0 +1,58 @@
+-- Ranks: numbers of the nodes that are in the order of their string values.
+use Prim.Native.Nat.{ℕ, _*_, _≤_, _<_}
+use mathlib.Core.Path.{_≡_}
+use mathlib.Core.Logic.{_⊎_, inl, inr, _↔_}
+use mathlib.Core.Bool.{Bool, true, false}
+use mathlib.Core.List.{List}
+use lib.ListN.{length, getD}
+use Rattle.xpath.specs.Meaning.{Less}
+use Rattle.xpath.proofs.Order.{less-trichotomous}
+use Rattle.library.specs.Library.{Node}
+use Rattle.library.specs.Binary.{pick, stringOf}
+use Rattle.library.specs.Verdict.{Accepts}
+use Rattle.links.specs.Table.{COLUMNS, RANK, word, Room, Kept}
+use Rattle.links.specs.Links.{Linked}
+
+-- t begins with the table of the tree of an accepted document with n nodes
+pub record Tabled (s : List ℕ) (n : ℕ) (t : List ℕ) : Type 0 where
+  pub nodes : List Node
+  pub accepts : Accepts s nodes
+  pub linked : Linked s nodes t
+  pub size : length nodes ≡ n
+  pub room : Room n t
+
+-- work in the columns behind the tree's own: the tree stays, and all behind the table too
+pub record Worked (n : ℕ) (t t′ : List ℕ) : Type 0 where
+  pub long : length t′ ≡ length t
+  pub front : (k : ℕ) → k < RANK * n → getD t′ k 0 ≡ getD t k 0
+  pub behind : (k : ℕ) → COLUMNS * n ≤ k → getD t′ k 0 ≡ getD t k 0
+
+-- ── Ranks ──
+pub record Ranked (ns : List Node) (t : List ℕ) : Type 0 where
+  pub small : (v : ℕ) → v < length ns → word t (length ns) RANK v < length ns
+  pub ordered : (v w : ℕ) → v < length ns → w < length ns
+      → (word t (length ns) RANK v < word t (length ns) RANK w) ↔ Less (stringOf ns v) (stringOf ns w)
+  pub same : (v w : ℕ) → v < length ns → w < length ns
+      → (word t (length ns) RANK v ≡ word t (length ns) RANK w) ↔ (stringOf ns v ≡ stringOf ns w)
+
+-- the ranks are written, the tree is as it was, and so is all behind the table
+pub record Written (s : List ℕ) (ns : List Node) (before after : List ℕ) : Type 0 where
+  pub ranked : Ranked ns after
+  pub linked : Linked s ns after
+  pub kept : Kept (COLUMNS * length ns) before after
+
+-- ── Comparison as a test ──
+abbrev pub one : Bool → ℕ
+one b = pick b 1 0
+
+abbrev pub isLeft : {A B : Type 0} → A ⊎ B → Bool
+isLeft (inl a) = true
+isLeft (inr b) = false
+
+-- bs is smaller than cs: the first of the three ways in which two strings compare
+unfoldable pub isLess : List ℕ → List ℕ → Bool
+isLess bs cs = isLeft (less-trichotomous bs cs)
+
+-- node w has a smaller value than node v
+abbrev pub isSmaller : List Node → ℕ → ℕ → Bool
+isSmaller ns v w = isLess (stringOf ns w) (stringOf ns v)

@@ -1,0 +1,21 @@
+// Ranks of the nodes of an accepted document: numbers that are in the order of the string values.
+pub mod nodes;
+mod number;
+mod sort;
+
+use number::number;
+use sort::sort;
+ghost use mathlib.Core.List.{List};
+ghost use Rattle.library.specs.Library as Library;
+ghost use Rattle.library.specs.Verdict.{Accepts};
+ghost use Rattle.links.specs.Links.{Linked};
+ghost use Rattle.ranks.specs.Ranks.{Tabled, Written};
+
+// The rank of each node, in the column for it: so values are compared here, and behind this only numbers.
+pub fn rank(s: &[u8], t: &mut [u16], n: usize)
+    requires { ⌜ Tabled (now s) n (now t) ⌝ }
+    ensures { λ _. ⌜ ((ns : List Library.Node) → Accepts (now (s .entry)) ns → Linked (now (s .entry)) ns (now (t .entry)) → Written (now (s .entry)) ns (now (t .entry)) (now (t .exit))) ⌝ }
+{
+    sort(s, t, n);
+    number(s, t, n);
+}

@@ -1,0 +1,26 @@
+// Ranks along the sorted nodes: one more at each node whose value is greater than that of the node before it.
+use crate::nodes::one_if_smaller;
+use crate::sort::ORDER;
+use links::table::Table;
+use links::table::get;
+use links::table::put;
+ghost use Rattle.ranks.specs.Ranks.{Tabled};
+ghost use Rattle.ranks.specs.Sorting.{Entries, Numbered};
+
+// The first node is compared with itself, and gets 0.
+pub fn number(s: &[u8], t: &mut [u16], n: usize)
+    requires { ⌜ Tabled (now s) n (now t) × Entries n n (now t) ⌝ }
+    ensures { λ _. ⌜ Numbered (now (s .entry)) n (now (t .entry)) (now (t .exit)) ⌝ }
+{
+    let mut u = get(t, n, ORDER, 0);
+    let mut r = 0;
+    let mut i = 0;
+    while i < n {
+        let v = get(t, n, ORDER, i);
+        let k = one_if_smaller(s, t, n, v, u);
+        r += k;
+        put(t, n, Table::RANK, v, r);
+        u = v;
+        i += 1;
+    }
+}
