@@ -1,0 +1,7 @@
+pub mod Truth
+pub mod SetLaws
+pub mod Relations
+pub mod Shapes
+pub mod Scans
+pub mod Compared
+pub mod Locating

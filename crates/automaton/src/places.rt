@@ -1,0 +1,54 @@
+// Where each step of a path stands, by its number.
+use parts::kinds::PathKind;
+use parts::kinds::path_kind;
+use parts::skip_path;
+ghost use Prim.Native.Nat.{_≤_};
+ghost use lib.ListN.{length};
+ghost use Rattle.automaton.specs.Scanned.{Room};
+ghost use Rattle.automaton.specs.Compared.{TwoPaths};
+ghost use Rattle.automaton.specs.Places.{Locates, Places};
+
+// Behind a path: the next number and the next offset.
+pub struct Spot {
+    pub count: usize,
+    pub next: usize,
+}
+
+// The offsets of the steps of the path at an offset, numbered from b.
+pub fn locate(s: &[u8], at: usize, b: usize, places: &mut [usize]) -> Spot
+    requires { ⌜ Room (now s) at b × (16 ≤ length (now places)) ⌝ }
+    ensures { λ r. ⌜ Locates (now (s .entry)) at b (now (places .entry)) (now (places .exit)) r ⌝ }
+{
+    let k = path_kind(s, at);
+    match k {
+        PathKind::Empty => Spot {
+            count: b,
+            next: at + 1,
+        },
+        PathKind::Seq | PathKind::Union => {
+            let p = locate(s, at + 1, b, places);
+            locate(s, p.next, p.count, places)
+        }
+        PathKind::Star => locate(s, at + 1, b, places),
+        _ => {
+            places[b] = at;
+            let j = skip_path(s, at);
+            Spot {
+                count: b + 1,
+                next: j,
+            }
+        }
+    }
+}
+
+// The offsets of a comparison's steps, 1 to m.
+pub fn places_of(s: &[u8], at: usize, behind: usize) -> [usize; 16]
+    requires { ⌜ TwoPaths (now s) at behind ⌝ }
+    ensures { λ r. ⌜ Places (now (s .entry)) at behind r ⌝ }
+{
+    let mut places = [0; 16];
+    let p = locate(s, at, 1, &mut places);
+    let n = p.count;
+    locate(s, behind, n, &mut places);
+    places
+}

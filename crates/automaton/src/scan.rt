@@ -1,0 +1,43 @@
+// A path's sets and relation, by one walk over its bytes.
+use crate::relation::join;
+use crate::sets::Scan;
+use crate::sets::either;
+use crate::sets::in_sequence;
+use crate::sets::no_step;
+use crate::sets::one_step;
+use crate::sets::repeated;
+use parts::kinds::PathKind;
+use parts::kinds::path_kind;
+use parts::skip_path;
+ghost use Rattle.automaton.specs.Scanned.{Room, Scans};
+
+// The path at an offset, its steps numbered from b; what follows in it is added to the relation.
+pub fn scan(s: &[u8], at: usize, b: usize, f: &mut [[bool; 16]; 16]) -> Scan
+    requires { ⌜ Room (now s) at b ⌝ }
+    ensures { λ r. ⌜ Scans (now (s .entry)) at b (now (f .entry)) (now (f .exit)) r ⌝ }
+{
+    let k = path_kind(s, at);
+    match k {
+        PathKind::Empty => no_step(b, at + 1),
+        PathKind::Seq => {
+            let p = scan(s, at + 1, b, f);
+            let q = scan(s, p.next, p.count, f);
+            join(f, p.last, q.first);
+            in_sequence(p, q)
+        }
+        PathKind::Union => {
+            let p = scan(s, at + 1, b, f);
+            let q = scan(s, p.next, p.count, f);
+            either(p, q)
+        }
+        PathKind::Star => {
+            let p = scan(s, at + 1, b, f);
+            join(f, p.last, p.first);
+            repeated(p)
+        }
+        _ => {
+            let j = skip_path(s, at);
+            one_step(b, j)
+        }
+    }
+}
