@@ -61,7 +61,7 @@ module _ (s : List ℕ) (k i : ℕ) (next : i ≡ suc k) where
   -- line i is the first one behind the k lines before it
   pub line-next : line s i ≡ firstLine (behindLines k s)
   unfolding line
-  line-next = let e : i - 1 ≡ k = omega arith in rw e
+  line-next = let e : i - 1 ≡ k = omega arith in ap (λ (j : ℕ). firstLine (behindLines j s)) e
 
   -- there is no line i exactly if nothing is behind these lines
   pub line-none : (line s i ≡ []) ↔ (behindLines k s ≡ [])
