@@ -3,7 +3,7 @@ use Prim.Native.Nat.{ℕ, _+_, _<_, _≤_}
 use native.Mathlib.Omega.{arith}
 use mathlib.Core.Path.{_≡_, refl, sym, ap, subst, _∙_}
 use mathlib.Core.Logic.{_⊎_, inl, inr}
-use mathlib.Core.List.{List, _++_}
+use mathlib.Core.List.{List, [], _++_}
 use lib.ListN.{length, getD, set, length-append}
 use lib.Seq.{getD-set-same, getD-set-other}
 use Rattle.xpath.specs.Syntax.{XPath, one, Step, steps, size}
@@ -18,7 +18,7 @@ use Rattle.parts.proofs.Inner.{star-inner}
 use Rattle.automaton.specs.declared.places.Spot.{Spot}
 use Rattle.automaton.specs.Scanned.{Room}
 use Rattle.automaton.specs.Compared.{TwoPaths}
-use Rattle.automaton.specs.Places.{Located, Locates, Places}
+use Rattle.automaton.specs.Places.{Located, Locates, Places, PlacesAlone}
 use Rattle.automaton.proofs.Shapes.{Steps, Pairs, shaped, stepped, paired}
 
 -- where the path ends, and the number behind it
@@ -45,6 +45,13 @@ module _ (s : List ℕ) (at behind : ℕ) {e f : List ℕ} {p : Spot} (one-path 
   places-told {g} {q} other-path P R j k a b l =
       let u = one-path P j a (omega arith) in let n = u .count in
       both-placed u (subst (λ d. Located s R d f g k q) n (other-path R k b (omega arith)))
+
+pub alone-told : (s : List ℕ) (at : ℕ) {e f : List ℕ} {p : Spot} → Locates s at 1 e f p → PlacesAlone s at f
+alone-told s at {f = f} one-path P j a l i t o = go (num-split (steps P) [] 1 i t o)
+  where
+    go : Numbered 1 (steps P) i t ⊎ ⊥ → (k : ℕ) × PathAt s (one t) (getD f i 0) k
+    go (inl n) = one-path P j a (omega arith) .places i t n
+    go (inr n) = absurd n
 
 module _ (s : List ℕ) {at : ℕ} {k : PathKind} (kind : (P : XPath) (j : ℕ) → PathAt s P at j → k ≡ pathKind P) {b : ℕ} where
   retold : {P X : XPath} {f g : List ℕ} {j : ℕ} {r : Spot} → P ≡ X → (PathAt s X at j → b + size X ≤ 16 → Located s X b f g j r)

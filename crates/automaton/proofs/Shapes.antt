@@ -114,7 +114,7 @@ spelled-long (union A B) = omega arith
 spelled-long (star A) = omega arith
 
 module _ (s : List ℕ) where
-  path-long : {P : XPath} {i j : ℕ} → PathAt s P i j → (i < j) × (j ≤ length s)
+  pub path-long : {P : XPath} {i j : ℕ} → PathAt s P i j → (i < j) × (j ≤ length s)
   path-long {P} {i} {j} a = let n = spelled-long P in let e = a .spans .ends in let l = a .spans .inside in omega arith
 
   pub room-long : (at b : ℕ) → Room s at b → at < length s

@@ -5,8 +5,8 @@ use parts::skip_path;
 ghost use Prim.Native.Nat.{_≤_};
 ghost use lib.ListN.{length};
 ghost use Rattle.automaton.specs.Scanned.{Room};
-ghost use Rattle.automaton.specs.Compared.{TwoPaths};
-ghost use Rattle.automaton.specs.Places.{Locates, Places};
+ghost use Rattle.automaton.specs.Compared.{OnePath, TwoPaths};
+ghost use Rattle.automaton.specs.Places.{Locates, Places, PlacesAlone};
 
 // Behind a path: the next number and the next offset.
 pub struct Spot {
@@ -50,5 +50,15 @@ pub fn places_of(s: &[u8], at: usize, behind: usize) -> [usize; 16]
     let p = locate(s, at, 1, &mut places);
     let n = p.count;
     locate(s, behind, n, &mut places);
+    places
+}
+
+// The same of a comparison with a constant, which has one path.
+pub fn places_of_one(s: &[u8], at: usize) -> [usize; 16]
+    requires { ⌜ OnePath (now s) at ⌝ }
+    ensures { λ r. ⌜ PlacesAlone (now (s .entry)) at r ⌝ }
+{
+    let mut places = [0; 16];
+    locate(s, at, 1, &mut places);
     places
 }

@@ -16,7 +16,7 @@ ghost use Rattle.values.specs.Ordered.{Ordered};
 ghost use Rattle.ranks.specs.Ranks.{Tabled, one, isSmaller};
 
 // The beginning of the value of node `v`.
-fn open_node(s: &[u8], t: &[u16], n: usize, v: usize) -> Reading
+pub fn open_node(s: &[u8], t: &[u16], n: usize, v: usize) -> Reading
     requires { ⌜ Tabled (now s) n (now t) × (v < n) ⌝ }
     ensures { λ r. ⌜ ((ns : List Library.Node) → Accepts (now (s .entry)) ns → Linked (now (s .entry)) ns (now (t .entry)) → Comes (now (s .entry)) ns r (stringOf ns v)) ⌝ }
 {

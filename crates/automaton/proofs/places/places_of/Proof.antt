@@ -1,6 +1,6 @@
 -- `automaton::places::places_of` meets its contract.
 use native.Mathlib.Omega.{arith}
-use Rattle.automaton.proofs.Compared.{first-path}
+use Rattle.automaton.proofs.Compared.{first-of, path-room}
 use Rattle.automaton.proofs.Locating.{second-place, places-told}
 use borrow.Author.Needs.{needs}
 use Rattle.automaton.proofs.places.places_of.Statement.{statement}
@@ -10,7 +10,7 @@ slice-aggregate-locate : tie.Need-slice-aggregate-locate
 slice-aggregate-locate c = search needs
 
 locate-requires : tie.Need-locate-requires
-locate-requires c κs = (first-path _ _ _ (c .before .before .pre), omega arith)
+locate-requires c κs = (path-room _ _ (first-of _ _ _ (c .before .before .pre)), omega arith)
 
 slice-aggregate-locate-2 : tie.Need-slice-aggregate-locate-2
 slice-aggregate-locate-2 c = search needs

@@ -1,0 +1,26 @@
+// Where the tests of a rule hold: for each node four words of the table, with a bit for each test.
+pub mod labels;
+mod notes;
+pub mod passes;
+
+use links::table::get;
+ghost use mathlib.Core.Path.{_≡_};
+ghost use Prim.Native.Nat.{_<_};
+ghost use Rattle.links.specs.Table.{Room};
+ghost use Rattle.columns.specs.Columns.{held};
+
+pub struct Tests;
+
+impl Tests {
+    // The first of the four columns.
+    pub const COLUMN: usize = 8;
+}
+
+// Test `k` holds at node `v`.
+pub fn holds(t: &[u16], n: usize, k: usize, v: usize) -> bool
+    requires { ⌜ (k < 64) × (v < n) × Room n (now t) ⌝ }
+    ensures { λ r. ⌜ r ≡ held (now (t .entry)) n k v ⌝ }
+{
+    let w = get(t, n, Tests::COLUMN + k / 16, v);
+    bits::has(w as u16, (k % 16) as u16)
+}

@@ -1,0 +1,120 @@
+// What a comparison needs of the tree and of other tests, copied to the front of its part of the scratch: that part alone is lent to it.
+mod relations;
+
+use bits::has;
+use bits::insert;
+use columns::holds;
+use links::table::Table;
+use parts::kinds::Operator;
+use ranks::nodes::open_node;
+use relations::fits;
+use values::order::compare_constant;
+ghost use mathlib.Core.List.{List};
+ghost use mathlib.Core.Logic.{_↔_};
+ghost use mathlib.Core.Path.{_≡_};
+ghost use Prim.Native.Nat.{ℕ, _*_, _≤_, _<_};
+ghost use lib.ListN.{length, getD};
+ghost use lib.Seq.{slice};
+ghost use Rattle.bits.specs.Sets.{bit, and};
+ghost use Rattle.xpath.specs.Syntax.{Op};
+ghost use Rattle.xpath.specs.Meaning.{Rel};
+ghost use Rattle.library.specs.Library as Library;
+ghost use Rattle.library.specs.Binary.{stringOf};
+ghost use Rattle.library.specs.Verdict.{Accepts};
+ghost use Rattle.links.specs.Table.{Room};
+ghost use Rattle.links.specs.Links.{Linked};
+ghost use Rattle.ranks.specs.Ranks.{Tabled};
+ghost use Rattle.parts.specs.Kinds.{operator};
+ghost use Rattle.columns.specs.Columns.{held};
+ghost use Rattle.drawing.specs.Drawing.{Copied, Stayed, Judged};
+
+// The part begins behind the table. It has the links and the ranks in the same columns as that, and then these two.
+const STAYS: usize = Table::COLUMNS + 6;
+
+const HIT: usize = Table::COLUMNS + 7;
+
+// The links and the ranks.
+pub fn draw(t: &mut [u16], n: usize)
+    requires { ⌜ 24 * n ≤ length (now t) ⌝ }
+    ensures { λ _. ⌜ Copied n (now (t .entry)) (now (t .exit)) ⌝ }
+{
+    let from = Table::LEFT * n;
+    let to = Table::COLUMNS * n + from;
+    let size = 4 * n;
+    let mut k = 0;
+    while k < size {
+        t[to + k] = t[from + k];
+        k += 1;
+    }
+}
+
+// The positions in `brackets` whose test holds at node `v`.
+fn tests_at(t: &[u16], n: usize, v: usize, brackets: u16, numbers: [usize; 16]) -> u16
+    requires { ⌜ Room n (now t) × (v < n) × ((j : ℕ) → j < 16 → getD numbers j 0 < 64) ⌝ }
+    ensures { λ r. ⌜ ((j : ℕ) → j < 16 → bit r j ≡ and (bit brackets j) (held (now (t .entry)) n (getD numbers j 0) v)) ⌝ }
+{
+    let mut w = 0;
+    let mut j: usize = 0;
+    while j < 16 {
+        if has(brackets, j as u16) && holds(t, n, numbers[j], v) {
+            w = insert(w, j as u16);
+        }
+        j += 1;
+    }
+    w
+}
+
+// Where the bracketed tests hold; the test of position j has the number `numbers[j]`.
+pub fn draw_tests(t: &mut [u16], n: usize, brackets: u16, numbers: [usize; 16])
+    requires { ⌜ (24 * n ≤ length (now t)) × ((j : ℕ) → j < 16 → getD numbers j 0 < 64) ⌝ }
+    ensures { λ _. ⌜ Stayed n brackets numbers (now (t .entry)) (now (t .exit)) ⌝ }
+{
+    let column = STAYS * n;
+    let mut v = 0;
+    while v < n {
+        let w = tests_at(t, n, v, brackets, numbers);
+        t[column + v] = w;
+        v += 1;
+    }
+}
+
+// 1 if the value of node `v` is in the relation to the constant.
+fn hit(
+    s: &[u8],
+    rule: &[u8],
+    t: &[u16],
+    n: usize,
+    v: usize,
+    from: usize,
+    to: usize,
+    o: Operator,
+) -> u16
+    requires { ⌜ Tabled (now s) n (now t) × (v < n) × (from ≤ to) × (to ≤ length (now rule)) ⌝ }
+    ensures { λ r. ⌜ ((ns : List Library.Node) (q : Op) → Accepts (now (s .entry)) ns → Linked (now (s .entry)) ns (now (t .entry)) → o ≡ operator q → (r ≡ 1) ↔ Rel q (stringOf ns v) (slice from to (now (rule .entry)))) ⌝ }
+{
+    let r = open_node(s, t, n, v);
+    let c = compare_constant(s, r, rule, from, to);
+    if fits(c, o) { 1 } else { 0 }
+}
+
+// Where the value is in the relation to the constant that stands in the rule from one offset up to another.
+pub fn draw_hits(
+    s: &[u8],
+    rule: &[u8],
+    t: &mut [u16],
+    n: usize,
+    from: usize,
+    to: usize,
+    o: Operator,
+)
+    requires { ⌜ Tabled (now s) n (now t) × (24 * n ≤ length (now t)) × (from ≤ to) × (to ≤ length (now rule)) ⌝ }
+    ensures { λ _. ⌜ ((ns : List Library.Node) (q : Op) → Accepts (now (s .entry)) ns → Linked (now (s .entry)) ns (now (t .entry)) → o ≡ operator q → Judged ns n q (slice from to (now (rule .entry))) (now (t .entry)) (now (t .exit))) ⌝ }
+{
+    let column = HIT * n;
+    let mut v = 0;
+    while v < n {
+        let x = hit(s, rule, t, n, v, from, to, o);
+        t[column + v] = x;
+        v += 1;
+    }
+}

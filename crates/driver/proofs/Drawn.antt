@@ -1,0 +1,79 @@
+-- What is drawn for a comparison stands in its part.
+use Prim.Native.Nat.{ℕ, suc, _+_, _*_, _≤_, _<_}
+use native.Mathlib.Nat.{mul-le-mul-right, add-mul}
+use native.Mathlib.Omega.{arith}
+use mathlib.Core.Path.{_≡_, refl, sym, ap, _∙_, subst}
+use mathlib.Core.Logic.{_⊎_, inl, inr, _↔_}
+use mathlib.Core.Bool.{Bool, true, false}
+use mathlib.Core.List.{List, _++_}
+use lib.ListN.{length, getD}
+use Rattle.limits.specs.Limits.{scratchWords}
+use Rattle.bits.specs.Sets.{bit, and}
+use Rattle.xpath.specs.Syntax.{Op, Test, XPath, stay, steps}
+use Rattle.xpath.specs.Meaning.{Less, Rel, Holds}
+use Rattle.xpath.specs.Tree.{Child}
+use Rattle.library.specs.Library.{Node}
+use Rattle.library.specs.Binary.{stringOf, treeOf}
+use Rattle.links.specs.Table.{COLUMNS, LEFT, RANK, PARENT, column, word}
+use Rattle.links.specs.Links.{Points, IsParent}
+use Rattle.columns.specs.Columns.{held}
+use Rattle.walks.specs.Part.{STAYS, HIT}
+use Rattle.walks.specs.Meaning.{IsStep, Drawn, Judges}
+use Rattle.drawing.specs.Drawing.{Within, Copied, Stayed, Judged}
+use Rattle.driver.specs.Tasks.{Scene}
+use Rattle.driver.proofs.Parts.{part, part-word}
+
+within-word : {n c d : ℕ} {t t′ : List ℕ} → Within n c d t t′ → (b v : ℕ) → b < c → v < n → word t′ n b v ≡ word t n b v
+within-word {n} {c} w b v h l = let k : suc b * n ≤ c * n = mul-le-mul-right n h in let m = add-mul 1 b n in w .front (b * n + v) (omega arith)
+
+column-low : (side : Bool) → (LEFT ≤ column side) × (column side ≤ RANK)
+column-low true = (omega arith, omega arith)
+column-low false = (omega arith, omega arith)
+
+-- the links and ranks copied, then the bracketed tests, and then the hits of a constant, if there is one
+module _ {s : List ℕ} {ns : List Node} {n : ℕ} {t t₁ t₂ t₃ : List ℕ} {b : ℕ} {numbers : List ℕ}
+    (scene : Scene s ns n t) (pos : 0 < n) (room : scratchWords n ≤ length t₃)
+    (copied : Copied n t t₁) (stayed : Stayed n b numbers t₁ t₂) (within : Within n 23 24 t₂ t₃) where
+  abbrev p : List ℕ
+  p = part n t₃ pos room
+
+  link : (c v : ℕ) → LEFT ≤ c → c ≤ RANK → v < n → word t n c v ≡ word p n c v
+  link c v h k l =
+      sym (part-word n t₃ pos room c v (omega arith) l
+      ∙ within-word within (COLUMNS + c) v (omega arith) l ∙ within-word (stayed .within) (COLUMNS + c) v (omega arith) l ∙ copied .copied c v h k l)
+
+  -- the six words of a node are told at the library's length
+  told : (A : ℕ → ℕ → Type 0) (c v : ℕ) → LEFT ≤ c → c ≤ RANK → v < n → A (length ns) (word t (length ns) c v) → A n (word p n c v)
+  told A c v h k l x = subst (λ w. A n w) (link c v h k l) (subst (λ m. A m (word t m c v)) (scene .size) x)
+
+  pub drawn : (P R : XPath)
+      → ((v j : ℕ) → v < n → j < 16 → (and (bit b j) (held t₁ n (getD numbers j 0) v) ≡ true) ↔ ((T : Test) × IsStep P R j (stay T) × Holds (treeOf ns) T v))
+      → Drawn P R (treeOf ns) n p
+  drawn P R tests = record {
+    size = scene .size;
+    few = subst (λ m. m ≤ 4096) (scene .size) (scene .library .legal .few);
+    children = λ side v l. told (λ m x. Points (Child (treeOf ns) side v) x) (column side) v (column-low side .0) (column-low side .1) l (scene .linked .children side v (inside v l));
+    parents = λ v l. told (λ m x. IsParent ns v x) PARENT v (omega arith) (omega arith) l (scene .linked .parents v (inside v l));
+    small = λ v l. told (λ m x. x < m) RANK v (omega arith) (omega arith) l (scene .ranked .small v (inside v l));
+    ordered = λ v w l k. subst (λ x. (x < word p n RANK w) ↔ Less (stringOf ns v) (stringOf ns w)) (rank v l)
+        (subst (λ y. (word t (length ns) RANK v < y) ↔ Less (stringOf ns v) (stringOf ns w)) (rank w k) (scene .ranked .ordered v w (inside v l) (inside w k)));
+    same = λ v w l k. subst (λ x. (x ≡ word p n RANK w) ↔ (stringOf ns v ≡ stringOf ns w)) (rank v l)
+        (subst (λ y. (word t (length ns) RANK v ≡ y) ↔ (stringOf ns v ≡ stringOf ns w)) (rank w k) (scene .ranked .same v w (inside v l) (inside w k)));
+    tests = λ v j l h. subst (λ x. (x ≡ true) ↔ ((T : Test) × IsStep P R j (stay T) × Holds (treeOf ns) T v))
+        (sym (stays v j l h)) (tests v j l h);
+  }
+    where
+      inside : (v : ℕ) → v < n → v < length ns
+      inside v l = subst (λ m. v < m) (sym (scene .size)) l
+
+      rank : (v : ℕ) → v < n → word t (length ns) RANK v ≡ word p n RANK v
+      rank v l = ap (λ m. word t m RANK v) (scene .size) ∙ link RANK v (omega arith) (omega arith) l
+
+      stays : (v j : ℕ) → v < n → j < 16 → bit (word p n STAYS v) j ≡ and (bit b j) (held t₁ n (getD numbers j 0) v)
+      stays v j l h = ap (λ w. bit w j) (part-word n t₃ pos room STAYS v (omega arith) l ∙ within-word within (COLUMNS + STAYS) v (omega arith) l) ∙ stayed .done v j l h
+
+-- the hits stand there too
+pub judges : {ns : List Node} {n : ℕ} {t t′ : List ℕ} {o : Op} {c : List ℕ} (pos : 0 < n) (room : scratchWords n ≤ length t′)
+    → Judged ns n o c t t′ → Judges o c (treeOf ns) n (part n t′ pos room)
+judges {ns} {n} {t} {t′} {o} {c} pos room j v l =
+    subst (λ x. (x ≡ 1) ↔ Rel o (stringOf ns v) c) (sym (part-word n t′ pos room HIT v (omega arith) l)) (j .done v l)

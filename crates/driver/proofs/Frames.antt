@@ -1,0 +1,82 @@
+-- What stays when a part of the scratch is written.
+use Prim.Native.Nat.{ℕ, zero, suc, _+_, _-_, _*_, _/_, _%_, _^_, _≤_, _<_}
+use native.Mathlib.Nat.{mul-le-mul-right, mul-le-mul, mul-comm}
+use native.Mathlib.Omega.{arith}
+use mathlib.Core.Path.{_≡_, refl, sym, ap, _∙_, subst}
+use mathlib.Core.Logic.{_≢_, _↔_}
+use mathlib.Core.Bool.{true}
+use mathlib.Core.List.{List}
+use lib.ListN.{length, getD}
+use Rattle.lists.specs.Text.{binaryDigits}
+use Rattle.lists.proofs.Numerals.{binary-above}
+use Rattle.limits.specs.Limits.{scratchWords}
+use Rattle.bits.specs.Sets.{bit}
+use Rattle.xpath.specs.Meaning.{Less}
+use Rattle.library.specs.Library.{Node}
+use Rattle.library.specs.Binary.{stringOf}
+use Rattle.links.specs.Table.{COLUMNS, RANK, word}
+use Rattle.links.specs.Links.{Linked}
+use Rattle.links.proofs.Linked.{linked-same}
+use Rattle.ranks.specs.Ranks.{Ranked, Tabled}
+use Rattle.columns.specs.Columns.{held}
+use Rattle.drawing.specs.Drawing.{Within}
+use Rattle.driver.specs.Tasks.{Scene, Apart}
+
+-- the scratch's own words are at least 192 for each node
+pub scratch-room : (n : ℕ) → 0 < n → 192 * n ≤ scratchWords n
+unfolding scratchWords
+scratch-room n h =
+    let b = digits (binaryDigits n) (binary-above n) in
+    let e = mul-comm n 192 in
+    let l : n * 192 ≤ n * (64 * binaryDigits n + 128) = mul-le-mul {n₂ = n} (omega arith) (omega arith) in omega arith
+  where
+    digits : (b : ℕ) → n < 2 ^ b → 1 ≤ b
+    digits zero l = absurd (omega arith)
+    digits (suc b) l = omega arith
+
+-- ── Apart ──
+pub apart-none : (n : ℕ) (t : List ℕ) → Apart n t t
+apart-none n t = record { long = refl; front = λ i h. refl; behind = λ i h. refl }
+
+pub apart-then : {n : ℕ} {t t₁ t₂ : List ℕ} → Apart n t t₁ → Apart n t₁ t₂ → Apart n t t₂
+apart-then p q = record { long = q .long ∙ p .long; front = λ i h. q .front i h ∙ p .front i h; behind = λ i h. q .behind i h ∙ p .behind i h }
+
+pub within-apart : {n c d : ℕ} {t t′ : List ℕ} → 0 < n → COLUMNS ≤ c → d ≤ 192 → Within n c d t t′ → Apart n t t′
+within-apart {n} {c} {d} pos low high w =
+    let r = scratch-room n pos in
+    let a : 16 * n ≤ c * n = mul-le-mul-right n low in
+    let b : d * n ≤ 192 * n = mul-le-mul-right n high in
+    record { long = w .long; front = λ i h. w .front i (omega arith); behind = λ i h. w .behind i (omega arith) }
+
+-- ── What the table says ──
+pub word-apart : {n : ℕ} {t t′ : List ℕ} → Apart n t t′ → (c v : ℕ) → c < COLUMNS → v < n → word t′ n c v ≡ word t n c v
+word-apart {n} a c v h l = let k : c * n ≤ 15 * n = mul-le-mul-right n (omega arith) in a .front (c * n + v) (omega arith)
+
+pub held-apart : {n : ℕ} {t t′ : List ℕ} → Apart n t t′ → (k v : ℕ) → k < 64 → v < n → held t′ n k v ≡ held t n k v
+held-apart a k v h l = ap (λ w. bit w (k % 16)) (word-apart a (8 + k / 16) v (omega arith) l)
+
+-- the tree and the ranks are told by the first six columns
+pub scene-same : {s : List ℕ} {ns : List Node} {n : ℕ} {t t′ : List ℕ} → Scene s ns n t → length t′ ≡ length t
+    → ((i : ℕ) → i < 8 * n → getD t′ i 0 ≡ getD t i 0) → Scene s ns n t′
+scene-same {s} {ns} {n} {t} {t′} c long same =
+    let e = c .size in let room = c .room in
+    let rank : (v : ℕ) → v < length ns → word t′ (length ns) RANK v ≡ word t (length ns) RANK v = λ v l. same (RANK * length ns + v) (omega arith) in
+    let r = c .ranked in
+    record {
+      library = c .library;
+      size = e;
+      linked = linked-same (c .linked) (λ k l. same k (omega arith));
+      ranked = record {
+        small = λ v l. subst (λ x. x < length ns) (sym (rank v l)) (r .small v l);
+        ordered = λ v w l m. subst (λ x. (x < word t′ (length ns) RANK w) ↔ Less (stringOf ns v) (stringOf ns w)) (sym (rank v l))
+            (subst (λ y. (word t (length ns) RANK v < y) ↔ Less (stringOf ns v) (stringOf ns w)) (sym (rank w m)) (r .ordered v w l m));
+        same = λ v w l m. subst (λ x. (x ≡ word t′ (length ns) RANK w) ↔ (stringOf ns v ≡ stringOf ns w)) (sym (rank v l))
+            (subst (λ y. (word t (length ns) RANK v ≡ y) ↔ (stringOf ns v ≡ stringOf ns w)) (sym (rank w m)) (r .same v w l m));
+      };
+      room = omega arith;
+    }
+
+pub scene-tabled : {s : List ℕ} {ns : List Node} {n : ℕ} {t : List ℕ} → Scene s ns n t → 0 < n → Tabled s n t
+scene-tabled {ns = ns} {n} c pos =
+    let r = scratch-room n pos in let h = c .room in
+    record { nodes = ns; accepts = c .library; linked = c .linked; size = c .size; room = omega arith }

@@ -1,0 +1,9 @@
+pub mod Frames
+pub mod Parts
+pub mod Drawn
+pub mod Answers
+pub mod Settling
+pub mod Arms
+pub mod Asked
+pub mod Operands
+pub mod Lending

@@ -1,0 +1,105 @@
+-- Settling the tests of a rule one by one, inner ones first.
+use Prim.Native.Nat.{ℕ, _+_, _*_, _≤_, _<_}
+use mathlib.Core.Path.{_≡_}
+use mathlib.Core.Logic.{_⊎_, _≢_, _↔_}
+use mathlib.Core.Bool.{true}
+use mathlib.Core.List.{List}
+use lib.ListN.{length, getD}
+use lib.Seq.{slice}
+use Rattle.limits.specs.Limits.{scratchWords}
+use Rattle.xpath.specs.Syntax.{Op, Test, named, not, and, or, compare, compareTo, XPath}
+use Rattle.xpath.specs.Meaning.{Holds}
+use Rattle.library.specs.Library.{Node}
+use Rattle.library.specs.Binary.{treeOf}
+use Rattle.library.specs.Verdict as Document
+use Rattle.grammar.specs.Verdict as Rule
+use Rattle.links.specs.Table.{COLUMNS, word}
+use Rattle.links.specs.Links.{Linked}
+use Rattle.ranks.specs.Ranks.{Ranked}
+use Rattle.parts.specs.Standing.{TestAt, PathAt}
+use Rattle.parts.specs.Kinds.{operator}
+use Rattle.parts.specs.declared.kinds.Operator.{Operator}
+use Rattle.parts.specs.declared.kinds.TestKind.{TestKind}
+use Rattle.parts.specs.declared.kinds.TestKind.the-variants.{Named, Not, And, Or, Comparison}
+use Rattle.columns.specs.Columns.{TESTS, held}
+use Rattle.numbering.specs.Tests.{testsOf, test}
+
+-- the scratch holds the tree of the accepted document and the ranks of its values
+pub record Scene (s : List ℕ) (ns : List Node) (n : ℕ) (t : List ℕ) : Type 0 where
+  pub library : Document.Accepts s ns
+  pub size : length ns ≡ n
+  pub linked : Linked s ns t
+  pub ranked : Ranked ns t
+  pub room : scratchWords n ≤ length t
+
+-- bit k says where the test holds
+abbrev pub Tells : List Node → ℕ → ℕ → Test → List ℕ → Type 0
+Tells ns n k T t = (v : ℕ) → v < n → (held t n k v ≡ true) ↔ Holds (treeOf ns) T v
+
+-- test k is due: it stands at an offset of the accepted rule T, and the tests behind it are settled
+pub record Task (s rule : List ℕ) (ns : List Node) (T : Test) (n at k : ℕ) (t : List ℕ) : Type 0 where
+  pub scene : Scene s ns n t
+  pub accepts : Rule.Accepts rule T
+  pub number : k < length (testsOf T)
+  pub end : ℕ
+  pub stands : TestAt rule (test (testsOf T) k) at end
+  pub inner : (i : ℕ) → k < i → i < length (testsOf T) → Tells ns n i (test (testsOf T) i) t
+
+-- what a test of a kind looks like
+abbrev pub Shape : TestKind → Test → Type 0
+Shape Named T = (a : List ℕ) × (T ≡ named a)
+Shape Not T = (U : Test) × (T ≡ not U)
+Shape And T = (U W : Test) × (T ≡ and U W)
+Shape Or T = (U W : Test) × (T ≡ or U W)
+Shape Comparison T = ((o : Op) × (P R : XPath) × (T ≡ compare o P R)) ⊎ ((o : Op) × (P : XPath) × (c : List ℕ) × (T ≡ compareTo o P c))
+
+-- test k is the comparison of two paths, the first behind its bracket and the second at an offset
+pub record Paths (s rule : List ℕ) (ns : List Node) (T : Test) (n at k : ℕ) (t : List ℕ) (behind : ℕ) (o : Operator) : Type 0 where
+  pub task : Task s rule ns T n at k t
+  pub sign : Op
+  pub first : XPath
+  pub second : XPath
+  pub is : test (testsOf T) k ≡ compare sign first second
+  pub told : o ≡ operator sign
+  pub firstEnd : ℕ
+  pub firstAt : PathAt rule first (at + 1) firstEnd
+  pub secondEnd : ℕ
+  pub secondAt : PathAt rule second behind secondEnd
+
+-- test k is the comparison of a path with the constant that stands from one offset up to another
+pub record Constant (s rule : List ℕ) (ns : List Node) (T : Test) (n at k : ℕ) (t : List ℕ) (start stop : ℕ) (o : Operator) : Type 0 where
+  pub task : Task s rule ns T n at k t
+  pub sign : Op
+  pub first : XPath
+  pub is : test (testsOf T) k ≡ compareTo sign first (slice start stop rule)
+  pub told : o ≡ operator sign
+  pub firstEnd : ℕ
+  pub firstAt : PathAt rule first (at + 1) firstEnd
+  pub ordered : start ≤ stop
+  pub inside : stop ≤ length rule
+
+-- only the part behind the tree's own words may be different
+pub record Apart (n : ℕ) (t t′ : List ℕ) : Type 0 where
+  pub long : length t′ ≡ length t
+  pub front : (i : ℕ) → i < COLUMNS * n → getD t′ i 0 ≡ getD t i 0
+  pub behind : (i : ℕ) → scratchWords n ≤ i → getD t′ i 0 ≡ getD t i 0
+
+-- the comparison's answers stand in the first column of its part
+pub record Answers (ns : List Node) (n : ℕ) (T : Test) (t t′ : List ℕ) : Type 0 where
+  pub apart : Apart n t t′
+  pub answers : (v : ℕ) → v < n → (word t′ n COLUMNS v ≡ 1) ↔ Holds (treeOf ns) T v
+
+-- test k is settled; the tree and the other tests are as before, and so is all behind the scratch's own words
+pub record Decided (ns : List Node) (n k : ℕ) (T : Test) (t t′ : List ℕ) : Type 0 where
+  pub long : length t′ ≡ length t
+  pub tells : Tells ns n k T t′
+  pub others : (i v : ℕ) → i < 64 → i ≢ k → v < n → held t′ n i v ≡ held t n i v
+  pub front : (i : ℕ) → i < TESTS * n → getD t′ i 0 ≡ getD t i 0
+  pub behind : (i : ℕ) → scratchWords n ≤ i → getD t′ i 0 ≡ getD t i 0
+
+-- all tests from k on are settled
+pub record Settling (ns : List Node) (n k : ℕ) (T : Test) (t t′ : List ℕ) : Type 0 where
+  pub long : length t′ ≡ length t
+  pub tells : (i : ℕ) → k ≤ i → i < length (testsOf T) → Tells ns n i (test (testsOf T) i) t′
+  pub front : (i : ℕ) → i < TESTS * n → getD t′ i 0 ≡ getD t i 0
+  pub behind : (i : ℕ) → scratchWords n ≤ i → getD t′ i 0 ≡ getD t i 0

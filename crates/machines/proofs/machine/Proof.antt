@@ -1,0 +1,43 @@
+-- `machines::machine` meets its contract.
+use mathlib.Core.Path.{refl}
+use Rattle.machines.proofs.Machines.{known-inside, machine-told}
+use borrow.Author.Needs.{needs}
+use Rattle.machines.proofs.machine.Statement.{statement}
+use Rattle.machines.proofs.machine.Tie as tie
+
+rows-of-requires : tie.Need-rows-of-requires
+rows-of-requires c κs = search needs
+
+steps-with-requires : tie.Need-steps-with-requires
+steps-with-requires c κs = known-inside (c .before .before .pre)
+
+steps-with-requires-2 : tie.Need-steps-with-requires-2
+steps-with-requires-2 c κs = known-inside (c .before .before .before .pre)
+
+steps-with-requires-3 : tie.Need-steps-with-requires-3
+steps-with-requires-3 c κs = known-inside (c .before .before .before .before .pre)
+
+steps-with-requires-4 : tie.Need-steps-with-requires-4
+steps-with-requires-4 c κs = known-inside (c .before .before .before .before .before .pre)
+
+steps-with-requires-5 : tie.Need-steps-with-requires-5
+steps-with-requires-5 c κs = known-inside (c .before .before .before .before .before .before .pre)
+
+add-t12 : tie.Need-add-t12
+add-t12 c = search needs
+
+returns : tie.Need-returns
+returns c = machine-told (c .before .before .before .before .before .rows-of .ensures) (c .before .before .before .before .steps-with .ensures) (c .before .before .before .steps-with2 .ensures) (c .before .before .steps-with3 .ensures) (c .before .steps-with4 .ensures) (c .steps-with5 .ensures) refl refl
+
+pub machine-spec : {M : Type 1} → statement M
+machine-spec =
+    tie.close
+    (tie.spec
+    rows-of-requires
+    steps-with-requires
+    steps-with-requires-2
+    steps-with-requires-3
+    steps-with-requires-4
+    steps-with-requires-5
+    add-t12
+    returns)

@@ -1,0 +1,53 @@
+// The machine of a comparison, from the bytes of an accepted rule.
+mod rows;
+mod steps;
+
+use automaton::automaton::Automaton;
+use automaton::automaton::automaton_of;
+use automaton::automaton::automaton_of_one;
+use automaton::places::places_of;
+use automaton::places::places_of_one;
+use bits::square::empty;
+use rows::rows_of;
+use steps::steps_with;
+use walks::Machine;
+ghost use Rattle.automaton.specs.Compared.{TwoPaths};
+ghost use Rattle.machines.specs.Machines.{Known, Machines, Machined, OnePath, MachinedAlone};
+
+// The automaton as words, and the steps by the byte that each begins with.
+fn machine(s: &[u8], f: [[bool; 16]; 16], a: Automaton, places: [usize; 16]) -> Machine
+    requires { ⌜ Known (now s) f a places ⌝ }
+    ensures { λ r. ⌜ Machines (now (s .entry)) f a places r ⌝ }
+{
+    let n = a.count;
+    Machine {
+        rows: rows_of(f),
+        left: steps_with(s, places, n, b'l'),
+        right: steps_with(s, places, n, b'r'),
+        leftup: steps_with(s, places, n, b'L'),
+        rightup: steps_with(s, places, n, b'R'),
+        brackets: steps_with(s, places, n, b'['),
+        last: a.last,
+        second: n + 1,
+    }
+}
+
+// The paths that stand at the two offsets.
+pub fn machine_of(s: &[u8], at: usize, behind: usize) -> Machine
+    requires { ⌜ TwoPaths (now s) at behind ⌝ }
+    ensures { λ r. ⌜ Machined (now (s .entry)) at behind r ⌝ }
+{
+    let mut f = empty();
+    let a = automaton_of(s, at, behind, &mut f);
+    machine(s, f, a, places_of(s, at, behind))
+}
+
+// The path that stands at the offset, and an empty one.
+pub fn machine_of_one(s: &[u8], at: usize) -> Machine
+    requires { ⌜ OnePath (now s) at ⌝ }
+    ensures { λ r. ⌜ MachinedAlone (now (s .entry)) at r ⌝ }
+{
+    let mut f = empty();
+    let a = automaton_of_one(s, at, &mut f);
+    machine(s, f, a, places_of_one(s, at))
+}

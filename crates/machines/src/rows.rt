@@ -1,0 +1,38 @@
+// The rows of the follow square as sets.
+use bits::insert;
+ghost use mathlib.Core.Path.{_≡_};
+ghost use mathlib.Core.Bool.{true, false};
+ghost use mathlib.Core.Logic.{_↔_};
+ghost use Prim.Native.Nat.{ℕ, _<_};
+ghost use lib.ListN.{getD};
+ghost use Rattle.bits.specs.Sets.{bit};
+ghost use Rattle.bits.specs.Square.{cell};
+ghost use Rattle.machines.specs.Gathered.{Gathered};
+
+// The positions whose flag is up.
+fn row_set(row: [bool; 16]) -> u16
+    ensures { λ r. ⌜ Gathered (λ j. getD row j false ≡ true) 16 r ⌝ }
+{
+    let mut w = 0;
+    let mut j: usize = 0;
+    while j < 16 {
+        if row[j] {
+            w = insert(w, j as u16);
+        }
+        j += 1;
+    }
+    w
+}
+
+// Row i is the set of what follows i.
+pub fn rows_of(f: [[bool; 16]; 16]) -> [u16; 16]
+    ensures { λ r. ⌜ ((i j : ℕ) → i < 16 → j < 16 → (bit (getD r i 0) j ≡ true) ↔ (cell f i j ≡ true)) ⌝ }
+{
+    let mut rows = [0; 16];
+    let mut i: usize = 0;
+    while i < 16 {
+        rows[i] = row_set(f[i]);
+        i += 1;
+    }
+    rows
+}

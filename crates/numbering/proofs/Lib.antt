@@ -1,0 +1,6 @@
+pub mod Counts
+pub mod Lights
+pub mod Following
+pub mod Shapes
+pub mod Listing
+pub mod Bracketing

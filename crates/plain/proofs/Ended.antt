@@ -1,0 +1,47 @@
+-- Where a walk ends: the words of two sets that meet.
+use Prim.Native.Nat.{ℕ, zero, suc, _/_, _^_, _≤_, _<_}
+use mathlib.Core.Path.{_≡_, sym, ap, _∙_, subst}
+use mathlib.Core.Logic.{_↔_}
+use mathlib.Core.Bool.{true, false, not, false≢true}
+use mathlib.Core.List.{List}
+use native.Mathlib.Decide.{decLt}
+use native.Mathlib.Numerals.{add-one}
+use native.Mathlib.Omega.{arith}
+use lib.Count.{trailingZeros}
+use lib.Dec.{eqb}
+use lib.Pow.{shr-lt}
+use borrow.Author.Tests.{eqb-false, ne-eqb, not-true}
+use Rattle.bits.specs.Sets.{bit, and}
+use Rattle.bits.proofs.SetLaws.{bit-none, bit-suc}
+use Rattle.links.specs.Table.{word}
+use Rattle.walks.specs.Part.{SEEN}
+use Rattle.reach.proofs.Members.{and-both, and-parts, lowest}
+use Rattle.plain.specs.Ends.{Ended}
+
+-- the members of a word of n digits are below n
+bit-high : (n w j : ℕ) → w < 2 ^ n → n ≤ j → bit w j ≡ false
+bit-high zero w j h l = let e : w ≡ 0 = omega arith in ap (λ (x : ℕ). bit x j) e ∙ bit-none j
+bit-high (suc n) w zero h l = absurd (omega arith)
+bit-high (suc n) w (suc j) h l = bit-suc w j ∙ bit-high n (w / 2) j (shr-lt n 1 (subst (λ (k : ℕ). w < 2 ^ k) (sym (add-one n)) h)) (omega arith)
+
+pub member-below : {w j : ℕ} → w < 65536 → bit w j ≡ true → j < 16
+member-below {w} {j} h e = go (decLt j 16)
+  where
+    go : Dec (j < 16) → j < 16
+    go (yes l) = l
+    go (no l) = absurd (false≢true (sym (bit-high 16 w j h (omega arith)) ∙ e))
+
+module _ (n last w x : ℕ) (p : List ℕ) (fits : x < 65536) (h : (i : ℕ) → bit x i ≡ and (bit (word p n SEEN w) i) (bit last i)) where
+  -- x is what the two sets have in common
+  pub meets-ended : (not (eqb x 0) ≡ true) ↔ Ended n last p w
+  meets-ended = (some, λ g. ap not (ne-eqb x 0 (λ e. false≢true (sym (bit-none (g .position)) ∙ ap (λ (y : ℕ). bit y (g .position)) (sym e) ∙ h (g .position) ∙ and-both _ _ (g .seen) (g .among)))))
+    where
+      some : not (eqb x 0) ≡ true → Ended n last p w
+      some e =
+          let f = eqb-false x 0 (not-true (eqb x 0) e) in
+          let l = and-parts _ _ (sym (h (trailingZeros 16 x)) ∙ lowest 16 x (omega arith) fits .1) in
+          record { position = trailingZeros 16 x; among = l .1; seen = l .0 }
+
+-- the same words say the same
+pub ended-same : {n last w : ℕ} {p p′ : List ℕ} → word p′ n SEEN w ≡ word p n SEEN w → Ended n last p w → Ended n last p′ w
+ended-same e g = record { position = g .position; among = g .among; seen = ap (λ (x : ℕ). bit x (g .position)) e ∙ g .seen }

@@ -1,0 +1,25 @@
+-- Where a walk ends, and what a test at one node leaves as it was.
+use Prim.Native.Nat.{ℕ, _*_, _≤_, _<_}
+use mathlib.Core.Path.{_≡_}
+use mathlib.Core.Bool.{true}
+use mathlib.Core.List.{List}
+use lib.ListN.{length, getD}
+use Rattle.bits.specs.Sets.{bit}
+use Rattle.links.specs.Table.{LEFT, word}
+use Rattle.walks.specs.Part.{SEEN}
+
+-- the walk that the part has seen comes to w at one of the last positions
+pub record Ended (n last : ℕ) (p : List ℕ) (w : ℕ) : Type 0 where
+  pub position : ℕ
+  pub among : bit last position ≡ true
+  pub seen : bit (word p n SEEN w) position ≡ true
+
+-- the links, the ranks, the bracketed tests and the hits are as they were
+pub record Held (n : ℕ) (p p′ : List ℕ) : Type 0 where
+  pub long : length p′ ≡ length p
+  pub middle : (k : ℕ) → LEFT * n ≤ k → k < SEEN * n → getD p′ k 0 ≡ getD p k 0
+
+-- the answers are so too
+pub record Steady (n : ℕ) (p p′ : List ℕ) : Type 0 where
+  pub held : Held n p p′
+  pub answers : (k : ℕ) → k < n → getD p′ k 0 ≡ getD p k 0

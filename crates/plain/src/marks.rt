@@ -1,0 +1,93 @@
+// Equal ranks, by marks: the ranks where the first path ends are marked, and the ends of the second path looked up.
+use crate::ends::Column;
+use crate::ends::ends_at;
+use links::table::Table;
+use links::table::get;
+use links::table::put;
+use reach::reach;
+use walks::Machine;
+ghost use mathlib.Core.Bool.{true};
+ghost use mathlib.Core.Logic.{_↔_};
+ghost use mathlib.Core.Path.{_≡_};
+ghost use Prim.Native.Nat.{ℕ, _<_};
+ghost use Rattle.xpath.specs.Syntax.{eq};
+ghost use Rattle.links.specs.Table.{RANK, Room, word};
+ghost use Rattle.walks.specs.Part.{MARK, Space};
+ghost use Rattle.walks.specs.Walks.{Meets};
+ghost use Rattle.plain.specs.Plain.{Small};
+ghost use Rattle.plain.specs.Ends.{Ended, Steady};
+ghost use Rattle.plain.specs.Marks.{Clear, MarkedAt, Marked};
+
+// No rank is marked.
+fn clear_marks(p: &mut [u16], n: usize)
+    requires { ⌜ Space n (now p) ⌝ }
+    ensures { λ _. ⌜ Steady n (now (p .entry)) (now (p .exit)) × Clear n (now (p .exit)) ⌝ }
+{
+    let mut r = 0;
+    while r < n {
+        put(p, n, Column::MARK, r, 0);
+        r += 1;
+    }
+}
+
+// The rank of node `w` is marked if the walk ends there.
+fn mark_rank(p: &mut [u16], n: usize, last: u16, w: usize)
+    requires { ⌜ Space n (now p) × Small n (now p) × (w < n) ⌝ }
+    ensures { λ _. ⌜ MarkedAt n last w (now (p .entry)) (now (p .exit)) ⌝ }
+{
+    if ends_at(p, n, last, w) {
+        let r = get(p, n, Table::RANK, w);
+        put(p, n, Column::MARK, r, 1);
+    }
+}
+
+// The ranks of the nodes where the walk ends are marked.
+fn mark_ranks(p: &mut [u16], n: usize, last: u16)
+    requires { ⌜ Space n (now p) × Small n (now p) × Clear n (now p) ⌝ }
+    ensures { λ _. ⌜ Marked n last (now (p .entry)) (now (p .exit)) ⌝ }
+{
+    let mut w = 0;
+    while w < n {
+        mark_rank(p, n, last, w);
+        w += 1;
+    }
+}
+
+// Whether the walk ends at node `w` and the rank of `w` is marked.
+fn marked_at(p: &[u16], n: usize, last: u16, w: usize) -> bool
+    requires { ⌜ Room n (now p) × Small n (now p) × (w < n) ⌝ }
+    ensures { λ r. ⌜ (r ≡ true) ↔ (Ended n last (now (p .entry)) w × (word (now (p .entry)) n MARK (word (now (p .entry)) n RANK w) ≡ 1)) ⌝ }
+{
+    if ends_at(p, n, last, w) {
+        let r = get(p, n, Table::RANK, w);
+        return get(p, n, Column::MARK, r) == 1;
+    }
+    false
+}
+
+// Whether the walk ends at a node whose rank is marked.
+fn any_marked(p: &[u16], n: usize, last: u16) -> bool
+    requires { ⌜ Room n (now p) × Small n (now p) ⌝ }
+    ensures { λ r. ⌜ (r ≡ true) ↔ ((w : ℕ) × (w < n) × Ended n last (now (p .entry)) w × (word (now (p .entry)) n MARK (word (now (p .entry)) n RANK w) ≡ 1)) ⌝ }
+{
+    let mut w = 0;
+    while w < n {
+        if marked_at(p, n, last, w) {
+            return true;
+        }
+        w += 1;
+    }
+    false
+}
+
+// Whether the paths from node `v` end at nodes of one rank.
+pub fn equal_at(p: &mut [u16], n: usize, m: Machine, v: usize) -> bool
+    requires { ⌜ Space n (now p) × Small n (now p) × (m .second < 16) × (v < n) ⌝ }
+    ensures { λ r. ⌜ Steady n (now (p .entry)) (now (p .exit)) × ((r ≡ true) ↔ Meets m n (now (p .entry)) eq v) ⌝ }
+{
+    clear_marks(p, n);
+    reach(p, n, m, 0, v);
+    mark_ranks(p, n, m.last);
+    reach(p, n, m, m.second, v);
+    any_marked(p, n, m.last)
+}

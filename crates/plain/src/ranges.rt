@@ -1,0 +1,107 @@
+// The order of ranks: of the ranks where a path ends only the least and the greatest count.
+use crate::ends::ends_at;
+use links::table::Table;
+use links::table::get;
+use parts::kinds::Operator;
+use reach::reach;
+use walks::Machine;
+ghost use mathlib.Core.Bool.{true};
+ghost use mathlib.Core.Logic.{_⊎_, _↔_, _≢_};
+ghost use mathlib.Core.Path.{_≡_};
+ghost use Prim.Native.Nat.{suc, _≤_, _<_};
+ghost use Rattle.xpath.specs.Syntax.{Op, eq};
+ghost use Rattle.parts.specs.Kinds.{operator};
+ghost use Rattle.links.specs.Table.{RANK, Room, word};
+ghost use Rattle.walks.specs.Part.{Space};
+ghost use Rattle.walks.specs.Walks.{Meets};
+ghost use Rattle.plain.specs.Plain.{Small};
+ghost use Rattle.plain.specs.Ends.{Ended, Steady};
+ghost use Rattle.plain.specs.Ranges.{Ranged, Under, Across};
+
+// The least rank, and one more than the greatest; 65535 and 0 where there is none.
+pub struct Range {
+    pub least: usize,
+    pub above: usize,
+}
+
+fn smaller(x: usize, y: usize) -> usize
+    ensures { λ r. ⌜ (r ≤ x) × (r ≤ y) × ((r ≡ x) ⊎ (r ≡ y)) ⌝ }
+{
+    if x < y { x } else { y }
+}
+
+fn greater(x: usize, y: usize) -> usize
+    ensures { λ r. ⌜ (x ≤ r) × (y ≤ r) × ((r ≡ x) ⊎ (r ≡ y)) ⌝ }
+{
+    if x < y { y } else { x }
+}
+
+// The range with the rank of node `w`, if the walk ends there.
+fn widened(p: &[u16], n: usize, last: u16, w: usize, a: Range) -> Range
+    requires { ⌜ (w < n) × Room n (now p) × Ranged w (Ended n last (now p)) (word (now p) n RANK) a ⌝ }
+    ensures { λ r. ⌜ Ranged (suc w) (Ended n last (now (p .entry))) (word (now (p .entry)) n RANK) r ⌝ }
+{
+    if ends_at(p, n, last, w) {
+        let r = get(p, n, Table::RANK, w);
+        return Range {
+            least: smaller(a.least, r),
+            above: greater(a.above, r + 1),
+        };
+    }
+    a
+}
+
+// The range of the ranks of the nodes where the walk ends.
+fn rank_range(p: &[u16], n: usize, last: u16) -> Range
+    requires { ⌜ Room n (now p) ⌝ }
+    ensures { λ r. ⌜ Ranged n (Ended n last (now (p .entry))) (word (now (p .entry)) n RANK) r ⌝ }
+{
+    let mut a = Range {
+        least: 65535,
+        above: 0,
+    };
+    let mut w = 0;
+    while w < n {
+        a = widened(p, n, last, w, a);
+        w += 1;
+    }
+    a
+}
+
+// Whether some rank of the first range is less than some rank of the second.
+fn under(a: Range, b: Range) -> bool
+    requires { ⌜ a .least < 65536 ⌝ }
+    ensures { λ r. ⌜ (r ≡ true) ↔ Under a b ⌝ }
+{
+    a.least + 1 < b.above
+}
+
+// Whether the sign stands between some rank of the first range and some rank of the second. Ranges tell nothing of equal ranks: `=` is not asked here.
+fn ordered(a: Range, b: Range, o: Operator) -> bool
+    requires { ⌜ (a .least < 65536) × (b .least < 65536) ⌝ }
+    ensures { λ r. ⌜ (r ≡ true) ↔ Across o a b ⌝ }
+{
+    match o {
+        Operator::Equal => false,
+        Operator::Unequal => under(a, b) || under(b, a),
+        Operator::Less => under(a, b),
+        Operator::LessEqual => a.least < b.above,
+        Operator::Greater => under(b, a),
+        Operator::GreaterEqual => b.least < a.above,
+    }
+}
+
+// Whether the paths from node `v` end at nodes whose ranks are in the relation of a sign other than =. Where the first ends nowhere, the second is not walked.
+pub fn ordered_at(p: &mut [u16], n: usize, m: Machine, v: usize, o: Operator) -> bool
+    requires { ⌜ Space n (now p) × Small n (now p) × (m .second < 16) × (v < n) ⌝ }
+    ensures { λ r. ⌜ Steady n (now (p .entry)) (now (p .exit)) × ((q : Op) → q ≢ eq → o ≡ operator q → (r ≡ true) ↔ Meets m n (now (p .entry)) q v) ⌝ }
+{
+    reach(p, n, m, 0, v);
+    let a = rank_range(p, n, m.last);
+    if a.above == 0 {
+        return false;
+    }
+    reach(p, n, m, m.second, v);
+    let b = rank_range(p, n, m.last);
+    ordered(a, b, o)
+}

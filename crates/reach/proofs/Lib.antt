@@ -1,0 +1,9 @@
+pub mod Members
+pub mod Following
+pub mod Walks
+pub mod Totals
+pub mod Adding
+pub mod Entering
+pub mod Clearing
+pub mod Spreading
+pub mod Reaching

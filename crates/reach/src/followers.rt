@@ -1,0 +1,25 @@
+// Which positions come next after those of a set.
+use crate::sets::first;
+use crate::sets::without;
+use bits::insert;
+use bits::union;
+ghost use mathlib.Core.Path.{_≡_};
+ghost use mathlib.Core.Bool.{true};
+ghost use mathlib.Core.Logic.{_↔_};
+ghost use Prim.Native.Nat.{ℕ, _<_};
+ghost use lib.ListN.{getD};
+ghost use Rattle.bits.specs.Sets.{bit};
+
+// The positions that follow a member of `w`. Each turn takes one member out, so that few members take few turns.
+pub fn followers(rows: [u16; 16], w: u16) -> u16
+    ensures { λ r. ⌜ ((j : ℕ) → j < 16 → (bit r j ≡ true) ↔ ((i : ℕ) × (i < 16) × (bit w i ≡ true) × (bit (getD rows i 0) j ≡ true))) ⌝ }
+{
+    let mut r = 0;
+    let mut rest = w;
+    while 0 < rest {
+        let i = first(rest);
+        r = union(r, rows[i as usize]);
+        rest = without(rest, insert(0, i));
+    }
+    r
+}

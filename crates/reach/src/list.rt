@@ -1,0 +1,62 @@
+// The work list: its entries are never taken off, since each of them makes one more position seen somewhere, and so 16 for each node are enough.
+use crate::sets::without;
+use bits::union;
+use links::table::put;
+ghost use Prim.Native.Nat.{_*_, _<_};
+ghost use Rattle.links.specs.Table.{Wrote};
+ghost use Rattle.walks.specs.Part.{Space};
+ghost use Rattle.reach.specs.Work.{Work, Added, At, Cleared, entered};
+
+pub struct Part;
+
+impl Part {
+    // The positions whose bracketed test holds at the node.
+    pub const STAYS: usize = 6;
+
+    // The positions that were come to at the node.
+    pub const SEEN: usize = 8;
+
+    // The nodes of the entries, and their positions: 16 columns each.
+    pub const NODES: usize = 16;
+
+    pub const POSITIONS: usize = 32;
+}
+
+// Nothing is seen anywhere.
+pub fn clear(p: &mut [u16], n: usize)
+    requires { ⌜ Space n (now p) ⌝ }
+    ensures { λ _. ⌜ Cleared n n (now (p .entry)) (now (p .exit)) ⌝ }
+{
+    let mut u = 0;
+    while u < n {
+        put(p, n, Part::SEEN, u, 0);
+        u += 1;
+    }
+}
+
+// Entry `len`: node `u` and the positions that are new there. `seen` are all that are seen there now.
+fn enter(p: &mut [u16], n: usize, u: usize, seen: u16, new: u16, len: usize)
+    requires { ⌜ Space n (now p) × (u < n) × (len < 16 * n) ⌝ }
+    ensures { λ _. ⌜ Wrote (entered n u seen new len) (now (p .entry)) (now (p .exit)) ⌝ }
+{
+    p[Part::SEEN * n + u] = seen;
+    p[Part::NODES * n + len] = u as u16;
+    p[Part::POSITIONS * n + len] = new;
+}
+
+// The positions of `w` come to node `u`, if that is a node. Gives the number of entries.
+pub fn add(p: &mut [u16], n: usize, u: usize, w: u16, len: usize) -> usize
+    requires { ⌜ Work n len (now p) ⌝ }
+    ensures { λ r. ⌜ Added (At u w) n len r (now (p .entry)) (now (p .exit)) ⌝ }
+{
+    if n <= u {
+        return len;
+    }
+    let seen = p[Part::SEEN * n + u];
+    let new = without(w, seen);
+    if new == 0 {
+        return len;
+    }
+    enter(p, n, u, union(seen, w), new, len);
+    len + 1
+}

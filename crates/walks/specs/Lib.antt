@@ -1,0 +1,3 @@
+pub mod Part
+pub mod Walks
+pub mod Meaning
