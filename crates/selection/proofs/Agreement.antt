@@ -31,7 +31,7 @@ mark-one A a b (inl h) (inr g) = absurd (g .0 (h .0))
 mark-one A a b (inr h) (inl g) = absurd (h .0 (g .0))
 mark-one A a b (inr h) (inr g) = h .1 ∙ sym (g .1)
 
-number-positive : (r : Refusal) → 0 < number r
+pub number-positive : (r : Refusal) → 0 < number r
 number-positive documentLength = omega arith
 number-positive (lineForm i) = omega arith
 number-positive nodeCount = omega arith

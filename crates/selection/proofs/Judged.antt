@@ -49,7 +49,7 @@ module _ (document rule : List ℕ) (words marks : ℕ) where
   G = Ground document rule words marks
 
   -- a ground that comes first among the document's comes first among all
-  by-document : (r : Refusal) → First (DocumentGround document) r → First G r
+  pub by-document : (r : Refusal) → First (DocumentGround document) r → First G r
   by-document r f = record { applies = inl (f .applies); first = go }
     where
       go : (q : Refusal) → G q → ¬ Earlier q r
@@ -59,7 +59,7 @@ module _ (document rule : List ℕ) (words marks : ℕ) where
 
   module _ (ns : List Node) (library : Document.Accepts document ns) where
     -- so does the first of the rule's, if the document is accepted
-    by-rule : (r : Refusal) → First (RuleGround rule) r → First G r
+    pub by-rule : (r : Refusal) → First (RuleGround rule) r → First G r
     by-rule r f = record { applies = inr (inl (f .applies)); first = go }
       where
         go : (q : Refusal) → G q → ¬ Earlier q r
@@ -74,14 +74,14 @@ module _ (document rule : List ℕ) (words marks : ℕ) where
       of-buffers A f q (inr (inl g)) = absurd (Grammar.accepted-unrefused rule test q g)
       of-buffers A f q (inr (inr g)) = f q g
 
-      short-scratch : words < scratchWords (length ns) → First G scratchLength
+      pub short-scratch : words < scratchWords (length ns) → First G scratchLength
       short-scratch h = record { applies = inr (inr (fewWords library h)); first = of-buffers (λ q. ¬ Earlier q scratchLength) late }
         where
           late : (q : Refusal) → BufferGround document words marks q → ¬ Earlier q scratchLength
           late q (fewWords a k) e = earlier-irrefl scratchLength e
           late q (fewMarks a k) e = not-earlier marksLength scratchLength (omega arith) e
 
-      few-marks : scratchWords (length ns) ≤ words → marks < length ns → First G marksLength
+      pub few-marks : scratchWords (length ns) ≤ words → marks < length ns → First G marksLength
       few-marks room h = record { applies = inr (inr (fewMarks library h)); first = of-buffers (λ q. ¬ Earlier q marksLength) late }
         where
           late : (q : Refusal) → BufferGround document words marks q → ¬ Earlier q marksLength

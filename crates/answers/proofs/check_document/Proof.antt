@@ -1,10 +1,10 @@
--- `exports::yurzhoad_check_document` meets its contract.
+-- `answers::check_document` meets its contract.
 use mathlib.Core.Path.{sym, subst}
 use Rattle.library.specs.Verdict.{Checked}
-use Rattle.exports.proofs.Verdicts.{checked-by}
+use Rattle.answers.proofs.Verdicts.{checked-by}
 use borrow.Author.Needs.{needs}
-use Rattle.exports.proofs.yurzhoad_check_document.Statement.{statement}
-use Rattle.exports.proofs.yurzhoad_check_document.Tie as tie
+use Rattle.answers.proofs.check_document.Statement.{statement}
+use Rattle.answers.proofs.check_document.Tie as tie
 
 check-requires : tie.Need-check-requires
 check-requires c κs = search needs
@@ -17,5 +17,5 @@ returns c =
     let s = c .before .before .before .args .document .now in
     subst (λ a. Checked s (a .number) (a .place) (a .nodes)) (sym (c .document-answer .ensures)) (checked-by s (c .before .check .result) (c .before .check .ensures))
 
-pub yurzhoad-check-document-spec : {M : Type 1} → statement M
-yurzhoad-check-document-spec = tie.close (tie.spec check-requires document-answer-requires returns)
+pub check-document-spec : {M : Type 1} → statement M
+check-document-spec = tie.close (tie.spec check-requires document-answer-requires returns)

@@ -10,7 +10,7 @@ use Rattle.grammar.proofs.Accepted.{accepted-unrefused}
 use Rattle.rule.specs.declared.Verdict.{Verdict}
 use Rattle.rule.specs.declared.Verdict.the-variants.{Accepted, Length, Unreadable, Nesting, Tests, Steps}
 use Rattle.rule.specs.Check.{Judged}
-use Rattle.exports.specs.Answers.{ruleAnswerOf}
+use Rattle.answers.specs.Answers.{ruleAnswerOf}
 
 module _ (s : List ℕ) where
   refused-so : (r : Refusal) → First (RuleGround s) r → Checked s (number r) (place r)

@@ -12,7 +12,7 @@ use Rattle.library.proofs.Verdict.{accepted-unrefused}
 use Rattle.document.specs.declared.Verdict.{Verdict}
 use Rattle.document.specs.declared.Verdict.the-variants.{Accepted, Length, Form, Count, Tree}
 use Rattle.document.specs.Check.{Judged}
-use Rattle.exports.specs.Answers.{answerOf}
+use Rattle.answers.specs.Answers.{answerOf}
 
 module _ (s : List ℕ) where
   refused-so : (r : Refusal) → First (DocumentGround s) r → Checked s (number r) (place r) 0

@@ -1,9 +1,9 @@
--- `exports::document_answer` meets its contract.
+-- `answers::document_answer` meets its contract.
 use mathlib.Core.Path.{sym, ap}
-use Rattle.exports.specs.Answers.{answerOf}
+use Rattle.answers.specs.Answers.{answerOf}
 use borrow.Author.Needs.{needs}
-use Rattle.exports.proofs.document_answer.Statement.{statement}
-use Rattle.exports.proofs.document_answer.Tie as tie
+use Rattle.answers.proofs.document_answer.Statement.{statement}
+use Rattle.answers.proofs.document_answer.Tie as tie
 
 enum-known-v : tie.Need-enum-known-v
 enum-known-v c = search needs

@@ -1,9 +1,9 @@
--- `exports::rule_answer` meets its contract.
+-- `answers::rule_answer` meets its contract.
 use mathlib.Core.Path.{sym, ap}
-use Rattle.exports.specs.Answers.{ruleAnswerOf}
+use Rattle.answers.specs.Answers.{ruleAnswerOf}
 use borrow.Author.Needs.{needs}
-use Rattle.exports.proofs.rule_answer.Statement.{statement}
-use Rattle.exports.proofs.rule_answer.Tie as tie
+use Rattle.answers.proofs.rule_answer.Statement.{statement}
+use Rattle.answers.proofs.rule_answer.Tie as tie
 
 enum-told : tie.Need-enum-told
 enum-told c = search needs

@@ -4,8 +4,8 @@ use Rattle.document.specs.declared.Verdict.{Verdict}
 use Rattle.document.specs.declared.Verdict.the-variants.{Accepted, Length, Form, Count, Tree}
 use Rattle.rule.specs.declared.Verdict as Rule
 use Rattle.rule.specs.declared.Verdict.the-variants as rule
-use Rattle.exports.specs.declared.DocumentAnswer.{DocumentAnswer}
-use Rattle.exports.specs.declared.RuleAnswer.{RuleAnswer}
+use Rattle.answers.specs.declared.DocumentAnswer.{DocumentAnswer}
+use Rattle.answers.specs.declared.RuleAnswer.{RuleAnswer}
 
 abbrev refused : Refusal → DocumentAnswer
 refused r = record { number = number r; place = place r; nodes = 0 }

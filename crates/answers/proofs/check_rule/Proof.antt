@@ -1,10 +1,10 @@
--- `exports::yurzhoad_check_rule` meets its contract.
+-- `answers::check_rule` meets its contract.
 use mathlib.Core.Path.{sym, subst}
 use Rattle.grammar.specs.Verdict.{Checked}
-use Rattle.exports.proofs.RuleVerdicts.{rule-checked-by}
+use Rattle.answers.proofs.RuleVerdicts.{rule-checked-by}
 use borrow.Author.Needs.{needs}
-use Rattle.exports.proofs.yurzhoad_check_rule.Statement.{statement}
-use Rattle.exports.proofs.yurzhoad_check_rule.Tie as tie
+use Rattle.answers.proofs.check_rule.Statement.{statement}
+use Rattle.answers.proofs.check_rule.Tie as tie
 
 check-requires : tie.Need-check-requires
 check-requires c κs = search needs
@@ -17,5 +17,5 @@ returns c =
     let s = c .before .before .before .args .rule .now in
     subst (λ a. Checked s (a .number) (a .place)) (sym (c .rule-answer .ensures)) (rule-checked-by s (c .before .check .result) (c .before .check .ensures))
 
-pub yurzhoad-check-rule-spec : {M : Type 1} → statement M
-yurzhoad-check-rule-spec = tie.close (tie.spec check-requires rule-answer-requires returns)
+pub check-rule-spec : {M : Type 1} → statement M
+check-rule-spec = tie.close (tie.spec check-requires rule-answer-requires returns)

@@ -1,0 +1,118 @@
+// The plain evaluation: the inputs are judged, and where they are accepted the rule is settled in the scratch and its nodes are marked.
+use answers::check_document;
+use answers::check_rule;
+use driver::settle_rule;
+use limits::Scratch;
+use links::build;
+use marking::clear;
+use marking::mark;
+use ranks::rank;
+ghost use mathlib.Core.Path.{_≡_};
+ghost use mathlib.Core.List.{List};
+ghost use lib.ListN.{length};
+ghost use Rattle.xpath.specs.Syntax.{Test};
+ghost use Rattle.library.specs.Library as Library;
+ghost use Rattle.selection.specs.Buffers.{Accepted};
+ghost use Rattle.selection.specs.Evaluation.{PlainEvaluation};
+ghost use Rattle.evaluation.specs.Judging.{Judges};
+ghost use Rattle.evaluation.specs.Outcomes.{outcomeOf, Selection};
+
+// Number and place of the first ground of refusal; or zeros, and the number of nodes.
+struct Judgement {
+    number: u16,
+    place: usize,
+    nodes: usize,
+}
+
+// Judges a document, a rule, and the lengths of the two buffers, in this order.
+fn judge(document: &[u8], rule: &[u8], words: usize, marks: usize) -> Judgement
+    ensures { λ r. ⌜ Judges (now (document .entry)) (now (rule .entry)) words marks (r .number) (r .place) (r .nodes) ⌝ }
+{
+    let d = check_document(document);
+    if d.number != 0 {
+        return Judgement {
+            number: d.number,
+            place: d.place,
+            nodes: 0,
+        };
+    }
+    let r = check_rule(rule);
+    if r.number != 0 {
+        return Judgement {
+            number: r.number,
+            place: r.place,
+            nodes: 0,
+        };
+    }
+    let nodes = d.nodes;
+    let needed = Scratch::needed(nodes);
+    if words < needed {
+        return Judgement {
+            number: 10,
+            place: 0,
+            nodes: 0,
+        };
+    }
+    if marks < nodes {
+        return Judgement {
+            number: 11,
+            place: 0,
+            nodes: 0,
+        };
+    }
+    Judgement {
+        number: 0,
+        place: 0,
+        nodes,
+    }
+}
+
+// What an evaluation returns: number, place, the number of selected nodes, and the number of snippets.
+#[repr(C)]
+pub struct Evaluation {
+    pub number: u16,
+    pub place: usize,
+    pub selected: usize,
+    pub snippets: usize,
+}
+
+// Marks the nodes at which an accepted rule holds, and leaves zeros in the scratch. Returns how many nodes it marks.
+fn select(document: &[u8], rule: &[u8], scratch: &mut [u16], marks: &mut [u8], n: usize) -> usize
+    requires { ⌜ ((ns : List Library.Node) × (T : Test) × Accepted (now document) (now rule) (length (now scratch)) (length (now marks)) ns T × (length ns ≡ n)) ⌝ }
+    ensures { λ r. ⌜ Selection (now (document .entry)) (now (rule .entry)) (now (scratch .entry)) (now (marks .entry)) r (now (scratch .exit)) (now (marks .exit)) ⌝ }
+{
+    build(document, scratch, n);
+    rank(document, scratch, n);
+    settle_rule(document, rule, scratch, n);
+    let count = mark(scratch, n, marks);
+    let words = Scratch::needed(n);
+    clear(scratch, words);
+    count
+}
+
+// Selects the nodes of a document at which a rule holds. A call that is refused changes no mark and no word.
+pub fn evaluate_plain(
+    document: &[u8],
+    rule: &[u8],
+    scratch: &mut [u16],
+    marks: &mut [u8],
+) -> Evaluation
+    ensures { λ r. ⌜ PlainEvaluation (now (document .entry)) (now (rule .entry)) (now (scratch .entry)) (now (marks .entry)) (outcomeOf r) (now (scratch .exit)) (now (marks .exit)) ⌝ }
+{
+    let j = judge(document, rule, scratch.len(), marks.len());
+    if j.number != 0 {
+        return Evaluation {
+            number: j.number,
+            place: j.place,
+            selected: 0,
+            snippets: 0,
+        };
+    }
+    let selected = select(document, rule, scratch, marks, j.nodes);
+    Evaluation {
+        number: 0,
+        place: 0,
+        selected,
+        snippets: 0,
+    }
+}
