@@ -3,8 +3,10 @@
 //! It is the evidence from outside for the proved program: it shares no code
 //! and no algorithm with it. Everything is kept as plain sets and relations
 //! over nodes, so it is meant for libraries of up to a few hundred nodes.
-//! The checks of documents and rules have no such bound.
+//! The checks of documents and rules have no such bound, and for marks alone
+//! `backward` has the meaning a second time, for the largest libraries too.
 
+pub mod backward;
 pub mod chains;
 pub mod document;
 pub mod evaluate;

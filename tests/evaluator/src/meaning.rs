@@ -36,7 +36,7 @@ pub fn holds(tree: &Tree, test: &Test) -> Vec<bool> {
                 Operand::Path(r) => reached_values(tree, r),
                 Operand::Constant(c) => vec![vec![c.as_slice()]; tree.size()],
             };
-            let related = |a: &[u8], v: usize| second[v].iter().any(|b| compare(*sign, a, b));
+            let related = |a: &[u8], v: usize| second[v].iter().any(|b| compare(*sign, a, *b));
             at_each(&|v| first[v].iter().any(|a| related(a, v)))
         }
     }
@@ -77,8 +77,9 @@ pub fn reaches(tree: &Tree, path: &Path) -> Relation {
 }
 
 /// "Strings compare by unsigned bytes, a proper prefix being smaller." That is
-/// the order of byte slices.
-pub fn compare(sign: Sign, a: &[u8], b: &[u8]) -> bool {
+/// the order of byte slices; other things that are ordered alike may stand for
+/// them.
+pub fn compare<T: Ord + ?Sized>(sign: Sign, a: &T, b: &T) -> bool {
     match sign {
         Sign::Equal => a == b,
         Sign::Unequal => a != b,

@@ -10,8 +10,8 @@ pub struct Tree {
     pub labels: Vec<Vec<u8>>,
     /// The string value of each node.
     pub values: Vec<Vec<u8>>,
-    /// For each node the way up from it.
-    upward: Vec<Vec<usize>>,
+    /// The parent of each node; the first node alone has none.
+    parents: Vec<Option<usize>>,
 }
 
 impl Tree {
@@ -22,9 +22,14 @@ impl Tree {
             right: nodes.clone().map(|v| next_sibling(library, v)).collect(),
             labels: library.nodes.iter().map(|n| n.label.clone()).collect(),
             values: nodes.clone().map(|v| string_value(library, v)).collect(),
-            upward: Vec::new(),
+            parents: vec![None; library.nodes.len()],
         };
-        tree.upward = nodes.map(|v| way_up(&tree, v)).collect();
+        for parent in nodes {
+            let children = [tree.left[parent], tree.right[parent]];
+            for child in children.into_iter().flatten() {
+                tree.parents[child] = Some(parent);
+            }
+        }
         tree
     }
 
@@ -35,17 +40,19 @@ impl Tree {
 
     /// The node itself, its parent, that one's parent, and so on to the root.
     /// "Parent, ancestor and below are meant in this binary tree".
-    pub fn upward(&self, node: usize) -> &[usize] {
-        &self.upward[node]
+    pub fn upward(&self, node: usize) -> Vec<usize> {
+        std::iter::successors(Some(node), |child| self.parents[*child]).collect()
     }
-}
 
-fn way_up(tree: &Tree, node: usize) -> Vec<usize> {
-    let parent = |child: &usize| {
-        let is_child = |v: &usize| tree.left[*v] == Some(*child) || tree.right[*v] == Some(*child);
-        (0..tree.size()).find(is_child)
-    };
-    std::iter::successors(Some(node), parent).collect()
+    /// The node whose left child this one is.
+    pub fn parent_of_left(&self, node: usize) -> Option<usize> {
+        self.parents[node].filter(|parent| self.left[*parent] == Some(node))
+    }
+
+    /// The node whose right child this one is.
+    pub fn parent_of_right(&self, node: usize) -> Option<usize> {
+        self.parents[node].filter(|parent| self.right[*parent] == Some(node))
+    }
 }
 
 /// The nodes inside an element in the document: those directly behind it as
