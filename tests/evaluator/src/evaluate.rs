@@ -20,6 +20,28 @@ pub struct Outcome {
     pub snippets: usize,
 }
 
+impl Outcome {
+    /// "Refused: every count and N 0".
+    fn refused(Refusal { number, place }: Refusal) -> Outcome {
+        Outcome {
+            number,
+            place,
+            selected: 0,
+            snippets: 0,
+        }
+    }
+
+    /// "Accepted: number 0, place 0."
+    fn accepted(holds: &[bool], snippets: usize) -> Outcome {
+        Outcome {
+            number: 0,
+            place: 0,
+            selected: holds.iter().filter(|holds| **holds).count(),
+            snippets,
+        }
+    }
+}
+
 /// "B is the number of binary digits of N."
 pub fn binary_digits(nodes: usize) -> usize {
     let mut digits = 0;
@@ -34,6 +56,9 @@ pub fn needed_words(nodes: usize) -> usize {
     nodes * (64 * binary_digits(nodes) + 128)
 }
 
+/// "The plain evaluation reports 0."
+const NO_SNIPPETS: usize = 0;
+
 /// Evaluates, given how many scratch words and marks are lent. The first N
 /// marks are handed back if the call is accepted; otherwise "all buffers
 /// unchanged".
@@ -46,29 +71,43 @@ pub fn evaluate(
 ) -> (Outcome, Option<Vec<u8>>) {
     let (tree, test) = match accept(document, rule, words, marks) {
         Ok(accepted) => accepted,
-        Err(Refusal { number, place }) => {
-            let refused = Outcome {
-                number,
-                place,
-                selected: 0,
-                snippets: 0,
-            };
-            return (refused, None);
-        }
+        Err(refusal) => return (Outcome::refused(refusal), None),
     };
     let holds = meaning::holds(&tree, &test);
     let count = count_snippets(&tree, &test);
-    let outcome = Outcome {
-        number: 0,
-        place: 0,
-        selected: holds.iter().filter(|holds| **holds).count(),
-        // "The plain evaluation reports 0."
-        snippets: match evaluation {
-            Evaluation::Plain => 0,
-            Evaluation::Snippets => count,
-        },
+    let snippets = match evaluation {
+        Evaluation::Plain => NO_SNIPPETS,
+        Evaluation::Snippets => count,
     };
+    let outcome = Outcome::accepted(&holds, snippets);
     (outcome, Some(holds.into_iter().map(u8::from).collect()))
+}
+
+/// For each node whether a test holds there: `meaning::holds`, or
+/// `backward::holds` for a large library.
+pub type Meaning = fn(&Tree, &Test) -> Vec<bool>;
+
+/// A whole call of the plain evaluation, with the very buffers. "After an
+/// accepted evaluation those first words are 0 and later ones unchanged; marks
+/// are bytes, the first N of them 0 or 1 and later ones unchanged."
+pub fn evaluate_plain(
+    document: &[u8],
+    rule: &[u8],
+    scratch: &mut [u16],
+    marks: &mut [u8],
+    meaning: Meaning,
+) -> Outcome {
+    let (tree, test) = match accept(document, rule, scratch.len(), marks.len()) {
+        Ok(accepted) => accepted,
+        // "all buffers unchanged"
+        Err(refusal) => return Outcome::refused(refusal),
+    };
+    let holds = meaning(&tree, &test);
+    scratch[..needed_words(tree.size())].fill(0);
+    for (mark, holds) in marks.iter_mut().zip(&holds) {
+        *mark = u8::from(*holds);
+    }
+    Outcome::accepted(&holds, NO_SNIPPETS)
 }
 
 /// The checks in their order: the document's, the rule's, 10, 11.

@@ -1,7 +1,8 @@
 //! The two evaluations as calls: buffers, and the order of all the checks.
 
 use crate::samples::{balanced, flat, steps, X};
-use evaluator::evaluate::{evaluate, needed_words, Evaluation, Outcome};
+use evaluator::evaluate::{evaluate, evaluate_plain, needed_words, Evaluation, Outcome};
+use evaluator::{backward, meaning};
 
 const KINDS: [Evaluation; 2] = [Evaluation::Plain, Evaluation::Snippets];
 
@@ -17,6 +18,12 @@ fn assert_refused(document: &[u8], rule: &str, words: usize, marks: usize, due: 
         assert_eq!(outcome, refused, "rule {rule}");
         assert_eq!(handed_back, None);
     }
+    let (mut scratch, mut lent) = (vec![7; words], vec![9; marks]);
+    let rule = rule.as_bytes();
+    let outcome = evaluate_plain(document, rule, &mut scratch, &mut lent, meaning::holds);
+    assert_eq!((outcome.number, outcome.place), due);
+    assert_eq!((outcome.selected, outcome.snippets), (0, 0));
+    assert_eq!((scratch, lent), (vec![7; words], vec![9; marks]));
 }
 
 #[test]
@@ -69,4 +76,26 @@ fn the_rule_is_judged_before_the_buffers() {
     let many = balanced(33);
     assert_refused(document, &many, 0, 0, (8, many.len() - 2));
     assert_refused(document, &format!("({}=e)", steps(15)), 0, 0, (9, 0));
+}
+
+#[test]
+fn an_accepted_plain_call_leaves_the_buffers_as_written() {
+    for nodes in [1, 2, 7, 8, 63, 64] {
+        let words = needed_words(nodes);
+        for (meaning, longer) in [(meaning::holds as _, 0), (backward::holds as _, 3)] {
+            let (mut scratch, mut marks) = (vec![7; words + longer], vec![9; nodes + longer]);
+            let document = flat(nodes);
+            let outcome = evaluate_plain(&document, b":text", &mut scratch, &mut marks, meaning);
+            let due = Outcome {
+                number: 0,
+                place: 0,
+                selected: nodes - 1,
+                snippets: 0,
+            };
+            assert_eq!(outcome, due);
+            assert_eq!(scratch, [vec![0; words], vec![7; longer]].concat());
+            let marked = [vec![0], vec![1; nodes - 1], vec![9; longer]];
+            assert_eq!(marks, marked.concat());
+        }
+    }
 }
