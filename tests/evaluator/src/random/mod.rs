@@ -8,7 +8,7 @@ mod rule;
 pub use damage::{damage_document, damage_rule};
 pub use library::{any_library, library};
 pub use line_damage::damage_one_line;
-pub use rule::{any_rule, deep_rule, large_rule, rule};
+pub use rule::{any_rule, deep_rule, large_rule, rule, rule_about};
 
 /// The splitmix64 generator.
 pub struct Random(u64);
@@ -24,6 +24,22 @@ impl Random {
         z = (z ^ (z >> 30)).wrapping_mul(0xBF58_476D_1CE4_E5B9);
         z = (z ^ (z >> 27)).wrapping_mul(0x94D0_49BB_1331_11EB);
         z ^ (z >> 31)
+    }
+
+    /// So many words of 16 bits, all values alike.
+    pub fn words(&mut self, count: usize) -> Vec<u16> {
+        let mut words = Vec::with_capacity(count + 3);
+        while words.len() < count {
+            let drawn = self.next();
+            words.extend([0, 16, 32, 48].map(|shift| (drawn >> shift) as u16));
+        }
+        words.truncate(count);
+        words
+    }
+
+    /// So many bytes, all values alike.
+    pub fn bytes(&mut self, count: usize) -> Vec<u8> {
+        self.words(count).iter().map(|word| *word as u8).collect()
     }
 
     /// A number below the given one.

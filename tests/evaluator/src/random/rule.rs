@@ -2,6 +2,7 @@
 
 use super::library::any_label;
 use super::{printable, printable_of, Random, NAMES, VALUES};
+use crate::document::LABEL_LIMIT;
 use crate::grammar::CONSTANT_LIMIT;
 use crate::rule::{parts, Operand, Path, Piece, Sign, Test};
 use crate::rule_check::{BYTE_LIMIT, NESTING_LIMIT, STEP_LIMIT, TEST_LIMIT};
@@ -9,19 +10,25 @@ use crate::rule_check::{BYTE_LIMIT, NESTING_LIMIT, STEP_LIMIT, TEST_LIMIT};
 /// A legal rule with at most about so many parts, its names and constants
 /// such as libraries have.
 pub fn rule(random: &mut Random, size: usize) -> Test {
-    draw_legal(|| Drawing::new(random, size).test(1))
+    draw_legal(|| Drawing::new(random, Words::Shared, size).test(1))
+}
+
+/// A legal rule about a library that has these values: every sign occurs, up to
+/// the most steps, and the constants are values of the library, or nearly.
+pub fn rule_about(random: &mut Random, size: usize, values: &[Vec<u8>]) -> Test {
+    draw_legal(|| draw_joined(random, Words::About(values), size, 1, STEP_LIMIT))
 }
 
 /// A legal rule for the rule check alone: any names and constants up to the
 /// longest, every sign as often as the others, and up to the most steps.
 pub fn any_rule(random: &mut Random, size: usize) -> Test {
-    draw_legal(|| draw_any(random, size, 1, STEP_LIMIT))
+    draw_legal(|| draw_joined(random, Words::Any, size, 1, STEP_LIMIT))
 }
 
 /// The same, but it may have too many tests, too many bytes and comparisons
 /// of too many steps. It reads, and its nesting is legal.
 pub fn large_rule(random: &mut Random, size: usize) -> Test {
-    draw_any(random, size, 1, STEP_LIMIT + 4)
+    draw_joined(random, Words::Any, size, 1, STEP_LIMIT + 4)
 }
 
 /// Draws until the limits are kept that the drawing itself does not keep. The
@@ -42,38 +49,74 @@ fn draw_legal(mut draw: impl FnMut() -> Test) -> Test {
 
 /// A drawing seldom has many parts, since it closes by chance; so the larger
 /// rules are several drawings joined two and two.
-fn draw_any(random: &mut Random, size: usize, nesting: usize, most_steps: usize) -> Test {
+fn draw_joined(
+    random: &mut Random,
+    words: Words,
+    size: usize,
+    nesting: usize,
+    most_steps: usize,
+) -> Test {
     const ONE_DRAWING: usize = 30;
     if size > ONE_DRAWING && nesting < NESTING_LIMIT / 2 {
         let part = random.below(size);
-        let first = Box::new(draw_any(random, part, nesting + 1, most_steps));
-        let second = Box::new(draw_any(random, size - part, nesting + 1, most_steps));
+        let mut draw = |size| Box::new(draw_joined(random, words, size, nesting + 1, most_steps));
+        let (first, second) = (draw(part), draw(size - part));
         return match random.percent(50) {
             true => Test::And(first, second),
             false => Test::Or(first, second),
         };
     }
-    let mut drawing = Drawing::new(random, size);
-    drawing.any_words = true;
+    let mut drawing = Drawing::new(random, words, size);
     drawing.most_steps = most_steps;
     drawing.test(nesting)
+}
+
+/// What names, constants and signs are drawn for.
+#[derive(Clone, Copy)]
+enum Words<'a> {
+    /// Names and constants such as libraries have. Most comparisons are
+    /// equalities, since those carry the snippets.
+    Shared,
+    /// The rule check alone: all that a rule may have.
+    Any,
+    /// Names such as libraries have and these values, or nearly.
+    About(&'a [Vec<u8>]),
+}
+
+impl Words<'_> {
+    /// Of a hundred comparisons so many are surely equalities.
+    fn equalities(self) -> usize {
+        match self {
+            Words::Shared => 65,
+            Words::Any => 0,
+            Words::About(_) => 30,
+        }
+    }
+
+    /// Of a hundred comparisons so many begin with a path of many steps.
+    fn long_paths(self) -> usize {
+        match self {
+            Words::Shared => 0,
+            Words::Any => 5,
+            Words::About(_) => 10,
+        }
+    }
 }
 
 /// A rule being drawn, with the number of parts still to be spent.
 struct Drawing<'a> {
     random: &'a mut Random,
+    words: Words<'a>,
     left: usize,
-    /// Whether names, constants and signs are drawn for the rule check alone.
-    any_words: bool,
     most_steps: usize,
 }
 
-impl Drawing<'_> {
-    fn new(random: &mut Random, size: usize) -> Drawing<'_> {
+impl<'a> Drawing<'a> {
+    fn new(random: &'a mut Random, words: Words<'a>, size: usize) -> Drawing<'a> {
         Drawing {
             random,
+            words,
             left: size,
-            any_words: false,
             most_steps: STEP_LIMIT,
         }
     }
@@ -104,20 +147,24 @@ impl Drawing<'_> {
     }
 
     fn name(&mut self) -> Test {
-        Test::Name(match self.any_words {
-            true => any_label(self.random),
-            false => self.random.pick(&NAMES).as_bytes().to_vec(),
+        if let Words::Any = self.words {
+            return Test::Name(any_label(self.random));
+        }
+        let name = self.random.pick(&NAMES).as_bytes().to_vec();
+        Test::Name(match self.words {
+            Words::About(_) if self.random.percent(5) => nearly_label(self.random, name),
+            _ => name,
         })
     }
 
-    /// Most are equalities between two paths, since those carry the snippets.
     fn comparison(&mut self, nesting: usize) -> Test {
         let mut steps = self.most_steps;
-        let first = match self.any_words && nesting < NESTING_LIMIT / 2 && self.random.percent(5) {
+        let long = nesting < NESTING_LIMIT / 2 && self.seldom(self.words.long_paths());
+        let first = match long {
             true => self.long_path(nesting + 1, steps, &mut steps),
             false => self.path(nesting + 1, &mut steps),
         };
-        let sign = match !self.any_words && self.random.percent(65) {
+        let sign = match self.seldom(self.words.equalities()) {
             true => Sign::Equal,
             false => *self.random.pick(&Sign::ALL),
         };
@@ -128,9 +175,20 @@ impl Drawing<'_> {
         Test::Compare(first, sign, operand)
     }
 
+    /// True in so many cases of a hundred. Nothing is drawn if it never is, so
+    /// that a seed's rules depend only on what may happen.
+    fn seldom(&mut self, cases: usize) -> bool {
+        cases > 0 && self.random.percent(cases)
+    }
+
     fn constant(&mut self) -> Vec<u8> {
-        if self.any_words {
-            return any_constant(self.random);
+        match self.words {
+            Words::Any => return any_constant(self.random),
+            Words::About(values) if self.random.percent(85) => {
+                let value = self.random.pick(values).clone();
+                return nearly_value(self.random, value);
+            }
+            _ => {}
         }
         if self.random.percent(70) {
             return self.random.pick(&VALUES).as_bytes().to_vec();
@@ -197,10 +255,45 @@ fn any_constant(random: &mut Random) -> Vec<u8> {
         _ => random.below(6),
     };
     let mut text = printable_of(random, length);
+    unquote(&mut text);
+    text
+}
+
+/// A name, one byte longer or shorter.
+fn nearly_label(random: &mut Random, mut label: Vec<u8>) -> Vec<u8> {
+    match label.len() < LABEL_LIMIT && random.percent(50) {
+        true => label.push(*random.pick(b"a-0")),
+        false => label.truncate(label.len().max(2) - 1),
+    }
+    label
+}
+
+/// A value as a constant, cut to the longest that there may be. One in three
+/// is changed at its end, to one that lies just before or behind it.
+fn nearly_value(random: &mut Random, mut value: Vec<u8>) -> Vec<u8> {
+    value.truncate(CONSTANT_LIMIT);
+    match random.below(12) {
+        0 if value.len() < CONSTANT_LIMIT => value.push(*random.pick(b" a~")),
+        1 => {
+            value.pop();
+        }
+        2 | 3 => {
+            let up = random.percent(50);
+            if let Some(last) = value.last_mut() {
+                *last = if up { *last + 1 } else { *last - 1 }.clamp(b' ', b'~');
+            }
+        }
+        _ => {}
+    }
+    unquote(&mut value);
+    value
+}
+
+/// A constant has no double quote.
+fn unquote(text: &mut [u8]) {
     text.iter_mut()
         .filter(|byte| **byte == b'"')
         .for_each(|quote| *quote = b'!');
-    text
 }
 
 /// A rule of the given nesting, built from the outside inwards: the bytes
