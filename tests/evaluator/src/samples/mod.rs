@@ -3,6 +3,7 @@
 
 pub mod documents;
 pub mod rules;
+pub mod selections;
 
 use crate::document::{spell, Kind, Library, Node};
 

@@ -1,61 +1,64 @@
-//! String values, their order, and the meaning of each construct.
+//! What rules mark, and the order of values.
 
-use crate::samples::{document, marked};
+use crate::samples::run;
 use evaluator::meaning::compare;
+use evaluator::random::{library, rule, rule_about, Random};
 use evaluator::rule::Sign;
+use evaluator::samples::selections::GROUPS;
+use evaluator::tree::Tree;
+use evaluator::{backward, meaning, reader};
 
-/// 0 lib, 1 drug with attribute 2, text 3, unit 4 with text 5, text 6; 7 empty.
-fn mixed() -> Vec<u8> {
-    document(&[
-        ('e', 0, "lib", ""),
-        ('e', 1, "drug", ""),
-        ('a', 2, "name", "zz"),
-        ('t', 2, "text", "a"),
-        ('e', 2, "unit", ""),
-        ('t', 3, "text", "b"),
-        ('t', 2, "text", "c"),
-        ('e', 1, "text", ""),
-    ])
+#[test]
+fn every_fixed_selection_marks_what_is_due() {
+    for (name, cases) in GROUPS {
+        for case in cases() {
+            let (outcome, nodes) = run(&case.document, case.rule);
+            assert_eq!(nodes, case.marked, "{name}: {}", case.rule);
+            assert_eq!(outcome.selected, case.marked.len());
+        }
+    }
 }
 
 #[test]
-fn an_elements_value_is_the_text_inside_joined_in_order() {
-    assert_eq!(marked(&mixed(), "(e=\"abc\")"), [0, 1]);
-    assert_eq!(marked(&mixed(), "(e=\"b\")"), [4, 5]);
-    assert_eq!(marked(&mixed(), "(e=\"\")"), [7]);
-    assert_eq!(marked(&mixed(), "(e=\"zz\")"), [2]);
+fn backward_is_the_same_meaning() {
+    let mut some = 0;
+    for seed in 0..4_000 {
+        let random = &mut Random::new(seed);
+        let nodes = 1 + random.below(24);
+        let tree = Tree::of(&library(random, nodes));
+        let size = 2 + random.below(24);
+        let test = match random.percent(50) {
+            true => rule(random, size),
+            false => rule_about(random, size, &tree.values),
+        };
+        let holds = backward::holds(&tree, &test);
+        let spelled = String::from_utf8_lossy(&test.spell()).into_owned();
+        assert_eq!(
+            holds,
+            meaning::holds(&tree, &test),
+            "seed {seed}: {spelled}"
+        );
+        some += usize::from(holds.contains(&true) && holds.contains(&false));
+    }
+    assert!(some > 1_000, "{some} marked some nodes and not all");
 }
 
 #[test]
-fn elements_may_be_labelled_text() {
-    assert_eq!(marked(&mixed(), ":text"), [3, 5, 6, 7]);
-}
-
-#[test]
-fn left_is_the_first_child_and_right_the_next_sibling() {
-    assert_eq!(marked(&mixed(), "(.l[:name]=\"zz\")"), [1]);
-    assert_eq!(marked(&mixed(), "(r=\"a\")"), [2]);
-    assert_eq!(marked(&mixed(), "(r=\"\")"), [1]);
-    assert_eq!(marked(&mixed(), "(*r=\"c\")"), [2, 3, 4, 6]);
-    assert_eq!(marked(&mixed(), "(L=\"abc\")"), [1, 2]);
-    assert_eq!(marked(&mixed(), "(.*RL=\"abc\")"), [1, 2, 3, 4, 6, 7]);
-}
-
-#[test]
-fn the_signs_quantify_over_reached_nodes() {
-    // From node 2 its right siblings have "a", "b" and "c".
-    assert_eq!(marked(&mixed(), "(.r*r<\"b\")"), [1, 2]);
-    assert_eq!(marked(&mixed(), "(.r*r>=\"c\")"), [2, 3, 4]);
-    assert_eq!(marked(&mixed(), "(.r*r!=.r*r)"), [2, 3]);
-    assert_eq!(marked(&mixed(), "(+er<=\"\")"), [1, 7]);
-    assert_eq!(marked(&mixed(), "(.l[!:name]>e)"), Vec::<usize>::new());
-}
-
-#[test]
-fn connectives_mean_what_is_written() {
-    assert_eq!(marked(&mixed(), "&:text(e=\"\")"), [7]);
-    assert_eq!(marked(&mixed(), "|:lib:unit"), [0, 4]);
-    assert_eq!(marked(&mixed(), "!|:text(e!=\"abc\")"), [0, 1]);
+fn backward_goes_as_far_as_a_library_does() {
+    // Each of 4,096 nodes inside the one before it, the last a text.
+    let depth = 4_095;
+    let mut rows: Vec<_> = (0..depth).map(|depth| ('e', depth, "a", "")).collect();
+    rows.push(('t', depth, "text", "v"));
+    let document = evaluator::samples::document(&rows);
+    let library = evaluator::document::read(&document).expect("a legal document");
+    let tree = Tree::of(&library);
+    let holding = |rule: &str| {
+        let holds = backward::holds(&tree, &reader::read(rule.as_bytes()));
+        holds.iter().filter(|holds| **holds).count()
+    };
+    assert_eq!(holding("(.*l[:text]=\"v\")"), 4_096);
+    assert_eq!(holding("(.l.l.l*l=\"v\")"), 4_093);
+    assert_eq!(holding("(.*L[!(L=e)]=.*l[:text])"), 4_096);
 }
 
 #[test]

@@ -21,8 +21,3 @@ pub fn run(document: &[u8], rule: &str) -> (Outcome, Vec<usize>) {
     let marked = (0..nodes).filter(|v| marks[*v] == 1).collect();
     (outcome, marked)
 }
-
-/// The numbers of the nodes that a rule marks.
-pub fn marked(document: &[u8], rule: &str) -> Vec<usize> {
-    run(document, rule).1
-}

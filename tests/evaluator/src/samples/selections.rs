@@ -1,0 +1,203 @@
+//! Fixed documents and rules with the nodes that must be marked: document 01's
+//! cases on X, where a reading of it slips, and what each construct means.
+
+use super::{document, X};
+
+pub struct SelectionCase {
+    pub document: Vec<u8>,
+    pub rule: &'static str,
+    /// The numbers of the marked nodes, rising.
+    pub marked: &'static [usize],
+}
+
+/// A name that says what holds of the cases, and the function that makes them.
+pub type Group = (&'static str, fn() -> Vec<SelectionCase>);
+
+/// All fixed cases.
+pub const GROUPS: [Group; 12] = [
+    ("the ten cases on X mark what is written", cases_on_x),
+    ("= and != both fail at node 3 of X", both_fail),
+    ("= and != may both hold, or one, or neither", both_hold),
+    ("only R upward leaves node 3 of X, to node 1", upward),
+    ("attribute values are not joined", attributes_apart),
+    ("texts are joined in order", texts_joined),
+    ("an element may be labelled text", labelled_text),
+    ("l is the first child and r the next sibling", children),
+    ("the signs quantify over reached nodes", quantified),
+    ("a prefix is smaller", prefixes),
+    ("connectives mean what is written", connectives),
+    ("every comparison of a rule is settled", several),
+];
+
+/// The session of document 01.
+pub const SESSION: &str = "(.l[:name]=..r*rl)";
+
+/// "Marked on X (M)".
+pub const CASES_ON_X: [(&str, &[usize]); 10] = [
+    (":drug", &[1, 3]),
+    ("!:drug", &[0, 2, 4]),
+    ("(e=e)", &[0, 1, 2, 3, 4]),
+    ("(e!=e)", &[]),
+    ("(l=\"heparin\")", &[1, 3]),
+    ("(e<\"a\")", &[0, 1, 3]),
+    ("(*l=\"heparin\")", &[0, 1, 2, 3, 4]),
+    ("(.R*R=\"\")", &[3]),
+    ("(r=e)", &[1]),
+    (SESSION, &[1]),
+];
+
+type Marked = (&'static str, &'static [usize]);
+
+fn on_x(cases: &[Marked]) -> Vec<SelectionCase> {
+    on(X.as_bytes(), cases)
+}
+
+/// 0 lib, 1 drug with attribute 2, text 3, unit 4 with text 5, text 6; 7 empty.
+fn on_mixed(cases: &[Marked]) -> Vec<SelectionCase> {
+    let mixed = document(&[
+        ('e', 0, "lib", ""),
+        ('e', 1, "drug", ""),
+        ('a', 2, "name", "zz"),
+        ('t', 2, "text", "a"),
+        ('e', 2, "unit", ""),
+        ('t', 3, "text", "b"),
+        ('t', 2, "text", "c"),
+        ('e', 1, "text", ""),
+    ]);
+    on(&mixed, cases)
+}
+
+fn on(document: &[u8], cases: &[Marked]) -> Vec<SelectionCase> {
+    let case = |&(rule, marked): &Marked| SelectionCase {
+        document: document.to_vec(),
+        rule,
+        marked,
+    };
+    cases.iter().map(case).collect()
+}
+
+fn cases_on_x() -> Vec<SelectionCase> {
+    on_x(&CASES_ON_X)
+}
+
+fn both_fail() -> Vec<SelectionCase> {
+    on_x(&[
+        ("(r=e)", &[1]),
+        ("(r!=e)", &[]),
+        // The denials hold there, and so are no comparisons.
+        ("!(r=e)", &[0, 2, 3, 4]),
+        ("!(r!=e)", &[0, 1, 2, 3, 4]),
+    ])
+}
+
+fn both_hold() -> Vec<SelectionCase> {
+    // The right siblings of 1 have "", of 2 "a", "b" and "c", of 3 "b" and
+    // "c", of 4 "c"; no other node has any.
+    on_mixed(&[
+        ("(.r*r=.r*r)", &[1, 2, 3, 4]),
+        ("(.r*r!=.r*r)", &[2, 3]),
+        ("&(.r*r=.r*r)(.r*r!=.r*r)", &[2, 3]),
+        ("!|(.r*r=.r*r)(.r*r!=.r*r)", &[0, 5, 6, 7]),
+        ("(*r=\"c\")", &[2, 3, 4, 6]),
+        ("(*r!=\"c\")", &[0, 1, 2, 3, 4, 5, 7]),
+    ])
+}
+
+fn upward() -> Vec<SelectionCase> {
+    // Every element of X has the empty value, so the first two ask which nodes
+    // are left children and which are right children.
+    on_x(&[
+        ("(L=\"\")", &[1, 2, 4]),
+        ("(R=\"\")", &[3]),
+        // Node 1 alone is a drug whose parent has it as left child.
+        ("(..R[:drug]L=\"\")", &[3]),
+        ("(.L[:lib]=\"\")", &[1]),
+        ("(.R[:drug]=\"\")", &[3]),
+        ("(*L=\"heparin\")", &[2, 4]),
+    ])
+}
+
+fn attributes_apart() -> Vec<SelectionCase> {
+    let mut cases = on_x(&[("(e=\"heparin\")", &[2, 4]), ("(e=\"\")", &[0, 1, 3])]);
+    cases.extend(on_mixed(&[
+        ("(e=\"zz\")", &[2]),
+        ("(e>=\"zz\")", &[2]),
+        ("(e=l)", &[0, 4]),
+    ]));
+    cases
+}
+
+fn texts_joined() -> Vec<SelectionCase> {
+    on_mixed(&[
+        ("(e=\"abc\")", &[0, 1]),
+        ("(e=\"b\")", &[4, 5]),
+        ("(e=\"\")", &[7]),
+        ("(e=\"cba\")", &[]),
+    ])
+}
+
+fn labelled_text() -> Vec<SelectionCase> {
+    on_mixed(&[(":text", &[3, 5, 6, 7]), (":tex", &[]), (":texts", &[])])
+}
+
+fn children() -> Vec<SelectionCase> {
+    on_mixed(&[
+        ("(.l[:name]=\"zz\")", &[1]),
+        ("(r=\"a\")", &[2]),
+        ("(r=\"\")", &[1]),
+        ("(*r=\"c\")", &[2, 3, 4, 6]),
+        ("(L=\"abc\")", &[1, 2]),
+        ("(.*RL=\"abc\")", &[1, 2, 3, 4, 6, 7]),
+    ])
+}
+
+fn quantified() -> Vec<SelectionCase> {
+    // From node 2 its right siblings have "a", "b" and "c".
+    on_mixed(&[
+        ("(.r*r<\"b\")", &[1, 2]),
+        ("(.r*r>=\"c\")", &[2, 3, 4]),
+        ("(.r*r!=.r*r)", &[2, 3]),
+        ("(+er<=\"\")", &[1, 7]),
+        ("(.l[!:name]>e)", &[]),
+        // Some of 3, 4, 6 against some of 3, 4, 6.
+        ("(.r*r<.r*r)", &[2, 3]),
+        ("(.r*r<=.r*r)", &[1, 2, 3, 4]),
+        ("(r>e)", &[3, 4]),
+        ("(r>=e)", &[3, 4]),
+        ("(e>r)", &[1, 2]),
+    ])
+}
+
+fn prefixes() -> Vec<SelectionCase> {
+    on_mixed(&[
+        ("(e<\"abc\")", &[3, 7]),
+        ("(e<=\"abc\")", &[0, 1, 3, 7]),
+        ("(e>\"ab\")", &[0, 1, 2, 4, 5, 6]),
+        ("(e>=\"abcd\")", &[2, 4, 5, 6]),
+        ("(e>\"\")", &[0, 1, 2, 3, 4, 5, 6]),
+        ("(.*r[:text]<.Le)", &[1, 2]),
+    ])
+}
+
+fn connectives() -> Vec<SelectionCase> {
+    on_mixed(&[
+        ("&:text(e=\"\")", &[7]),
+        ("|:lib:unit", &[0, 4]),
+        ("!|:text(e!=\"abc\")", &[0, 1]),
+    ])
+}
+
+fn several() -> Vec<SelectionCase> {
+    on_mixed(&[
+        ("&(e=\"abc\")(l=\"zz\")", &[1]),
+        ("|(e=\"zz\")(e=\"c\")", &[2, 6]),
+        ("|(r=\"zz\")(r=\"c\")", &[4]),
+        ("|(e=\"no\")|(e!=e)(l=e)", &[0, 4]),
+        // Inside brackets, and behind the comparison around them.
+        ("([(l=\"zz\")]=\"abc\")", &[1]),
+        ("(e=[(e=\"c\")])", &[6]),
+        ("(.r*r!=.*r[(.L[(l=\"zz\")]<e)])", &[2]),
+        ("(*l=*.l[(r=\"a\")])", &[0, 1, 2, 3, 4, 5, 6, 7]),
+        ("&([(l=e)]=e)!(L=e)", &[0, 4]),
+    ])
+}
