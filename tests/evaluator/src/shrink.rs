@@ -2,6 +2,9 @@
 
 use std::cell::Cell;
 
+use crate::rule::{parts, Piece};
+use crate::{reader, rule_check};
+
 /// Leaves out as many items as the failure allows: runs of items, from half
 /// the input down to single ones, are dropped whenever the rest still fails,
 /// until no single item can be dropped.
@@ -10,7 +13,7 @@ pub fn shrink<T: Clone>(items: &[T], still_fails: impl Fn(&[T]) -> bool) -> Vec<
 }
 
 /// The same, but with what is left once there is no more going on.
-fn shrink_while<T: Clone>(
+pub fn shrink_while<T: Clone>(
     items: &[T],
     still_fails: impl Fn(&[T]) -> bool,
     go_on: impl Fn() -> bool,
@@ -43,6 +46,23 @@ const BUDGET: usize = 500_000_000;
 /// lines with N lowered to match, so that what follows stays in its place;
 /// then bytes. A large document is made as small as the budget allows.
 pub fn shrink_document(document: &[u8], still_fails: impl Fn(&[u8]) -> bool) -> Vec<u8> {
+    let spent = Cell::new(0);
+    let counted = |bytes: &[u8]| {
+        spent.set(spent.get() + bytes.len());
+        still_fails(bytes)
+    };
+    let affordable = || spent.get() < BUDGET;
+    let nodes_left = shrink_nodes(document, counted, affordable);
+    spent.set(0);
+    shrink_while(&nodes_left, counted, affordable)
+}
+
+/// Leaves out whole nodes only, as long as there is going on.
+pub fn shrink_nodes(
+    document: &[u8],
+    still_fails: impl Fn(&[u8]) -> bool,
+    go_on: impl Fn() -> bool,
+) -> Vec<u8> {
     let lines: Vec<&[u8]> = document.split_inclusive(|byte| *byte == b'\n').collect();
     let Some((first, rest)) = lines.split_first() else {
         return Vec::new();
@@ -53,15 +73,29 @@ pub fn shrink_document(document: &[u8], still_fails: impl Fn(&[u8]) -> bool) -> 
         bytes.extend(kept.concat().concat());
         bytes
     };
-    let spent = Cell::new(0);
-    let counted = |bytes: &[u8]| {
-        spent.set(spent.get() + bytes.len());
-        still_fails(bytes)
-    };
-    let affordable = || spent.get() < BUDGET;
-    let kept = shrink_while(&nodes, |kept| counted(&spell(kept)), affordable);
-    spent.set(0);
-    shrink_while(&spell(&kept), counted, affordable)
+    spell(&shrink_while(
+        &nodes,
+        |kept| still_fails(&spell(kept)),
+        go_on,
+    ))
+}
+
+/// The spellings of all tests inside a legal rule, the rule itself among them,
+/// shortest first; of anything else none.
+pub fn tests_inside(rule: &[u8]) -> Vec<Vec<u8>> {
+    if rule_check::check(rule).number != 0 {
+        return Vec::new();
+    }
+    let rule = reader::read(rule);
+    let mut tests: Vec<Vec<u8>> = parts(&rule)
+        .iter()
+        .filter_map(|part| match part.piece {
+            Piece::Test(test) => Some(test.spell()),
+            Piece::Path(_) => None,
+        })
+        .collect();
+    tests.sort_by_key(Vec::len);
+    tests
 }
 
 /// The first line with so many nodes less, or as it is if it has no number or

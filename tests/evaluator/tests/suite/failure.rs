@@ -4,9 +4,8 @@
 use std::panic::{catch_unwind, AssertUnwindSafe};
 
 use evaluator::document::{self, Library, Node};
-use evaluator::rule::{parts, Piece};
-use evaluator::shrink::shrink;
-use evaluator::{reader, rule_check};
+use evaluator::rule_check;
+use evaluator::shrink::{shrink, tests_inside};
 
 /// Whether the property panics.
 fn fails(property: impl FnOnce()) -> bool {
@@ -50,19 +49,4 @@ pub fn assert_on_pair(seed: u64, library: &Library, rule: &[u8], property: impl 
 fn spell_nodes(nodes: &[Node]) -> Vec<u8> {
     let nodes = nodes.to_vec();
     document::spell(&Library { nodes })
-}
-
-/// The spellings of all tests inside a rule, the rule itself among them,
-/// shortest first.
-fn tests_inside(rule: &[u8]) -> Vec<Vec<u8>> {
-    let rule = reader::read(rule);
-    let mut tests: Vec<Vec<u8>> = parts(&rule)
-        .iter()
-        .filter_map(|part| match part.piece {
-            Piece::Test(test) => Some(test.spell()),
-            Piece::Path(_) => None,
-        })
-        .collect();
-    tests.sort_by_key(Vec::len);
-    tests
 }
