@@ -211,6 +211,17 @@ fn collect<'a>(
 }
 
 impl<'a> Piece<'a> {
+    pub fn is_test(self) -> bool {
+        matches!(self, Piece::Test(_))
+    }
+
+    pub fn spell(self) -> Vec<u8> {
+        match self {
+            Piece::Test(test) => test.spell(),
+            Piece::Path(path) => path.spell(),
+        }
+    }
+
     /// The number of this piece's own bytes behind the parts inside it, or
     /// behind its first byte if there are none.
     fn bytes_behind(self) -> usize {

@@ -2,7 +2,7 @@
 
 use std::cell::Cell;
 
-use crate::rule::{parts, Piece};
+use crate::rule::parts;
 use crate::{reader, rule_check};
 
 /// Leaves out as many items as the failure allows: runs of items, from half
@@ -13,7 +13,7 @@ pub fn shrink<T: Clone>(items: &[T], still_fails: impl Fn(&[T]) -> bool) -> Vec<
 }
 
 /// The same, but with what is left once there is no more going on.
-pub fn shrink_while<T: Clone>(
+fn shrink_while<T: Clone>(
     items: &[T],
     still_fails: impl Fn(&[T]) -> bool,
     go_on: impl Fn() -> bool,
@@ -80,22 +80,46 @@ pub fn shrink_nodes(
     ))
 }
 
-/// The spellings of all tests inside a legal rule, the rule itself among them,
-/// shortest first; of anything else none.
-pub fn tests_inside(rule: &[u8]) -> Vec<Vec<u8>> {
+/// Makes a failing rule small. A part is replaced by one inside it, or a path
+/// by the empty one, as long as the rule still fails; then bytes are left out.
+/// What is no legal rule only loses bytes.
+pub fn shrink_rule(
+    rule: &[u8],
+    still_fails: impl Fn(&[u8]) -> bool,
+    go_on: impl Fn() -> bool,
+) -> Vec<u8> {
+    let mut small = rule.to_vec();
+    let fails = |rule: &Vec<u8>| go_on() && still_fails(rule);
+    while let Some(simpler) = simpler_rules(&small).into_iter().find(&fails) {
+        small = simpler;
+    }
+    shrink_while(&small, still_fails, go_on)
+}
+
+/// The rules with one part of a legal rule replaced, shortest first.
+fn simpler_rules(rule: &[u8]) -> Vec<Vec<u8>> {
     if rule_check::check(rule).number != 0 {
         return Vec::new();
     }
-    let rule = reader::read(rule);
-    let mut tests: Vec<Vec<u8>> = parts(&rule)
-        .iter()
-        .filter_map(|part| match part.piece {
-            Piece::Test(test) => Some(test.spell()),
-            Piece::Path(_) => None,
-        })
-        .collect();
-    tests.sort_by_key(Vec::len);
-    tests
+    let test = reader::read(rule);
+    let all = parts(&test);
+    let mut simpler = Vec::new();
+    for (at, part) in all.iter().enumerate() {
+        let end = part.offset + part.piece.spell().len();
+        let inside = all[at + 1..].iter().take_while(|inner| inner.offset < end);
+        let mut shorter: Vec<Vec<u8>> = inside
+            .filter(|inner| inner.piece.is_test() == part.piece.is_test())
+            .map(|inner| inner.piece.spell())
+            .collect();
+        if !part.piece.is_test() && rule[part.offset] != b'e' {
+            shorter.push(b"e".to_vec());
+        }
+        for bytes in shorter {
+            simpler.push([&rule[..part.offset], &bytes, &rule[end..]].concat());
+        }
+    }
+    simpler.sort_by_key(Vec::len);
+    simpler
 }
 
 /// The first line with so many nodes less, or as it is if it has no number or

@@ -4,7 +4,7 @@ use super::library::any_label;
 use super::{printable, printable_of, Random, NAMES, VALUES};
 use crate::document::LABEL_LIMIT;
 use crate::grammar::CONSTANT_LIMIT;
-use crate::rule::{parts, Operand, Path, Piece, Sign, Test};
+use crate::rule::{parts, Operand, Path, Sign, Test};
 use crate::rule_check::{BYTE_LIMIT, NESTING_LIMIT, STEP_LIMIT, TEST_LIMIT};
 
 /// A legal rule with at most about so many parts, its names and constants
@@ -36,11 +36,8 @@ pub fn large_rule(random: &mut Random, size: usize) -> Test {
 fn draw_legal(mut draw: impl FnMut() -> Test) -> Test {
     loop {
         let rule = draw();
-        let is_test = |piece| matches!(piece, Piece::Test(_));
-        let tests = parts(&rule)
-            .iter()
-            .filter(|part| is_test(part.piece))
-            .count();
+        let all = parts(&rule);
+        let tests = all.iter().filter(|part| part.piece.is_test()).count();
         if tests <= TEST_LIMIT && rule.spell().len() <= BYTE_LIMIT {
             return rule;
         }

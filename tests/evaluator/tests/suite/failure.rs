@@ -5,7 +5,7 @@ use std::panic::{catch_unwind, AssertUnwindSafe};
 
 use evaluator::document::{self, Library, Node};
 use evaluator::rule_check;
-use evaluator::shrink::{shrink, tests_inside};
+use evaluator::shrink::{shrink, shrink_rule};
 
 /// Whether the property panics.
 fn fails(property: impl FnOnce()) -> bool {
@@ -20,9 +20,9 @@ pub fn assert_on_bytes(seed: u64, bytes: &[u8], property: impl Fn(&[u8])) {
     }
 }
 
-/// Asserts a property of an accepted document and an accepted rule. The
-/// shortest test inside the rule that still fails is taken, then nodes are
-/// left out, then bytes of the rule; only accepted pairs are tried.
+/// Asserts a property of an accepted document and an accepted rule. Of a
+/// failure the rule is made small, then the document, then the rule again;
+/// only accepted pairs are tried.
 pub fn assert_on_pair(seed: u64, library: &Library, rule: &[u8], property: impl Fn(&[u8], &[u8])) {
     let fails_on = |nodes: &[Node], rule: &[u8]| {
         let document = spell_nodes(nodes);
@@ -33,12 +33,9 @@ pub fn assert_on_pair(seed: u64, library: &Library, rule: &[u8], property: impl 
     if !fails(|| property(&spell_nodes(&library.nodes), rule)) {
         return;
     }
-    let inside = tests_inside(rule)
-        .into_iter()
-        .find(|test| fails_on(&library.nodes, test));
-    let rule = inside.unwrap_or(rule.to_vec());
+    let rule = shrink_rule(rule, |rule| fails_on(&library.nodes, rule), || true);
     let nodes = shrink(&library.nodes, |nodes| fails_on(nodes, &rule));
-    let rule = shrink(&rule, |rule| fails_on(&nodes, rule));
+    let rule = shrink_rule(&rule, |rule| fails_on(&nodes, rule), || true);
     panic!(
         "seed {seed}, shrunk to:\n{}\n{}",
         String::from_utf8_lossy(&rule),

@@ -29,17 +29,13 @@ fn rules_are_spelled_and_read_back() {
 
 #[test]
 fn parts_begin_at_rising_offsets_with_the_bytes_they_spell() {
-    use evaluator::rule::Piece;
     for seed in 0..1_000 {
         let rule = rule(&mut Random::new(seed), 30);
         let spelled = rule.spell();
         let all = parts(&rule);
         assert!(all.windows(2).all(|pair| pair[0].offset < pair[1].offset));
         for part in &all {
-            let bytes = match part.piece {
-                Piece::Test(test) => test.spell(),
-                Piece::Path(path) => path.spell(),
-            };
+            let bytes = part.piece.spell();
             assert!(spelled[part.offset..].starts_with(&bytes), "seed {seed}");
         }
     }

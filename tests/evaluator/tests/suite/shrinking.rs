@@ -2,8 +2,9 @@
 
 use evaluator::document::{check, read, spell, BYTE_LIMIT};
 use evaluator::random::{any_library, Random};
+use evaluator::rule_check;
 use evaluator::samples::document;
-use evaluator::shrink::{shrink, shrink_document};
+use evaluator::shrink::{shrink, shrink_document, shrink_rule};
 
 #[test]
 fn only_the_bytes_that_matter_are_left() {
@@ -47,6 +48,23 @@ fn what_stands_behind_the_last_node_stays_there() {
         small.len(),
         "nodes=1\ndepth=0\nkind=e\nlabel=a\nvalue=\nx".len()
     );
+}
+
+#[test]
+fn a_rule_loses_all_around_the_part_that_matters() {
+    let rule = b"|!(*+.lr[(.LR<R)]!=+e.r.R[:b]):a";
+    let unequal = |rule: &[u8]| {
+        let legal = rule_check::check(rule).number == 0;
+        legal && rule.windows(2).any(|pair| pair == b"!=")
+    };
+    assert_eq!(shrink_rule(rule, unequal, || true), b"(e!=e)");
+    let bracket = |rule: &[u8]| rule.windows(4).any(|bytes| bytes == b"[:b]");
+    let legal = |rule: &[u8]| rule_check::check(rule).number == 0 && bracket(rule);
+    assert_eq!(shrink_rule(rule, legal, || true), b"(e=[:b])");
+    // What is no rule loses bytes.
+    assert_eq!(shrink_rule(b"(e=[:b]", bracket, || true), b"[:b]");
+    // Nothing is tried once there is no going on.
+    assert_eq!(shrink_rule(rule, legal, || false), rule);
 }
 
 #[test]
