@@ -26,10 +26,32 @@ pub struct RuleAnswer {
     pub place: usize,
 }
 
+/// What an evaluation returns: number, place, and the counts of marked nodes
+/// and of snippets. The fields and their order are those of the exported
+/// record.
+#[repr(C)]
+#[derive(Clone, Copy, Debug, PartialEq, Eq)]
+pub struct Evaluation {
+    pub number: u16,
+    pub place: usize,
+    pub selected: usize,
+    pub snippets: usize,
+}
+
 extern "C" {
     // A slice passes as a pointer and then a length.
     fn yurzhoad_check_document(document: *const u8, length: usize) -> DocumentAnswer;
     fn yurzhoad_check_rule(rule: *const u8, length: usize) -> RuleAnswer;
+    fn yurzhoad_evaluate_plain(
+        document: *const u8,
+        document_length: usize,
+        rule: *const u8,
+        rule_length: usize,
+        scratch: *mut u16,
+        scratch_length: usize,
+        marks: *mut u8,
+        marks_length: usize,
+    ) -> Evaluation;
 }
 
 /// Judges a document by numbers 1 to 4.
@@ -43,4 +65,37 @@ pub fn check_document(document: &[u8]) -> DocumentAnswer {
 pub fn check_rule(rule: &[u8]) -> RuleAnswer {
     // SAFETY: as above.
     unsafe { yurzhoad_check_rule(rule.as_ptr(), rule.len()) }
+}
+
+/// Evaluates a rule on a document by following its paths, and marks the nodes
+/// that it selects. Judges by numbers 1 to 11; a refused call leaves both
+/// buffers as they were.
+pub fn evaluate_plain(
+    document: &[u8],
+    rule: &[u8],
+    scratch: &mut [u16],
+    marks: &mut [u8],
+) -> Evaluation {
+    // SAFETY: each pointer and length are those of one slice that outlives the
+    // call; the function reads and writes only inside them, writes only to the
+    // two that are borrowed for it alone, and keeps no reference to any.
+    unsafe {
+        yurzhoad_evaluate_plain(
+            document.as_ptr(),
+            document.len(),
+            rule.as_ptr(),
+            rule.len(),
+            scratch.as_mut_ptr(),
+            scratch.len(),
+            marks.as_mut_ptr(),
+            marks.len(),
+        )
+    }
+}
+
+/// The words of scratch that an evaluation needs for a document of so many
+/// nodes: N * (64 * B + 128), B being the number of binary digits of N.
+pub fn needed_words(nodes: usize) -> usize {
+    let digits = (usize::BITS - nodes.leading_zeros()) as usize;
+    nodes * (64 * digits + 128)
 }
