@@ -4,13 +4,21 @@
 //! through the calling convention that other languages use.
 
 mod agreement;
+mod damaged_evaluations;
+mod evaluation_agreement;
+mod evaluation_limits;
+mod evaluation_refusals;
 mod every_short_rule;
 mod every_small_change;
 mod every_small_rule_change;
 mod fixed_documents;
+mod fixed_evaluations;
 mod fixed_rules;
 mod large_documents;
+mod large_evaluations;
 mod random_documents;
+mod random_evaluations;
 mod random_rules;
 mod rule_agreement;
 mod rule_limits;
+mod rules_seen;

@@ -1,12 +1,11 @@
 //! Random rules: one half legal, the other damaged; and rules beyond the
 //! limits.
 
-use std::collections::{BTreeMap, BTreeSet};
+use std::collections::BTreeMap;
 
 use crate::rule_agreement::{assert_agreement, assert_judged};
+use crate::rules_seen::Seen;
 use evaluator::random::{any_rule, damage_rule, deep_rule, large_rule, Random};
-use evaluator::reader;
-use evaluator::rule::{parts, Operand, Path, Piece, Test};
 use evaluator::rule_check::{BYTE_LIMIT, NESTING_LIMIT};
 
 /// So many legal rules, and as many damaged ones.
@@ -105,113 +104,22 @@ fn rules_beyond_the_limits_are_judged_alike() {
     assert_covered(&numbers, &[0, 5, 7, 8, 9], 200);
 }
 
-/// What 01 allows, and how much of it the legal rules had.
-#[derive(Default)]
-struct Seen {
-    constructs: BTreeSet<&'static str>,
-    signs: BTreeSet<&'static [u8]>,
-    first_bytes: BTreeSet<u8>,
-    name_bytes: BTreeSet<u8>,
-    name_lengths: BTreeSet<usize>,
-    constant_bytes: BTreeSet<u8>,
-    constant_lengths: BTreeSet<usize>,
-    nestings: BTreeSet<usize>,
-    tests: BTreeSet<usize>,
-    steps: BTreeSet<usize>,
-    longest: usize,
-}
-
-impl Seen {
-    fn add(&mut self, rule: &[u8]) {
-        let test = reader::read(rule);
-        let all = parts(&test);
-        self.nestings.extend(all.iter().map(|part| part.nesting));
-        let mut tests = 0;
-        for part in &all {
-            match part.piece {
-                Piece::Test(test) => {
-                    tests += 1;
-                    self.add_test(test);
-                }
-                Piece::Path(path) => self.add_path(path),
-            }
-        }
-        self.tests.insert(tests);
-        self.longest = self.longest.max(rule.len());
-    }
-
-    fn add_test(&mut self, test: &Test) {
-        let construct = match test {
-            Test::Name(name) => {
-                self.first_bytes.insert(name[0]);
-                self.name_bytes.extend(&name[1..]);
-                self.name_lengths.insert(name.len());
-                ":name"
-            }
-            Test::Not(_) => "!T",
-            Test::And(..) => "&TT",
-            Test::Or(..) => "|TT",
-            Test::Compare(path, sign, operand) => {
-                self.signs.insert(sign.spell());
-                self.add_operand(path.steps().len(), operand)
-            }
-        };
-        self.constructs.insert(construct);
-    }
-
-    fn add_operand(&mut self, steps: usize, operand: &Operand) -> &'static str {
-        match operand {
-            Operand::Path(path) => {
-                self.steps.insert(steps + path.steps().len());
-                "(P o P)"
-            }
-            Operand::Constant(text) => {
-                self.steps.insert(steps);
-                self.constant_bytes.extend(text);
-                self.constant_lengths.insert(text.len());
-                "(P o \"c\")"
-            }
-        }
-    }
-
-    fn add_path(&mut self, path: &Path) {
-        self.constructs.insert(match path {
-            Path::Empty => "e",
-            Path::Left => "l",
-            Path::Right => "r",
-            Path::FromLeft => "L",
-            Path::FromRight => "R",
-            Path::Stay(_) => "[T]",
-            Path::Then(..) => ".PP",
-            Path::Either(..) => "+PP",
-            Path::Repeat(inner) => match **inner {
-                Path::Repeat(_) => "**P",
-                Path::Empty => "*e",
-                Path::Then(..) => "*.PP",
-                Path::Either(..) => "*+PP",
-                Path::Stay(_) => "*[T]",
-                _ => "*P",
-            },
-        });
-    }
-
-    /// Asserts that all of it occurred: 6 kinds of tests and 14 of paths, 6
-    /// signs, 26 letters at first and 37 bytes behind, 16 lengths of names, 94
-    /// bytes in constants of 33 lengths, nesting 1 to 32, 1 to 64 tests, 0 to
-    /// 14 steps, and some rule of many bytes.
-    fn assert_all(&self) {
-        assert_eq!(self.constructs.len(), 20, "{:?}", self.constructs);
-        assert_eq!(self.signs.len(), 6);
-        assert_eq!(self.first_bytes.len(), 26);
-        assert_eq!(self.name_bytes.len(), 37);
-        assert_eq!(self.name_lengths.len(), 16);
-        assert_eq!(self.constant_bytes.len(), 94);
-        assert_eq!(self.constant_lengths.len(), 33);
-        assert_eq!(self.nestings.len(), 32);
-        assert_eq!(self.tests.len(), 64, "{:?}", self.tests);
-        assert_eq!(self.steps.len(), 15, "{:?}", self.steps);
-        assert!(self.longest > BYTE_LIMIT / 2, "{}", self.longest);
-    }
+/// Asserts that all of it occurred: 6 kinds of tests and 14 of paths, 6 signs
+/// before paths and before constants, 26 letters at first and 37 bytes behind,
+/// 16 lengths of names, 94 bytes in constants of 33 lengths, nesting 1 to 32,
+/// 1 to 64 tests, 0 to 14 steps, and some rule of many bytes.
+fn assert_all(seen: &Seen) {
+    assert_eq!(seen.constructs.len(), 20, "{:?}", seen.constructs);
+    assert_eq!(seen.signs.len(), 12);
+    assert_eq!(seen.first_bytes.len(), 26);
+    assert_eq!(seen.name_bytes.len(), 37);
+    assert_eq!(seen.name_lengths.len(), 16);
+    assert_eq!(seen.constant_bytes.len(), 94);
+    assert_eq!(seen.constant_lengths.len(), 33);
+    assert_eq!(seen.nestings.len(), 32);
+    assert_eq!(seen.tests.len(), 64, "{:?}", seen.tests);
+    assert_eq!(seen.steps.len(), 15, "{:?}", seen.steps);
+    assert!(seen.longest > BYTE_LIMIT / 2, "{}", seen.longest);
 }
 
 #[test]
@@ -226,5 +134,5 @@ fn legal_rules_are_accepted() {
         seen.add(&rule);
     }
     assert!(accepted >= 100_000);
-    seen.assert_all();
+    assert_all(&seen);
 }

@@ -1,0 +1,226 @@
+//! Random documents and rules of all kinds, evaluated with buffers of every
+//! length and whatever they held before.
+
+use std::collections::{BTreeMap, BTreeSet};
+
+use crate::evaluation_agreement::{assert_agreement, Buffers, Length};
+use crate::rules_seen::Seen;
+use evaluator::document::{spell, Kind, Library};
+use evaluator::evaluate::{needed_words, Outcome};
+use evaluator::random::{any_library, library, rule, rule_about, Random};
+use evaluator::rule::{parts, Operand, Path, Piece, Test};
+use evaluator::tree::Tree;
+
+/// So many pairs of a document and a rule.
+const CASES: u64 = 36_000;
+/// At least so many of them accepted, the others refused by 10 or 11.
+const ACCEPTED: usize = 30_000;
+
+/// A pair with the tree of its document, to look into.
+struct Pair {
+    library: Library,
+    tree: Tree,
+    rule: Test,
+}
+
+/// Mostly few nodes and parts, so that many pairs are tried.
+fn draw_pair(random: &mut Random) -> Pair {
+    let most_nodes = match random.below(10) {
+        0..=3 => 10,
+        4..=7 => 22,
+        _ => 40,
+    };
+    let nodes = 1 + random.below(most_nodes);
+    let mut library = match random.percent(80) {
+        true => library(random, nodes),
+        false => any_library(random, nodes),
+    };
+    if random.percent(20) {
+        scatter_values(random, &mut library);
+    }
+    let tree = Tree::of(&library);
+    let most_parts = match random.below(100) {
+        0 => 250,
+        1..=9 => 60,
+        _ => 20,
+    };
+    let size = 2 + random.below(most_parts);
+    let rule = match random.percent(20) {
+        true => rule(random, size.min(60)),
+        false => rule_about(random, size, &tree.values),
+    };
+    Pair {
+        library,
+        tree,
+        rule,
+    }
+}
+
+/// Gives texts and attributes values that are seldom equal.
+fn scatter_values(random: &mut Random, library: &mut Library) {
+    for node in &mut library.nodes {
+        if node.kind != Kind::Element {
+            let letters = b"abcdefghijklmnopqrstuvwxyz";
+            node.value = (0..2).map(|_| *random.pick(letters)).collect();
+        }
+    }
+}
+
+/// Mostly just long enough, often longer, seldom too short.
+fn draw_length(random: &mut Random, needed: usize) -> Length {
+    match random.below(20) {
+        0..=10 => Length::Needed,
+        11..=18 => Length::Longer(1 + random.below(needed)),
+        _ => Length::Shorter(1 + random.below(needed)),
+    }
+}
+
+/// For words and for marks.
+fn draw_buffers(random: &mut Random, nodes: usize) -> Buffers {
+    Buffers {
+        words: draw_length(random, needed_words(nodes)),
+        marks: draw_length(random, nodes),
+        seed: random.below(usize::MAX) as u64,
+    }
+}
+
+/// How much the pairs exercised.
+#[derive(Default)]
+struct Exercise {
+    rules: Seen,
+    nodes: BTreeSet<usize>,
+    /// How many cases had each of these.
+    cases: BTreeMap<&'static str, usize>,
+}
+
+impl Exercise {
+    fn count(&mut self, name: &'static str, condition: bool) {
+        *self.cases.entry(name).or_default() += usize::from(condition);
+    }
+
+    fn add(&mut self, pair: &Pair, outcome: &Outcome) {
+        self.count("refused by 10", outcome.number == 10);
+        self.count("refused by 11", outcome.number == 11);
+        self.count("accepted", outcome.number == 0);
+        if outcome.number == 0 {
+            self.rules.add(&pair.rule.spell());
+            self.nodes.insert(pair.tree.size());
+            self.add_marks(pair.tree.size(), outcome.selected);
+            self.add_tree(pair);
+            self.add_rule(pair);
+        }
+    }
+
+    fn add_marks(&mut self, nodes: usize, selected: usize) {
+        self.count("none marked", selected == 0);
+        self.count("some marked", selected > 0 && selected < nodes);
+        self.count("all marked", selected == nodes);
+    }
+
+    /// Deep and wide are meant in the binary tree: left children and right
+    /// children that are most of all nodes.
+    fn add_tree(&mut self, pair: &Pair) {
+        let nodes = pair.tree.size();
+        let most = |children: &[Option<usize>]| {
+            let count = children.iter().flatten().count();
+            nodes >= 8 && 4 * count >= 3 * nodes
+        };
+        self.count("deep", most(&pair.tree.left));
+        self.count("wide", most(&pair.tree.right));
+        let values = pair.tree.values.iter().collect::<BTreeSet<_>>().len();
+        self.count("values repeated often", nodes >= 8 && 4 * values <= nodes);
+        self.count(
+            "values repeated seldom",
+            nodes >= 8 && 4 * values >= 3 * nodes,
+        );
+        let joined = |v: &usize| pair.tree.left[*v].is_some() && pair.tree.values[*v].len() > 255;
+        self.count(
+            "a value joined to many bytes",
+            (0..nodes).any(|v| joined(&v)),
+        );
+    }
+
+    fn add_rule(&mut self, pair: &Pair) {
+        let mut comparisons = 0;
+        let (mut known, mut unknown) = (false, false);
+        for part in parts(&pair.rule) {
+            if let Piece::Test(Test::Compare(_, _, operand)) = part.piece {
+                comparisons += 1;
+                if let Operand::Constant(text) = operand {
+                    let occurs = pair.tree.values.contains(text);
+                    known |= occurs;
+                    unknown |= !occurs;
+                }
+            }
+        }
+        self.count("several comparisons", comparisons >= 2);
+        self.count("many comparisons", comparisons >= 8);
+        self.count("a constant that occurs", known);
+        self.count("a constant that does not", unknown);
+        let brackets = bracket_nesting(&pair.rule);
+        self.count("brackets in brackets", brackets >= 2);
+        self.count("brackets three deep", brackets >= 3);
+    }
+
+    fn assert_not_idle(&self) {
+        println!("{:?}", self.cases);
+        assert!(self.cases["accepted"] >= ACCEPTED, "{:?}", self.cases);
+        assert!(
+            self.cases["some marked"] >= ACCEPTED / 4,
+            "{:?}",
+            self.cases
+        );
+        assert!(
+            self.cases.values().all(|cases| *cases >= 200),
+            "{:?}",
+            self.cases
+        );
+        assert_eq!(self.nodes.len(), 40, "{:?}", self.nodes);
+        // Six kinds of tests and 14 of paths, six signs before paths and before
+        // constants, and all numbers of steps.
+        assert_eq!(
+            self.rules.constructs.len(),
+            20,
+            "{:?}",
+            self.rules.constructs
+        );
+        assert_eq!(self.rules.signs.len(), 12);
+        assert_eq!(self.rules.steps.len(), 15, "{:?}", self.rules.steps);
+        assert!(self.rules.tests.iter().any(|tests| *tests >= 48));
+    }
+}
+
+/// How deep brackets stand inside one another, each with a comparison around.
+fn bracket_nesting(test: &Test) -> usize {
+    match test {
+        Test::Name(_) => 0,
+        Test::Not(a) => bracket_nesting(a),
+        Test::And(a, b) | Test::Or(a, b) => bracket_nesting(a).max(bracket_nesting(b)),
+        Test::Compare(p, _, operand) => {
+            let mut steps = p.steps();
+            if let Operand::Path(r) = operand {
+                steps.extend(r.steps());
+            }
+            let inside = |step: &&Path| match step {
+                Path::Stay(test) => 1 + bracket_nesting(test),
+                _ => 0,
+            };
+            steps.iter().map(inside).max().unwrap_or(0)
+        }
+    }
+}
+
+#[test]
+fn random_pairs_are_evaluated_alike() {
+    let mut exercise = Exercise::default();
+    for seed in 0..CASES {
+        let random = &mut Random::new(seed);
+        let pair = draw_pair(random);
+        let buffers = draw_buffers(random, pair.tree.size());
+        let (document, rule) = (spell(&pair.library), pair.rule.spell());
+        let origin = format_args!("seed {seed}");
+        let outcome = assert_agreement(origin, &document, &rule, buffers);
+        exercise.add(&pair, &outcome);
+    }
+    exercise.assert_not_idle();
+}
