@@ -132,12 +132,18 @@ fn around_powers(largest: u32) -> impl Iterator<Item = usize> {
     (0..=largest).flat_map(move |exponent| around(1 << exponent))
 }
 
+/// Ranking a long chain takes long; docs/DECISIONS.md has why. So chains have
+/// up to so many nodes, and one has the most.
+const LONG_CHAIN: usize = 1_100;
+
 #[test]
 fn around_each_power_of_two() {
     let mut some = 0;
     for (name, shape, rules) in SHAPES {
-        for nodes in around_powers(10) {
-            // Ranking a long chain takes long; docs/DECISIONS.md has why.
+        for nodes in around_powers(11) {
+            if name == "chain" && nodes > LONG_CHAIN {
+                continue;
+            }
             let rules = if nodes > 600 { &rules[..1] } else { rules };
             let library = shape(nodes);
             for rule in rules {
@@ -148,7 +154,7 @@ fn around_each_power_of_two() {
             }
         }
     }
-    assert!(some > 150, "{some} marked some nodes and not all");
+    assert!(some > 200, "{some} marked some nodes and not all");
 }
 
 #[test]
@@ -167,9 +173,8 @@ fn random_trees_around_each_power_of_two() {
 
 #[test]
 fn most_nodes_deep_and_wide() {
-    for nodes in [NODE_LIMIT / 2, NODE_LIMIT - 1, NODE_LIMIT] {
+    for nodes in [NODE_LIMIT - 1, NODE_LIMIT] {
         for (name, shape, rules) in SHAPES {
-            // Ranking a chain takes long, so that one call must do.
             let rules = match (name, nodes) {
                 ("chain", NODE_LIMIT) => &rules[..1],
                 ("chain", _) => &[],
