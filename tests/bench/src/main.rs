@@ -1,4 +1,4 @@
-//! Times the proved checks of documents and rules.
+//! Times the proved checks of documents and rules, and the plain evaluation.
 //!
 //! Run it in this workspace, after `rt staticlib exports` in the repository's
 //! root, on a machine that does nothing else:
@@ -7,27 +7,46 @@
 //! cargo run --release --offline -p bench
 //! ```
 //!
+//! With `documents`, `rules` or `evaluations` behind `--` only these are timed.
+//!
 //! The workspace's release profile has overflow checks and debug assertions;
-//! it switches them off for this package, whose scans are measured. The checks
-//! themselves come compiled out of the archive.
+//! it switches them off for this package, whose scans and whose evaluation are
+//! measured. The proved functions come compiled out of the archive.
 //!
 //! Nothing is asserted about time: a test that fails when the machine is busy
-//! tells nothing about the checks.
+//! tells nothing about the functions.
 
 mod documents;
+mod evaluations;
+mod libraries;
+mod plain;
 mod rule_shapes;
 mod rules;
 mod scan;
 mod shapes;
 mod timing;
 
+/// What can be timed, by name.
+const PARTS: [(&str, fn()); 3] = [
+    ("documents", documents::print),
+    ("rules", rules::print),
+    ("evaluations", evaluations::print),
+];
+
 fn main() {
+    let asked: Vec<String> = std::env::args().skip(1).collect();
+    for name in &asked {
+        let known = PARTS.iter().any(|(part, _)| part == name);
+        assert!(known, "there is nothing named {name} to be timed");
+    }
     println!(
-        "Each number: median of {} runs (fastest run). GB/s are 10^9 bytes a second.",
+        "Each number: median of {} runs, or fewer where so written (fastest run). GB/s are 10^9 bytes a second.",
         timing::RUNS
     );
-    println!("\nDocuments");
-    documents::print();
-    println!("\nRules");
-    rules::print();
+    for (name, print) in PARTS {
+        if asked.is_empty() || asked.iter().any(|asked| asked == name) {
+            println!("\n{name}");
+            print();
+        }
+    }
 }

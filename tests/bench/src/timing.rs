@@ -5,6 +5,8 @@ use std::time::{Duration, Instant};
 
 /// So many times each call is timed.
 pub const RUNS: usize = 61;
+/// At least so many times, if time is short.
+const LEAST_RUNS: usize = 3;
 /// A run repeats the call until it has lasted at least so long, so that the
 /// clock's own steps do not count.
 const RUN_LENGTH: Duration = Duration::from_millis(4);
@@ -24,13 +26,23 @@ pub struct Subject<'a> {
 pub struct Times {
     pub median: f64,
     pub fastest: f64,
+    pub runs: usize,
 }
 
 /// Times all subjects in turn, again and again, so that a change in the
 /// machine's load meets all of them alike.
 pub fn time(subjects: &[Subject]) -> Vec<Times> {
+    time_for(subjects, Duration::MAX)
+}
+
+/// The same, but no further runs are begun once so much time has passed.
+pub fn time_for(subjects: &[Subject], budget: Duration) -> Vec<Times> {
+    let begun = Instant::now();
     let mut runs = vec![Vec::new(); subjects.len()];
-    for _ in 0..RUNS {
+    for run in 0..RUNS {
+        if run >= LEAST_RUNS && begun.elapsed() > budget {
+            break;
+        }
         for (subject, times) in subjects.iter().zip(&mut runs) {
             times.push(one_run(subject));
         }
@@ -43,6 +55,7 @@ fn summary(times: &mut [f64]) -> Times {
     Times {
         median: times[times.len() / 2],
         fastest: times[0],
+        runs: times.len(),
     }
 }
 

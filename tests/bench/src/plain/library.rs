@@ -1,0 +1,109 @@
+//! The tree of a document, with labels, string values and their ranks.
+
+/// Stands for no node.
+pub const NONE: u16 = u16::MAX;
+
+pub struct Library<'a> {
+    pub left: Vec<u16>,
+    pub right: Vec<u16>,
+    pub parent: Vec<u16>,
+    pub labels: Vec<&'a [u8]>,
+    pub values: Vec<Vec<u8>>,
+    /// Equal values have equal ranks, a smaller value a smaller rank.
+    pub ranks: Vec<u16>,
+}
+
+/// A node's lines as they stand.
+struct Entry<'a> {
+    depth: usize,
+    kind: u8,
+    label: &'a [u8],
+    value: &'a [u8],
+}
+
+impl Library<'_> {
+    /// The library of a legal document.
+    pub fn read(document: &[u8]) -> Library<'_> {
+        let mut lines = document.split(|byte| *byte == b'\n');
+        let mut field = || {
+            let line = lines.next().expect("a legal document");
+            let key = line.iter().position(|byte| *byte == b'=').expect("a key");
+            &line[key + 1..]
+        };
+        let count = numeral(field());
+        let entries: Vec<Entry> = (0..count)
+            .map(|_| Entry {
+                depth: numeral(field()),
+                kind: field()[0],
+                label: field(),
+                value: field(),
+            })
+            .collect();
+        let values = values(&entries);
+        let mut library = Library {
+            left: vec![NONE; count],
+            right: vec![NONE; count],
+            parent: vec![NONE; count],
+            labels: entries.iter().map(|entry| entry.label).collect(),
+            ranks: ranks(&values),
+            values,
+        };
+        library.link(&entries);
+        library
+    }
+
+    pub fn size(&self) -> usize {
+        self.labels.len()
+    }
+
+    /// A node deeper than the one before it is its left child; any other is
+    /// the right child of the last node before it that has its depth.
+    fn link(&mut self, entries: &[Entry]) {
+        let mut last_of_depth = Vec::new();
+        for (node, entry) in entries.iter().enumerate() {
+            let depth = entry.depth;
+            if depth < last_of_depth.len() {
+                let before: usize = last_of_depth[depth];
+                self.right[before] = node as u16;
+                self.parent[node] = before as u16;
+            } else if node > 0 {
+                self.left[node - 1] = node as u16;
+                self.parent[node] = node as u16 - 1;
+            }
+            last_of_depth.truncate(depth);
+            last_of_depth.push(node);
+        }
+    }
+}
+
+fn numeral(digits: &[u8]) -> usize {
+    digits
+        .iter()
+        .fold(0, |number, digit| 10 * number + usize::from(digit - b'0'))
+}
+
+/// The value of an element is joined from the texts inside it.
+fn values(entries: &[Entry]) -> Vec<Vec<u8>> {
+    let value = |(node, entry): (usize, &Entry)| {
+        if entry.kind != b'e' {
+            return entry.value.to_vec();
+        }
+        let inside = entries[node + 1..]
+            .iter()
+            .take_while(|inner| inner.depth > entry.depth);
+        let texts = inside.filter(|inner| inner.kind == b't');
+        texts.flat_map(|text| text.value).copied().collect()
+    };
+    entries.iter().enumerate().map(value).collect()
+}
+
+fn ranks(values: &[Vec<u8>]) -> Vec<u16> {
+    let mut nodes: Vec<usize> = (0..values.len()).collect();
+    nodes.sort_by_key(|node| &values[*node]);
+    let mut ranks = vec![0; values.len()];
+    for pair in nodes.windows(2) {
+        let rise = u16::from(values[pair[0]] < values[pair[1]]);
+        ranks[pair[1]] = ranks[pair[0]] + rise;
+    }
+    ranks
+}
