@@ -72,7 +72,8 @@ fn assert_same_marks(document: &[u8], rule: &[u8], nodes: usize) -> usize {
     let answer = evaluate_plain(document, rule, &mut scratch, &mut marks);
     assert_eq!(answer.number, 0, "only an accepted call is evaluated");
     let selected = plain::evaluate(document, rule, &mut other);
-    assert_eq!(marks, other, "{}", rule.escape_ascii());
+    let differing = (0..nodes).find(|v| marks[*v] != other[*v]);
+    assert_eq!(differing, None, "{}", rule.escape_ascii());
     assert_eq!(answer.selected, selected);
     selected
 }

@@ -61,7 +61,9 @@ fn one_rule_after_the_other_in_the_same_buffers() {
             assert_eq!(*mark == 1, marked.contains(&node), "{rule} at {node}");
         }
         assert_eq!(marks[5..], [7; 3]);
-        assert_eq!(scratch[needed_words(5)..], [0xABCD; 3]);
+        let (cleared, later) = scratch.split_at(needed_words(5));
+        assert!(cleared.iter().all(|word| *word == 0));
+        assert_eq!(later, [0xABCD; 3]);
     }
 }
 
