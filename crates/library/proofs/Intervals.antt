@@ -152,7 +152,7 @@ module _ (ns : List Node) (d : ℕ) where
 
   -- what is joined from v up to the first node e that is not deeper
   module _ {e : ℕ} (within : e ≤ length ns) (stops : e < length ns → deep ns e ≤ d) where
-    joined-slice : (k v : ℕ) → v + k ≡ e → ((u : ℕ) → v ≤ u → u < e → d < deep ns u) → joined d (drop v ns) ≡ texts (slice v e ns)
+    pub joined-slice : (k v : ℕ) → v + k ≡ e → ((u : ℕ) → v ≤ u → u < e → d < deep ns u) → joined d (drop v ns) ≡ texts (slice v e ns)
     joined-slice zero v i f =
         let j : e ≡ v = omega arith in
         subst (λ x. joined d (drop x ns) ≡ texts (slice x e ns)) j (joined-out e stops ∙ sym (ap texts (slice-empty e ns)))

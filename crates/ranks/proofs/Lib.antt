@@ -1,6 +1,10 @@
 pub mod Less
 pub mod Trees
 pub mod Worked
+pub mod Extents
+pub mod Bounds
+pub mod Marking
+pub mod Values
 pub mod Insertion
 pub mod Halving
 pub mod Shifting

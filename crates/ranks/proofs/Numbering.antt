@@ -8,33 +8,33 @@ use Rattle.library.specs.Library.{Node}
 use Rattle.library.specs.Binary.{before, stringOf}
 use Rattle.library.specs.Verdict.{Accepts}
 use Rattle.links.specs.Table.{RANK, cell, word, Wrote}
-use Rattle.links.specs.Links.{Linked}
-use Rattle.ranks.specs.Ranks.{Tabled, Worked, one, isSmaller}
+use Rattle.ranks.specs.Ranks.{one, isSmaller}
+use Rattle.ranks.specs.Texts.{FIRST-TEXT, Arranged}
 use Rattle.ranks.specs.Sorting.{ORDER, entry, Entries, Sorted, dense, Numbered}
 use Rattle.ranks.proofs.Dense.{dense-zero, dense-next, dense-same}
-use Rattle.ranks.proofs.Worked.{worked-none, worked-then, worked-put, worked-linked}
+use Rattle.ranks.proofs.Worked.{confined-none, confined-then, confined-put}
 
 -- the ranks of the entries below i are written, and u is the last of them with the rank r
 pub record Numbering (s : List ℕ) (n i u r : ℕ) (t₀ t : List ℕ) : Type 0 where
   pub inside : i ≤ n
-  pub worked : Worked n t₀ t
+  pub arranged : Arranged n t₀ t
   pub order : (k : ℕ) → k < n → entry t n k ≡ entry t₀ n k
   pub last : u ≡ entry t₀ n (before i)
   pub small : r ≤ i
-  pub rank : (ns : List Node) → Accepts s ns → Linked s ns t₀ → r ≡ dense ns (λ j. entry t₀ n j) (before i)
-  pub done : (ns : List Node) → Accepts s ns → Linked s ns t₀ → Sorted ns n n t₀
+  pub rank : (ns : List Node) → Accepts s ns → r ≡ dense ns (λ j. entry t₀ n j) (before i)
+  pub done : (ns : List Node) → Accepts s ns → Sorted ns n n t₀
       → (k : ℕ) → k < i → word t n RANK (entry t₀ n k) ≡ dense ns (λ j. entry t₀ n j) k
 
 pub numbering-none : (s : List ℕ) (n u : ℕ) (t : List ℕ) → u ≡ entry t n 0 → Numbering s n 0 u 0 t t
 numbering-none s n u t e =
     record {
       inside = omega arith;
-      worked = worked-none n t;
+      arranged = confined-none RANK FIRST-TEXT n t;
       order = λ k r. refl;
       last = e;
       small = omega arith;
-      rank = λ ns a l. sym (dense-zero ns (λ j. entry t n j));
-      done = λ ns a l g k r. absurd (omega arith);
+      rank = λ ns a. sym (dense-zero ns (λ j. entry t n j));
+      done = λ ns a g k r. absurd (omega arith);
     }
 
 -- the node at hand and the one before it are nodes
@@ -48,19 +48,19 @@ before-le (suc i) = omega arith
 pub numbering-last : {s : List ℕ} {n i u r : ℕ} {t₀ t : List ℕ} → Entries n n t₀ → Numbering s n i u r t₀ t → i < n → u < n
 numbering-last {i} en g l = let b = before-le i in let x = en (before i) (omega arith) in let y = g .last in omega arith
 
-pub numbering-step : {s : List ℕ} {n i u r : ℕ} {t₀ t t′ : List ℕ} → Tabled s n t₀ → Entries n n t₀ → Numbering s n i u r t₀ t → i < n
-    → (v k : ℕ) → v ≡ entry t n i → k ≤ 1 → ((ns : List Node) → Accepts s ns → Linked s ns t → k ≡ one (isSmaller ns v u))
+pub numbering-step : {s : List ℕ} {n i u r : ℕ} {t₀ t t′ : List ℕ} → Entries n n t₀ → Numbering s n i u r t₀ t → i < n
+    → (v k : ℕ) → v ≡ entry t n i → k ≤ 1 → ((ns : List Node) → Accepts s ns → k ≡ one (isSmaller ns v u))
     → Wrote ((cell n RANK v, r + k) ∷ []) t t′ → Numbering s n (suc i) v (r + k) t₀ t′
-numbering-step {s} {n} {i} {u} {r} {t₀} {t} {t′} h en g l v k e b f w =
+numbering-step {s} {n} {i} {u} {r} {t₀} {t} {t′} en g l v k e b f w =
     let q = g .small in let y = below in
     record {
       inside = l;
-      worked = worked-then (g .worked) (worked-put (omega arith) (omega arith) below w);
+      arranged = confined-then (g .arranged) (confined-put (omega arith) (omega arith) below w);
       order = λ j m. w .other (cell n ORDER j) (omega arith, tt) ∙ g .order j m;
       last = here;
       small = omega arith;
       rank = next;
-      done = λ ns a m z j o. go ns a m z j o (ℕ-discrete (entry t₀ n j) v);
+      done = λ ns a z j o. go ns a z j o (ℕ-discrete (entry t₀ n j) v);
     }
   where
     here : v ≡ entry t₀ n i
@@ -69,25 +69,25 @@ numbering-step {s} {n} {i} {u} {r} {t₀} {t} {t′} h en g l v k e b f w =
     below : v < n
     below = numbering-below en g l e
 
-    next : (ns : List Node) → Accepts s ns → Linked s ns t₀ → r + k ≡ dense ns (λ j. entry t₀ n j) i
-    next ns a m =
-        let x = g .rank ns a m in let y = f ns a (worked-linked h (g .worked) ns a m) in
+    next : (ns : List Node) → Accepts s ns → r + k ≡ dense ns (λ j. entry t₀ n j) i
+    next ns a =
+        let x = g .rank ns a in let y = f ns a in
         let z = dense-next ns (λ j. entry t₀ n j) i in
         let c = ap₂ (λ (p o : ℕ). one (isSmaller ns p o)) here (g .last) in
         omega arith
 
-    go : (ns : List Node) → Accepts s ns → Linked s ns t₀ → Sorted ns n n t₀ → (j : ℕ) → j < suc i → Dec (entry t₀ n j ≡ v)
+    go : (ns : List Node) → Accepts s ns → Sorted ns n n t₀ → (j : ℕ) → j < suc i → Dec (entry t₀ n j ≡ v)
         → word t′ n RANK (entry t₀ n j) ≡ dense ns (λ x. entry t₀ n x) j
-    go ns a m z j o (yes y) =
-        ap (λ (x : ℕ). word t′ n RANK x) y ∙ w .here .0 ∙ next ns a m
+    go ns a z j o (yes y) =
+        ap (λ (x : ℕ). word t′ n RANK x) y ∙ w .here .0 ∙ next ns a
         ∙ sym (dense-same ns (λ x. entry t₀ n x) n (z .order) j i (omega arith) l (ap (λ (x : ℕ). stringOf ns x) (y ∙ here)))
-    go ns a m z j o (no y) =
+    go ns a z j o (no y) =
         let d : j < i = low (ℕ-discrete j i) in
-        w .other (cell n RANK (entry t₀ n j)) (omega arith, tt) ∙ g .done ns a m z j d
+        w .other (cell n RANK (entry t₀ n j)) (omega arith, tt) ∙ g .done ns a z j d
       where
         low : Dec (j ≡ i) → j < i
         low (yes x) = absurd (y (ap (λ (p : ℕ). entry t₀ n p) x ∙ sym here))
         low (no x) = omega arith
 
 pub numbering-all : {s : List ℕ} {n i u r : ℕ} {t₀ t : List ℕ} → Numbering s n i u r t₀ t → n ≤ i → Numbered s n t₀ t
-numbering-all g l = record { worked = g .worked; done = λ ns a m z k r. g .done ns a m z k (omega arith) }
+numbering-all g l = record { arranged = g .arranged; done = λ ns a z k r. g .done ns a z k (omega arith) }

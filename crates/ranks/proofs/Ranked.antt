@@ -14,9 +14,10 @@ use Rattle.library.specs.Verdict.{Accepts}
 use Rattle.links.specs.Table.{RANK, word}
 use Rattle.links.specs.Links.{Linked}
 use Rattle.ranks.specs.Ranks.{Tabled, Ranked, Written}
+use Rattle.ranks.specs.Texts.{Noted}
 use Rattle.ranks.specs.Sorting.{entry, Sorted, dense, Sorting, Numbered}
 use Rattle.ranks.proofs.Trees.{tree-size}
-use Rattle.ranks.proofs.Worked.{worked-then, worked-linked, worked-kept}
+use Rattle.ranks.proofs.Worked.{confined-then, noted-worked, arranged-worked, worked-linked, worked-kept}
 use Rattle.ranks.proofs.Dense.{dense-small, dense-lt, dense-same}
 
 -- ── From one direction to both: values and numbers are each in one of three orders ──
@@ -89,13 +90,14 @@ module _ (ns : List Node) (n : ℕ) (t t′ : List ℕ) (size : length ns ≡ n)
             (both-same (up v w (omega arith) (omega arith)) (same v w (omega arith) (omega arith)) (up w v (omega arith) (omega arith)));
       }
 
--- sorted, and then numbered
-pub written : {s : List ℕ} {n : ℕ} {t t₁ t₂ : List ℕ} → Tabled s n t → Sorting s n n t t₁ → Numbered s n t₁ t₂
-    → (ns : List Node) → Accepts s ns → Linked s ns t → Written s ns t t₂
-written {n} {t₁} {t₂} h p q ns a k =
-    let all = worked-then (p .worked) (q .worked) in let g = p .sorted ns a k in
+-- marked, then sorted, and then numbered
+pub written : {s : List ℕ} {n : ℕ} {t t₁ t₂ t₃ : List ℕ} → Tabled s n t → Noted n t t₁ → Sorting s n n t₁ t₂ → Numbered s n t₂ t₃
+    → (ns : List Node) → Accepts s ns → Linked s ns t → Written s ns t t₃
+written {n} {t₂} {t₃} h o p q ns a k =
+    let all = confined-then (noted-worked o) (arranged-worked (confined-then (p .arranged) (q .arranged))) in
+    let g = p .sorted ns a in
     record {
-      ranked = ranked ns n t₁ t₂ (tree-size h ns a) g (q .done ns a (worked-linked h (p .worked) ns a k) g);
+      ranked = ranked ns n t₂ t₃ (tree-size h ns a) g (q .done ns a g);
       linked = worked-linked h all ns a k;
       kept = worked-kept h all ns a;
     }

@@ -1,5 +1,5 @@
--- Laws of work in the columns behind the tree's own.
-use Prim.Native.Nat.{ℕ, _*_, _≤_, _<_}
+-- Laws of work in some columns of the table.
+use Prim.Native.Nat.{ℕ, suc, _*_, _≤_, _<_}
 use mathlib.Core.Path.{refl, _∙_, subst}
 use mathlib.Core.List.{List, [], _∷_}
 use lib.ListN.{length}
@@ -10,29 +10,42 @@ use Rattle.library.specs.Verdict.{Accepts}
 use Rattle.links.specs.Table.{COLUMNS, RANK, cell, Wrote, Kept}
 use Rattle.links.specs.Links.{Linked}
 use Rattle.links.proofs.Linked.{linked-same}
-use Rattle.ranks.specs.Ranks.{Tabled, Worked}
+use Rattle.ranks.specs.Ranks.{Tabled, Confined, Worked}
+use Rattle.ranks.specs.Texts.{Noted, Arranged}
 use Rattle.ranks.proofs.Trees.{tree-size}
 
-pub worked-none : (n : ℕ) (t : List ℕ) → Worked n t t
-worked-none n t = record { long = refl; front = λ k h. refl; behind = λ k h. refl }
+pub confined-none : (a b n : ℕ) (t : List ℕ) → Confined a b n t t
+confined-none a b n t = record { long = refl; front = λ k h. refl; behind = λ k h. refl }
 
-pub worked-then : {n : ℕ} {t t₁ t₂ : List ℕ} → Worked n t t₁ → Worked n t₁ t₂ → Worked n t t₂
-worked-then p q =
+pub confined-then : {a b n : ℕ} {t t₁ t₂ : List ℕ} → Confined a b n t t₁ → Confined a b n t₁ t₂ → Confined a b n t t₂
+confined-then p q =
     record {
       long = q .long ∙ p .long;
       front = λ k h. q .front k h ∙ p .front k h;
       behind = λ k h. q .behind k h ∙ p .behind k h;
     }
 
--- a word of a column from RANK on
-pub worked-put : {n c v x : ℕ} {t t′ : List ℕ} → RANK ≤ c → c < COLUMNS → v < n → Wrote ((cell n c v, x) ∷ []) t t′ → Worked n t t′
-worked-put {n} {c} {v} {x} f g r w =
-    let a : RANK * n ≤ c * n = mul-le-mul-right n f in let b : c * n ≤ 15 * n = mul-le-mul-right n (omega arith) in
+-- a word of one of the columns
+pub confined-put : {a b n c v x : ℕ} {t t′ : List ℕ} → a ≤ c → c < b → v < n → Wrote ((cell n c v, x) ∷ []) t t′ → Confined a b n t t′
+confined-put {a} {b} {n} {c} {v} {x} f g r w =
+    let i : a * n ≤ c * n = mul-le-mul-right n f in let j : suc c * n ≤ b * n = mul-le-mul-right n g in
     record {
       long = w .long;
       front = λ k h. w .other k (omega arith, tt);
       behind = λ k h. w .other k (omega arith, tt);
     }
+
+pub confined-wider : {a b c d n : ℕ} {t t′ : List ℕ} → a ≤ c → d ≤ b → Confined c d n t t′ → Confined a b n t t′
+confined-wider {a} {b} {c} {d} {n} f g q =
+    let i : a * n ≤ c * n = mul-le-mul-right n f in let j : d * n ≤ b * n = mul-le-mul-right n g in
+    record { long = q .long; front = λ k h. q .front k (omega arith); behind = λ k h. q .behind k (omega arith) }
+
+-- ── Behind the tree's own columns ──
+pub noted-worked : {n : ℕ} {t t′ : List ℕ} → Noted n t t′ → Worked n t t′
+noted-worked q = confined-wider (omega arith) (omega arith) q
+
+pub arranged-worked : {n : ℕ} {t t′ : List ℕ} → Arranged n t t′ → Worked n t t′
+arranged-worked q = confined-wider (omega arith) (omega arith) q
 
 module _ {s : List ℕ} {n : ℕ} {t t′ : List ℕ} (h : Tabled s n t) (q : Worked n t t′) where
   pub worked-linked : (ns : List Node) → Accepts s ns → Linked s ns t → Linked s ns t′

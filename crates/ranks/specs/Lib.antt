@@ -1,2 +1,4 @@
 pub mod Ranks
+pub mod Texts
 pub mod Sorting
+pub mod Values

@@ -21,11 +21,15 @@ pub record Tabled (s : List ℕ) (n : ℕ) (t : List ℕ) : Type 0 where
   pub size : length nodes ≡ n
   pub room : Room n t
 
--- work in the columns behind the tree's own: the tree stays, and all behind the table too
-pub record Worked (n : ℕ) (t t′ : List ℕ) : Type 0 where
+-- only words of the columns from a up to b have changed
+pub record Confined (a b n : ℕ) (t t′ : List ℕ) : Type 0 where
   pub long : length t′ ≡ length t
-  pub front : (k : ℕ) → k < RANK * n → getD t′ k 0 ≡ getD t k 0
-  pub behind : (k : ℕ) → COLUMNS * n ≤ k → getD t′ k 0 ≡ getD t k 0
+  pub front : (k : ℕ) → k < a * n → getD t′ k 0 ≡ getD t k 0
+  pub behind : (k : ℕ) → b * n ≤ k → getD t′ k 0 ≡ getD t k 0
+
+-- work in the columns behind the tree's own: the tree stays, and all behind the table too
+abbrev pub Worked : ℕ → List ℕ → List ℕ → Type 0
+Worked n t t′ = Confined RANK COLUMNS n t t′
 
 -- ── Ranks ──
 pub record Ranked (ns : List Node) (t : List ℕ) : Type 0 where

@@ -1,10 +1,13 @@
 // Ranks of the nodes of an accepted document: numbers that are in the order of the string values.
+mod comparison;
 pub mod nodes;
 mod number;
 mod sort;
+mod texts;
 
 use number::number;
 use sort::sort;
+use texts::mark_all;
 ghost use mathlib.Core.List.{List};
 ghost use Rattle.library.specs.Library as Library;
 ghost use Rattle.library.specs.Verdict.{Accepts};
@@ -16,6 +19,7 @@ pub fn rank(s: &[u8], t: &mut [u16], n: usize)
     requires { ⌜ Tabled (now s) n (now t) ⌝ }
     ensures { λ _. ⌜ ((ns : List Library.Node) → Accepts (now (s .entry)) ns → Linked (now (s .entry)) ns (now (t .entry)) → Written (now (s .entry)) ns (now (t .entry)) (now (t .exit))) ⌝ }
 {
+    mark_all(s, t, n);
     sort(s, t, n);
     number(s, t, n);
 }

@@ -1,15 +1,15 @@
 // Ranks along the sorted nodes: one more at each node whose value is greater than that of the node before it.
-use crate::nodes::one_if_smaller;
+use crate::comparison::one_if_smaller;
 use crate::sort::ORDER;
 use links::table::Table;
 use links::table::get;
 use links::table::put;
-ghost use Rattle.ranks.specs.Ranks.{Tabled};
 ghost use Rattle.ranks.specs.Sorting.{Entries, Numbered};
+ghost use Rattle.ranks.specs.Texts.{Marked};
 
 // The first node is compared with itself, and gets 0.
 pub fn number(s: &[u8], t: &mut [u16], n: usize)
-    requires { ⌜ Tabled (now s) n (now t) × Entries n n (now t) ⌝ }
+    requires { ⌜ Marked (now s) n 0 (now t) × Entries n n (now t) ⌝ }
     ensures { λ _. ⌜ Numbered (now (s .entry)) n (now (t .entry)) (now (t .exit)) ⌝ }
 {
     let mut u = get(t, n, ORDER, 0);

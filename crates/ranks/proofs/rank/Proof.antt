@@ -1,21 +1,27 @@
 -- `ranks::rank` meets its contract.
-use Rattle.ranks.proofs.Worked.{worked-tree}
+use Rattle.ranks.proofs.Marking.{arranged-marked}
 use Rattle.ranks.proofs.Ranked.{written}
 use borrow.Author.Needs.{needs}
 use Rattle.ranks.proofs.rank.Statement.{statement}
 use Rattle.ranks.proofs.rank.Tie as tie
 
+mark-all-requires : tie.Need-mark-all-requires
+mark-all-requires c κs = search needs
+
 sort-requires : tie.Need-sort-requires
 sort-requires c κs = search needs
 
 number-requires : tie.Need-number-requires
-number-requires c κs = let g = c .before .before .before .sort .ensures in (worked-tree (c .before .before .before .before .before .before .before .pre) (g .worked), g .entries)
+number-requires c κs = let g = c .before .before .before .sort .ensures in (arranged-marked (c .before .before .before .before .before .before .before .mark-all .ensures .0) (g .arranged), g .entries)
 
 same-length : tie.Need-same-length
 same-length c = search needs
 
 returns : tie.Need-returns
-returns c = written (c .before .before .before .before .before .before .before .before .before .before .pre) (c .before .before .before .before .before .before .sort .ensures) (c .before .before .number .ensures)
+returns c =
+    let y = c .before .before .before .before .before .before in
+    written (y .before .before .before .before .before .before .before .before .pre) (y .before .before .before .before .mark-all .ensures .1) (y .sort .ensures) (c .before .before .number .ensures)
 
 pub rank-spec : {M : Type 1} → statement M
-rank-spec = tie.close (tie.spec sort-requires number-requires same-length returns)
+rank-spec =
+    tie.close (tie.spec mark-all-requires sort-requires number-requires same-length returns)

@@ -2,7 +2,7 @@
 use Prim.Native.Nat.{_-_}
 use native.Mathlib.Omega.{arith}
 use native.Mathlib.Numerals.{add-one}
-use Rattle.ranks.proofs.Worked.{worked-tree}
+use Rattle.ranks.proofs.Marking.{arranged-marked}
 use Rattle.ranks.proofs.Numbering.{Numbering, numbering-none, numbering-below, numbering-last, numbering-step, numbering-all}
 use Rattle.ranks.proofs.number.number.Statement.{statement}
 use Rattle.ranks.proofs.number.number.Tie as tie
@@ -14,18 +14,18 @@ abbrev μ-loop : tie.MeasureT-loop
 μ-loop s t₀ n u₀ r₀ i₀ t u r i = n - i
 
 get-requires : tie.Need-get-requires Inv-loop μ-loop
-get-requires c κs = let h = c .before .before .before .pre .0 in let z = h .accepts .legal .some in let e = h .size in (omega arith, omega arith, h .room)
+get-requires c κs = let h = c .before .before .before .pre .0 .tabled in let z = h .accepts .legal .some in let e = h .size in (omega arith, omega arith, h .room)
 
 loop-holds : tie.Need-loop-holds Inv-loop μ-loop
 loop-holds c = let x = c .before .before .before .before .args in numbering-none (x .s .now) (x .n) (c .get .result) (x .t .now) (c .get .ensures .0)
 
 get-requires-2 : tie.Need-get-requires-2 Inv-loop μ-loop
-get-requires-2 c κs = (omega arith, c .before .loop-test .taken, worked-tree (c .before .before .before .before .before .before .before .pre .0) (c .before .before .loop .inv .worked) .room)
+get-requires-2 c κs = (omega arith, c .before .loop-test .taken, arranged-marked (c .before .before .before .before .before .before .before .pre .0) (c .before .before .loop .inv .arranged) .tabled .room)
 
 one-if-smaller-requires : tie.Need-one-if-smaller-requires Inv-loop μ-loop
 one-if-smaller-requires c κs =
     let p = c .before .before .before .before .before .before .before .before .before .pre in let g = c .before .before .before .before .loop .inv in let l = c .before .before .before .loop-test .taken in
-    (worked-tree (p .0) (g .worked), numbering-below (p .1) g l (c .before .get2 .ensures .0), numbering-last (p .1) g l)
+    (arranged-marked (p .0) (g .arranged), numbering-below (p .1) g l (c .before .get2 .ensures .0), numbering-last (p .1) g l)
 
 add-r : tie.Need-add-r Inv-loop μ-loop
 add-r c = let q = c .before .before .before .before .before .loop .inv .small in let z = c .one-if-smaller .ensures .0 in let l = c .before .before .before .before .loop-test .taken in omega arith
@@ -33,8 +33,8 @@ add-r c = let q = c .before .before .before .before .before .loop .inv .small in
 put-requires : tie.Need-put-requires Inv-loop μ-loop
 put-requires c κs =
     let p = c .before .before .before .before .before .before .before .before .before .before .before .pre in let g = c .before .before .before .before .before .before .loop .inv in let l = c .before .before .before .before .before .loop-test .taken in let q = g .small in
-    let z = c .before .one-if-smaller .ensures .0 in let few = p .0 .accepts .legal .few in let size = p .0 .size in
-    (omega arith, numbering-below (p .1) g l (c .before .before .before .get2 .ensures .0), worked-tree (p .0) (g .worked) .room, omega arith)
+    let z = c .before .one-if-smaller .ensures .0 in let few = p .0 .tabled .accepts .legal .few in let size = p .0 .tabled .size in
+    (omega arith, numbering-below (p .1) g l (c .before .before .before .get2 .ensures .0), arranged-marked (p .0) (g .arranged) .tabled .room, omega arith)
 
 add-i : tie.Need-add-i Inv-loop μ-loop
 add-i c = let l = c .before .before .before .before .before .before .before .before .loop-test .taken in omega arith
@@ -45,10 +45,10 @@ loop-less c = let l = c .before .before .before .before .before .before .before 
 loop-again : tie.Need-loop-again Inv-loop μ-loop
 loop-again c =
     let p = c .before .before .before .before .before .before .before .before .before .before .before .before .before .before .pre in let k = c .before .before .before .before .one-if-smaller in let v = c .before .before .before .before .before .before .get2 in
-    rw add-one (numbering-step (p .0) (p .1) (c .before .before .before .before .before .before .before .before .before .loop .inv) (c .before .before .before .before .before .before .before .before .loop-test .taken) (v .result) (k .result) (v .ensures .0) (k .ensures .0) (k .ensures .1) (c .before .before .put .ensures))
+    rw add-one (numbering-step (p .1) (c .before .before .before .before .before .before .before .before .before .loop .inv) (c .before .before .before .before .before .before .before .before .loop-test .taken) (v .result) (k .result) (v .ensures .0) (k .ensures .0) (k .ensures .1) (c .before .before .put .ensures))
 
 same-length : tie.Need-same-length Inv-loop μ-loop
-same-length c = c .before .loop .inv .worked .long
+same-length c = c .before .loop .inv .arranged .long
 
 returns : tie.Need-returns Inv-loop μ-loop
 returns c = numbering-all (c .before .loop .inv) (c .loop-test .left)

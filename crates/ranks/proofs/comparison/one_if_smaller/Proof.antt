@@ -1,4 +1,4 @@
--- `ranks::nodes::one_if_smaller` meets its contract.
+-- `ranks::comparison::one_if_smaller` meets its contract.
 use mathlib.Core.Path.{subst}
 use native.Mathlib.Omega.{arith}
 use Rattle.xpath.proofs.Order.{less-distinct, less-asymmetric}
@@ -6,8 +6,8 @@ use Rattle.library.specs.Binary.{stringOf}
 use Rattle.values.specs.Ordered.{Ordered}
 use Rattle.ranks.proofs.Less.{one-less, one-not}
 use borrow.Author.Needs.{needs}
-use Rattle.ranks.proofs.nodes.one_if_smaller.Statement.{statement}
-use Rattle.ranks.proofs.nodes.one_if_smaller.Tie as tie
+use Rattle.ranks.proofs.comparison.one_if_smaller.Statement.{statement}
+use Rattle.ranks.proofs.comparison.one_if_smaller.Tie as tie
 
 compare-nodes-requires : tie.Need-compare-nodes-requires
 compare-nodes-requires c κs = search needs
@@ -24,27 +24,27 @@ enum-told-3 c = search needs
 returns : tie.Need-returns
 returns c = let x = c .before .before .before .before .before .args in (
   omega arith,
-  λ ns a k.
+  λ ns a.
       let bs = stringOf ns (x .w) in let cs = stringOf ns (x .v) in
-      let h = subst (λ o. Ordered bs cs o) (c .enum-told .given .1) (c .before .before .compare-nodes .ensures ns a k) in
+      let h = subst (λ o. Ordered bs cs o) (c .enum-told .given .1) (c .before .before .compare-nodes .ensures ns a) in
       one-less bs cs h,
 )
 
 returns-2 : tie.Need-returns-2
 returns-2 c = let x = c .before .before .before .before .before .args in (
   omega arith,
-  λ ns a k.
+  λ ns a.
       let bs = stringOf ns (x .w) in let cs = stringOf ns (x .v) in
-      let h = subst (λ o. Ordered bs cs o) (c .enum-told2 .given .1) (c .before .before .compare-nodes .ensures ns a k) in
+      let h = subst (λ o. Ordered bs cs o) (c .enum-told2 .given .1) (c .before .before .compare-nodes .ensures ns a) in
       one-not bs cs (λ l. less-distinct bs cs l h),
 )
 
 returns-3 : tie.Need-returns-3
 returns-3 c = let x = c .before .before .before .before .before .args in (
   omega arith,
-  λ ns a k.
+  λ ns a.
       let bs = stringOf ns (x .w) in let cs = stringOf ns (x .v) in
-      let h = subst (λ o. Ordered bs cs o) (c .enum-told3 .given .1) (c .before .before .compare-nodes .ensures ns a k) in
+      let h = subst (λ o. Ordered bs cs o) (c .enum-told3 .given .1) (c .before .before .compare-nodes .ensures ns a) in
       one-not bs cs (λ l. less-asymmetric bs cs l h),
 )
 

@@ -1,0 +1,117 @@
+-- The columns of the first and the last texts: what is told of a node is told from its own text and from its children, and sorting leaves it so.
+use Prim.Native.Nat.{ℕ, suc, _-_, _≤_, _<_}
+use mathlib.Core.Path.{_≡_, sym, ap, _∙_, subst, subst₂}
+use mathlib.Core.Logic.{_⊎_, inl, inr}
+use mathlib.Core.Bool.{Bool, true, false}
+use mathlib.Core.List.{List, [], _∷_}
+use lib.ListN.{length}
+use native.Mathlib.Omega.{arith}
+use native.Mathlib.Decide.{ℕ-discrete}
+use Rattle.xpath.specs.Tree.{Child}
+use Rattle.library.specs.Library.{Node}
+use Rattle.library.specs.Binary.{treeOf}
+use Rattle.library.specs.Verdict.{Accepts}
+use Rattle.library.proofs.Intervals.{End, end-of}
+use Rattle.links.specs.Table.{LEFT, RIGHT, NONE, column, cell, word, Wrote}
+use Rattle.links.specs.Links.{Points}
+use Rattle.ranks.specs.Ranks.{Tabled}
+use Rattle.ranks.specs.Texts.{FIRST-TEXT, LAST-TEXT, Bounds, Extent, Told, Marked, Noted, Arranged}
+use Rattle.ranks.specs.Values.{IsElement, Inside}
+use Rattle.ranks.proofs.Trees.{tree-size, tree-linked, tree-small}
+use Rattle.ranks.proofs.Worked.{confined-none, confined-then, confined-put, noted-worked, arranged-worked, worked-tree}
+use Rattle.ranks.proofs.Extents.{left-extent, right-extent}
+use Rattle.ranks.proofs.Bounds.{bounds-small}
+
+pub arranged-marked : {s : List ℕ} {n i : ℕ} {t t′ : List ℕ} → Marked s n i t → Arranged n t t′ → Marked s n i t′
+arranged-marked {n} h q =
+    record {
+      tabled = worked-tree (h .tabled) (arranged-worked q);
+      told = λ ns a v i l e d. subst₂ (λ x y. Bounds ns v e x y) (sym (q .behind (cell n FIRST-TEXT v) (omega arith))) (sym (q .behind (cell n LAST-TEXT v) (omega arith))) (h .told ns a v i l e d);
+    }
+
+-- ── What is told of a child, which may be no node ──
+module _ (ns : List Node) {v a b : ℕ} (small : length ns ≤ NONE) where
+  pub under-none : {f l : ℕ} → v ≡ NONE → f ≡ NONE → l ≡ NONE → Extent ns v a b → Bounds ns a b f l
+  under-none z d e (inl (p, h)) = let k = h .behind in let m = h .within in absurd (omega arith)
+  under-none z d e (inr (p, q)) = inr (d, e, λ u j k. absurd (omega arith))
+
+pub under-some : {ns : List Node} {n i v a b : ℕ} (t : List ℕ) → ¬ (v ≡ NONE) → v < n → Told ns n i t → i ≤ a → Extent ns v a b
+    → Bounds ns a b (word t n FIRST-TEXT v) (word t n LAST-TEXT v)
+under-some {ns} {n} {i} {v} {a} {b} t z l h r (inl (p, k)) = subst (λ x. Bounds ns x b (word t n FIRST-TEXT v) (word t n LAST-TEXT v)) p (h v (omega arith) l b k)
+under-some t z l h r (inr (p, q)) = absurd (z p)
+
+module _ {s : List ℕ} {n v : ℕ} {t : List ℕ} (h : Tabled s n t) (l : v < n) (ns : List Node) (a : Accepts s ns) where
+  -- a child's word points to it
+  child-is : (side : Bool) {x : ℕ} → x ≡ word t n (column side) v → Points (Child (treeOf ns) side v) x
+  child-is side e =
+      let m = tree-size h ns a in
+      subst (λ x. Points (Child (treeOf ns) side v) x) (ap (λ (k : ℕ). word t k (column side) v) m ∙ sym e) (tree-linked h ns a .children side v (subst (λ (k : ℕ). v < k) (sym m) l))
+
+  -- its word is a node or no node
+  pub child-word : (side : Bool) {x : ℕ} → x ≡ word t n (column side) v → (x < n) ⊎ (x ≡ NONE)
+  child-word side {x} e = go (child-is side e)
+    where
+      go : Points (Child (treeOf ns) side v) x → (x < n) ⊎ (x ≡ NONE)
+      go (inl c) = inl (subst (λ (k : ℕ). x < k) (tree-size h ns a) (c .inside))
+      go (inr k) = inr (k .0)
+
+  -- what is under a node: itself, what is under its left child, and what is under its right child
+  pub under-node : {x y e : ℕ} → x ≡ word t n LEFT v → y ≡ word t n RIGHT v → End ns v e
+      → (m : ℕ) × (suc v ≤ m) × (m ≤ e) × (e ≤ NONE) × Extent ns x (suc v) m × Extent ns y m e
+  under-node p q k =
+      let i = subst (λ (b : ℕ). v < b) (sym (tree-size h ns a)) l in
+      let (m, c, x) = left-extent (a .legal) i (child-is true p) in let (j, y) = right-extent (a .legal) i (child-is false q) c k in
+      let f = tree-small h ns a in let o = k .within in
+      (m, c .behind, j, omega arith, x, y)
+
+  -- what is inside an element: what is under its left child
+  pub inside : {x d f g : ℕ} → x ≡ word t n LEFT v → IsElement ns v d → ((b c : ℕ) → Extent ns x b c → Bounds ns b c f g) → Inside ns v d f g
+  inside p k j =
+      let (m, c, x) = left-extent (a .legal) (k .node) (child-is true p) in
+      record { is = k; end = m; content = c; bounds = j (suc v) m x }
+
+-- ── The loop ──
+-- the columns are filled from node v on, and nothing else has changed
+pub record Filling (s : List ℕ) (n v : ℕ) (t₀ t : List ℕ) : Type 0 where
+  pub within : v ≤ n
+  pub marked : Marked s n v t
+  pub noted : Noted n t₀ t
+
+pub filling-none : {s : List ℕ} {n : ℕ} {t : List ℕ} → Tabled s n t → Filling s n n t t
+filling-none {n} {t} h =
+    record {
+      within = omega arith;
+      marked = record { tabled = h; told = λ ns a v i l e d. absurd (omega arith) };
+      noted = confined-none FIRST-TEXT (suc LAST-TEXT) n t;
+    }
+
+-- one node more, from the last to the first
+pub filling-step : {s : List ℕ} {n v : ℕ} {t₀ t t′ : List ℕ} → Filling s n v t₀ t → Marked s n (v - 1) t′ → Noted n t t′ → Filling s n (v - 1) t₀ t′
+filling-step g h q = let w = g .within in record { within = omega arith; marked = h; noted = confined-then (g .noted) q }
+
+-- what is written for a node
+pub marked-step : {s : List ℕ} {n v f l : ℕ} {t t₁ t₂ : List ℕ} → Marked s n (suc v) t → v < n
+    → ((ns : List Node) (e : ℕ) → Accepts s ns → End ns v e → Bounds ns v e f l)
+    → Wrote ((cell n FIRST-TEXT v, f) ∷ []) t t₁ → Wrote ((cell n LAST-TEXT v, l) ∷ []) t₁ t₂ → Marked s n v t₂ × Noted n t t₂
+marked-step {s} {n} {v} {f} {l} {t} {t₁} {t₂} h r g p q = (record { tabled = worked-tree (h .tabled) (noted-worked noted); told = λ ns a u i j e d. go ns a u i j e d (ℕ-discrete u v) }, noted)
+  where
+    noted : Noted n t t₂
+    noted = confined-then (confined-put (omega arith) (omega arith) r p) (confined-put (omega arith) (omega arith) r q)
+
+    go : (ns : List Node) → Accepts s ns → (u : ℕ) → v ≤ u → u < n → (e : ℕ) → End ns u e → Dec (u ≡ v) → Bounds ns u e (word t₂ n FIRST-TEXT u) (word t₂ n LAST-TEXT u)
+    go ns a u i j e d (yes z) =
+        subst (λ x. Bounds ns x e (word t₂ n FIRST-TEXT x) (word t₂ n LAST-TEXT x)) (sym z)
+        (subst₂ (λ x y. Bounds ns v e x y) (sym (q .other (cell n FIRST-TEXT v) (omega arith, tt) ∙ p .here .0)) (sym (q .here .0)) (g ns e a (subst (λ x. End ns x e) z d)))
+    go ns a u i j e d (no z) =
+        subst₂ (λ x y. Bounds ns u e x y)
+        (sym (q .other (cell n FIRST-TEXT u) (omega arith, tt) ∙ p .other (cell n FIRST-TEXT u) (omega arith, tt)))
+        (sym (q .other (cell n LAST-TEXT u) (omega arith, tt) ∙ p .other (cell n LAST-TEXT u) (omega arith, tt)))
+        (h .told ns a u (omega arith) j e d)
+
+-- it fits in a word
+pub told-small : {s : List ℕ} {n v f l : ℕ} {t : List ℕ} → Tabled s n t → v < n
+    → ((ns : List Node) (e : ℕ) → Accepts s ns → End ns v e → Bounds ns v e f l) → (f ≤ NONE) × (l ≤ NONE)
+told-small {v} h r g =
+    let ns = h .nodes in let size = h .size in let few = h .accepts .legal .few in
+    let (e, d) = end-of ns v (omega arith) in let w = d .within in
+    bounds-small ns {b = e} (omega arith) (g ns e (h .accepts) d)

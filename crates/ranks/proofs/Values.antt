@@ -1,0 +1,155 @@
+-- What the first and the last text inside an element tell of its value, and how values that begin at the same node compare.
+use Prim.Native.Nat.{ℕ, suc, _-_, _≤_, _<_}
+use mathlib.Core.Path.{_≡_, refl, sym, ap, ap₂, _∙_, subst, subst₂}
+use mathlib.Core.Logic.{inl, inr}
+use mathlib.Core.List.{List, [], _∷_, _++_, append-assoc, append-nil}
+use lib.ListN.{length, drop}
+use lib.Seq.{slice, slice-empty}
+use native.Mathlib.Omega.{arith}
+use Rattle.xpath.specs.Meaning.{Less}
+use Rattle.library.specs.Library.{Node, Kind, element, attribute, text, at}
+use Rattle.library.specs.Binary.{textOf, joined, stringOf}
+use Rattle.library.specs.Verdict.{Accepts}
+use Rattle.library.proofs.Binary.{deep}
+use Rattle.library.proofs.Intervals.{texts, joined-slice, element-value}
+use Rattle.document.specs.Entries.{Start}
+use Rattle.links.specs.Table.{NONE, offsetOf}
+use Rattle.values.specs.Comes.{Comes}
+use Rattle.values.proofs.Cursor.{element-text, attribute-text, text-text, text-value, alone-comes}
+use Rattle.ranks.specs.Ranks.{Tabled}
+use Rattle.ranks.specs.Texts.{Spoken, Bounds}
+use Rattle.ranks.specs.Values.{Inside, Lasts}
+use Rattle.ranks.proofs.Trees.{tree-size, tree-linked, tree-stands}
+use Rattle.ranks.proofs.Bounds.{texts-cut, texts-silent, texts-from, texts-between, texts-some}
+
+-- ── Values that begin at the same node ──
+less-more : (xs ys : List ℕ) → 0 < length ys → Less xs (xs ++ ys)
+less-more [] [] h = absurd (omega arith)
+less-more [] (y ∷ ys) h = tt
+less-more (x ∷ xs) ys h = inr (refl, less-more xs ys h)
+
+module _ (ns : List Node) (v w : ℕ) {f l f′ l′ : ℕ} (small : length ns ≤ NONE) (h : Lasts ns v f l) (k : Lasts ns w f′ l′) (same : f ≡ f′) where
+  pub lasts-same : l ≡ l′ → stringOf ns v ≡ stringOf ns w
+  lasts-same e = go h k
+    where
+      go : Lasts ns v f l → Lasts ns w f′ l′ → stringOf ns v ≡ stringOf ns w
+      go (inl x) (inl y) = x .whole ∙ ap₂ (λ (a b : ℕ). at ns a .value ++ texts (slice (suc a) (suc b) ns)) same e ∙ sym (y .whole)
+      go (inl x) (inr (a, b, y)) = let o = x .order in let r = x .within in absurd (omega arith)
+      go (inr (a, b, x)) (inl y) = let o = y .order in let r = y .within in absurd (omega arith)
+      go (inr (a, b, x)) (inr (c, d, y)) = x ∙ sym y
+
+  pub lasts-less : l < l′ → Less (stringOf ns v) (stringOf ns w)
+  lasts-less e = go h k
+    where
+      go : Lasts ns v f l → Lasts ns w f′ l′ → Less (stringOf ns v) (stringOf ns w)
+      go (inl x) (inl y) =
+          let a = at ns f .value in let b = texts (slice (suc f) (suc l) ns) in let c = texts (slice (suc l) (suc l′) ns) in
+          let o = x .order in let r = y .within in
+          let z : stringOf ns w ≡ (a ++ b) ++ c =
+          y .whole
+          ∙ ap (λ (i : ℕ). at ns i .value ++ texts (slice (suc i) (suc l′) ns)) (sym same)
+          ∙ ap (λ i. a ++ i) (texts-cut ns (suc f) (suc l) (suc l′) (omega arith) (omega arith) r)
+          ∙ sym (append-assoc a b c) in
+          subst₂ (λ (p q : List ℕ). Less p q) (sym (x .whole)) (sym z) (less-more (a ++ b) c (texts-some ns e r (y .ends (omega arith))))
+      go (inl x) (inr (a, b, y)) = let o = x .order in let r = x .within in absurd (omega arith)
+      go (inr (a, b, x)) (inl y) = let o = y .order in let r = y .within in absurd (omega arith)
+      go (inr (a, b, x)) (inr (c, d, y)) = absurd (omega arith)
+
+-- ── The text inside an element ──
+-- only text has text
+is-text : (x : Node) → 0 < length (textOf x) → x .kind ≡ text
+is-text x h = go (x .kind) refl
+  where
+    go : (k : Kind) → x .kind ≡ k → x .kind ≡ text
+    go element e = let f = ap length (element-text x e) in absurd (omega arith)
+    go attribute e = let f = ap length (attribute-text x e) in absurd (omega arith)
+    go text e = e
+
+module _ {ns : List Node} {v d f l : ℕ} (h : Inside ns v d f l) where
+  -- the value, read from a node on before which no text stands
+  inside-from : (u : ℕ) → v < u → u ≤ h .end → joined d (drop u ns) ≡ texts (slice u (h .end) ns)
+  inside-from u i j =
+      let c = h .content in
+      ap (λ (x : ℕ). joined x (drop u ns)) (h .is .level)
+      ∙ joined-slice ns (deep ns v) (c .within) (c .stops) (h .end - u) u (omega arith) (λ w p q. c .deeper w (omega arith) q)
+
+  inside-value : stringOf ns v ≡ texts (slice (suc v) (h .end) ns)
+  inside-value =
+      element-value ns v (h .is .kind) ∙ ap (λ (x : ℕ). joined x (drop (suc v) ns)) (sym (h .is .level)) ∙ inside-from (suc v) (omega arith) (h .content .behind)
+
+  pub inside-lasts : Lasts ns v f l
+  inside-lasts = go (h .bounds)
+    where
+      go : Bounds ns (suc v) (h .end) f l → Lasts ns v f l
+      go (inl x) =
+          let r = x .within in let q = h .content .within in
+          inl (
+          record {
+            order = x .order;
+            within = omega arith;
+            ends = λ z. x .ends;
+            whole =
+                inside-value
+                ∙ texts-between ns q x
+                ∙ ap (λ a. a ++ texts (slice (suc f) (suc l) ns)) (text-text (at ns f) (is-text (at ns f) (x .begins)));
+          }
+          )
+      go (inr (a, b, x)) = inr (a, b, inside-value ∙ texts-silent ns (h .content .behind) (h .content .within) x)
+
+  -- ── A cursor over it ──
+  module _ {s : List ℕ} {n : ℕ} {t : List ℕ} (g : Tabled s n t) (a : Accepts s ns) where
+    -- no text
+    pub open-none : f ≡ NONE → Comes s ns (record { from = 0; to = 0; next = 0; left = 0; depth = 0 }) (stringOf ns v)
+    open-none e = go inside-lasts
+      where
+        go : Lasts ns v f l → Comes s ns (record { from = 0; to = 0; next = 0; left = 0; depth = 0 }) (stringOf ns v)
+        go (inl x) = let o = x .order in let r = x .within in let m = a .legal .few in absurd (omega arith)
+        go (inr (b, c, x)) = alone-comes (record { from = 0; to = 0 }) a (record { within = omega arith; bytes = sym x })
+
+    spoken : ¬ (f ≡ NONE) → Spoken ns (suc v) (h .end) f l
+    spoken z = go (h .bounds)
+      where
+        go : Bounds ns (suc v) (h .end) f l → Spoken ns (suc v) (h .end) f l
+        go (inl x) = x
+        go (inr (b, c, x)) = absurd (z b)
+
+    pub first-node : ¬ (f ≡ NONE) → f < n
+    first-node z =
+        let x = spoken z in let o = x .order in let r = x .within in let w = h .content .within in let m = tree-size g ns a in
+        omega arith
+
+    -- one text: the value of that node
+    pub open-one : ¬ (f ≡ NONE) → f ≡ l → stringOf ns f ≡ stringOf ns v
+    open-one z e =
+        let x = spoken z in let y = texts (slice (suc f) (suc l) ns) in
+        let none : y ≡ [] = ap (λ (i : ℕ). texts (slice (suc i) (suc l) ns)) e ∙ ap texts (slice-empty (suc l) ns) in
+        text-value ns f (is-text (at ns f) (x .begins))
+        ∙ sym (text-text (at ns f) (is-text (at ns f) (x .begins)))
+        ∙ sym (append-nil (textOf (at ns f)))
+        ∙ ap (λ r. textOf (at ns f) ++ r) (sym none)
+        ∙ sym (inside-value ∙ texts-between ns (h .content .within) x)
+
+    -- more: the nodes from the first on
+    pub open-more : {i : ℕ} → ¬ (f ≡ NONE) → i ≡ offsetOf t n f → Comes s ns (record { from = 0; to = 0; next = i; left = n - f; depth = d }) (stringOf ns v)
+    open-more {i} z e =
+        let x = spoken z in let p = x .after in let o = x .order in let r = x .within in let m = first-node z in let size = tree-size g ns a in
+        record {
+          accepts = a;
+          within = omega arith;
+          node = f;
+          behind = omega arith;
+          start = λ b. subst (λ (k : ℕ). Start s (drop f ns) k) (sym e) (tree-stands g ns f a (tree-linked g ns a) m .start);
+          whole = inside-from f p (omega arith) ∙ sym (inside-value ∙ texts-from ns (h .content .within) x);
+        }
+
+-- ── The value of text and of an attribute ──
+pub own-lasts : (ns : List Node) (v : ℕ) → v < length ns → stringOf ns v ≡ at ns v .value → Lasts ns v v v
+own-lasts ns v l e =
+    inl (
+    record {
+      order = omega arith;
+      within = l;
+      ends = λ z. absurd (omega arith);
+      whole = e ∙ sym (append-nil (at ns v .value)) ∙ ap (λ r. at ns v .value ++ texts r) (sym (slice-empty (suc v) ns));
+    }
+    )

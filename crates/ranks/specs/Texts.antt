@@ -1,0 +1,66 @@
+-- Where the text under each node begins and ends: a column for the first node with text and one for the last.
+use Prim.Native.Nat.{ℕ, suc, _≤_, _<_}
+use mathlib.Core.Path.{_≡_}
+use mathlib.Core.Logic.{_⊎_}
+use mathlib.Core.List.{List, []}
+use lib.ListN.{length}
+use Rattle.library.specs.Library.{Node, at}
+use Rattle.library.specs.Binary.{textOf}
+use Rattle.library.specs.Verdict.{Accepts}
+use Rattle.library.proofs.Intervals.{End}
+use Rattle.links.specs.Table.{RANK, NONE, word}
+use Rattle.ranks.specs.Ranks.{Tabled, Confined}
+
+abbrev pub FIRST-TEXT : ℕ
+FIRST-TEXT = 7
+
+abbrev pub LAST-TEXT : ℕ
+LAST-TEXT = 8
+
+-- ── The nodes from a up to b ──
+-- none of them has text
+abbrev pub Silent : List Node → ℕ → ℕ → Type 0
+Silent ns a b = (u : ℕ) → a ≤ u → u < b → textOf (at ns u) ≡ []
+
+-- f is the first of them that has text and l the last
+pub record Spoken (ns : List Node) (a b f l : ℕ) : Type 0 where
+  pub after : a ≤ f
+  pub order : f ≤ l
+  pub within : l < b
+  pub begins : 0 < length (textOf (at ns f))
+  pub ends : 0 < length (textOf (at ns l))
+  pub front : Silent ns a f
+  pub behind : Silent ns (suc l) b
+
+-- the same, or both are no node where none has text
+abbrev pub Bounds : List Node → ℕ → ℕ → ℕ → ℕ → Type 0
+Bounds ns a b f l = Spoken ns a b f l ⊎ ((f ≡ NONE) × (l ≡ NONE) × Silent ns a b)
+
+-- they are x and what is under it in the binary tree; or there are none, and x is no node
+abbrev pub Extent : List Node → ℕ → ℕ → ℕ → Type 0
+Extent ns x a b = ((x ≡ a) × End ns x b) ⊎ ((x ≡ NONE) × (a ≡ b))
+
+-- the nodes behind v up to b are what lies inside v in the document
+pub record Content (ns : List Node) (v b : ℕ) : Type 0 where
+  pub behind : v < b
+  pub within : b ≤ length ns
+  pub deeper : (u : ℕ) → v < u → u < b → at ns v .depth < at ns u .depth
+  pub stops : b < length ns → at ns b .depth ≤ at ns v .depth
+
+-- ── The columns ──
+-- they tell where the text under each node from i on begins and ends
+abbrev pub Told : List Node → ℕ → ℕ → List ℕ → Type 0
+Told ns n i t = (v : ℕ) → i ≤ v → v < n → (e : ℕ) → End ns v e → Bounds ns v e (word t n FIRST-TEXT v) (word t n LAST-TEXT v)
+
+-- t begins with the table of a tree, in which the columns are filled from node i on
+pub record Marked (s : List ℕ) (n i : ℕ) (t : List ℕ) : Type 0 where
+  pub tabled : Tabled s n t
+  pub told : (ns : List Node) → Accepts s ns → Told ns n i t
+
+-- nothing but the two columns has changed
+abbrev pub Noted : ℕ → List ℕ → List ℕ → Type 0
+Noted n t t′ = Confined FIRST-TEXT (suc LAST-TEXT) n t t′
+
+-- nothing but the columns of the ranks and of the order has changed, which are before them
+abbrev pub Arranged : ℕ → List ℕ → List ℕ → Type 0
+Arranged n t t′ = Confined RANK FIRST-TEXT n t t′

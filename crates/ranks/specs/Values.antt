@@ -1,0 +1,43 @@
+-- What is told of a value before it is read: where it begins and where it ends.
+use Prim.Native.Nat.{ℕ, suc, _≤_, _<_}
+use mathlib.Core.Path.{_≡_}
+use mathlib.Core.Logic.{_⊎_}
+use mathlib.Core.List.{List, [], _++_}
+use lib.ListN.{length}
+use lib.Seq.{slice}
+use Rattle.library.specs.Library.{Node, element, at}
+use Rattle.library.specs.Binary.{textOf, stringOf}
+use Rattle.library.proofs.Intervals.{texts}
+use Rattle.links.specs.Table.{NONE}
+use Rattle.values.specs.Comes.{Comes}
+use Rattle.ranks.specs.Texts.{Content, Bounds}
+use Rattle.ranks.specs.declared.comparison.Value.{Value}
+
+-- v is an element of the depth d
+pub record IsElement (ns : List Node) (v d : ℕ) : Type 0 where
+  pub node : v < length ns
+  pub kind : at ns v .kind ≡ element
+  pub level : d ≡ at ns v .depth
+
+-- and the text inside it begins at f and ends at l
+pub record Inside (ns : List Node) (v d f l : ℕ) : Type 0 where
+  pub is : IsElement ns v d
+  pub end : ℕ
+  pub content : Content ns v end
+  pub bounds : Bounds ns (suc v) end f l
+
+-- the string value of node v is the value of node f and the text behind f up to l; where l is not f, it has text
+pub record Spans (ns : List Node) (v f l : ℕ) : Type 0 where
+  pub order : f ≤ l
+  pub within : l < length ns
+  pub ends : f < l → 0 < length (textOf (at ns l))
+  pub whole : stringOf ns v ≡ at ns f .value ++ texts (slice (suc f) (suc l) ns)
+
+-- the same, or both are no node where it is empty
+abbrev pub Lasts : List Node → ℕ → ℕ → ℕ → Type 0
+Lasts ns v f l = Spans ns v f l ⊎ ((f ≡ NONE) × (l ≡ NONE) × (stringOf ns v ≡ []))
+
+-- x tells it of node v, and has a cursor that comes to the whole value
+pub record IsValue (s : List ℕ) (ns : List Node) (v : ℕ) (x : Value) : Type 0 where
+  pub lasts : Lasts ns v (x .first) (x .last)
+  pub comes : Comes s ns (x .reading) (stringOf ns v)
