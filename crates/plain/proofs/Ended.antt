@@ -15,7 +15,7 @@ use Rattle.bits.specs.Sets.{bit, and}
 use Rattle.bits.proofs.SetLaws.{bit-none, bit-suc}
 use Rattle.links.specs.Table.{word}
 use Rattle.walks.specs.Part.{SEEN}
-use Rattle.reach.proofs.Members.{and-both, and-parts, lowest}
+use Rattle.matrices.proofs.Members.{and-both, and-parts, lowest}
 use Rattle.plain.specs.Ends.{Ended}
 
 -- the members of a word of n digits are below n

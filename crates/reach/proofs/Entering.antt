@@ -13,7 +13,7 @@ use Rattle.bits.proofs.SetLaws.{bit-none, size-le}
 use Rattle.links.specs.Table.{cell, word, Wrote}
 use Rattle.walks.specs.Part.{SEEN, NODES, POSITIONS}
 use Rattle.reach.specs.Work.{Seen, Has, nodeOf, total, Work, Added, At, entered}
-use Rattle.reach.proofs.Members.{or-cases, or-left, or-right, and-both, and-parts, lowest, size-less}
+use Rattle.matrices.proofs.Members.{or-cases, or-left, or-right, and-both, and-parts, lowest, size-less}
 use Rattle.reach.proofs.Totals.{total-room, total-more}
 use Rattle.reach.proofs.Adding.{added-same}
 

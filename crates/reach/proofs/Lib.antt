@@ -1,5 +1,3 @@
-pub mod Members
-pub mod Following
 pub mod Walks
 pub mod Totals
 pub mod Adding

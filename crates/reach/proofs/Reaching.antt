@@ -14,7 +14,7 @@ use Rattle.walks.specs.Walks.{Leads, Walk, here, on}
 use Rattle.walks.proofs.Walking.{walk-inside}
 use Rattle.reach.specs.Reached.{Reached}
 use Rattle.reach.specs.Work.{Seen, Has, nodeOf, Work, Added, At, Cleared, Onward, After}
-use Rattle.reach.proofs.Members.{single-in, single-out}
+use Rattle.matrices.proofs.Members.{single-in, single-out}
 use Rattle.reach.proofs.Walks.{leads-same, walk-on, walk-same}
 use Rattle.reach.proofs.Adding.{added-as}
 use Rattle.reach.proofs.Clearing.{cleared-unseen}

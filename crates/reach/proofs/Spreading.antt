@@ -10,7 +10,7 @@ use Rattle.walks.specs.declared.Machine.{Machine}
 use Rattle.walks.specs.Part.{STAYS}
 use Rattle.walks.specs.Walks.{Leads, left, right, fromLeft, fromRight, stays}
 use Rattle.reach.specs.Work.{Added, At, Climbs, Onward}
-use Rattle.reach.proofs.Members.{or-cases, or-left, or-right, and-both, and-parts}
+use Rattle.matrices.proofs.Members.{or-cases, or-left, or-right, and-both, and-parts}
 use Rattle.reach.proofs.Adding.{added-then, added-as}
 
 -- the steps up are those of a left child and those of a right child

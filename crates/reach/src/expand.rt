@@ -1,11 +1,11 @@
 // One entry of the work list: its positions' followers, each taken from the entry's node where its step leads.
-use crate::followers::followers;
 use crate::list::Part;
 use crate::list::add;
 use bits::meet;
 use bits::union;
 use links::table::Table;
 use links::table::get;
+use matrices::followers::followers;
 use walks::Machine;
 ghost use mathlib.Core.Path.{_≡_};
 ghost use mathlib.Core.Bool.{true};

@@ -1,8 +1,6 @@
 // Where a walk comes to: a work list over nodes and sets of positions, in a comparison's part of the scratch.
 mod expand;
-pub mod followers;
 mod list;
-mod sets;
 
 use bits::insert;
 use expand::expand;

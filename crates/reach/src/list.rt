@@ -1,7 +1,7 @@
 // The work list: its entries are never taken off, since each of them makes one more position seen somewhere, and so 16 for each node are enough.
-use crate::sets::without;
 use bits::union;
 use links::table::put;
+use matrices::sets::without;
 ghost use Prim.Native.Nat.{_*_, _<_};
 ghost use Rattle.links.specs.Table.{Wrote};
 ghost use Rattle.walks.specs.Part.{Space};

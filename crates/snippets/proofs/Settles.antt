@@ -28,25 +28,25 @@ module _ (t : Tree) (P R : XPath) where
   comes-join Comes.here c = c
   comes-join (Comes.on s f n m c) e = Comes.on s f n m (comes-join c e)
 
-  comes-ends : {i v j u w : ℕ} → C i v j u → E j u w → E i v w
+  pub comes-ends : {i v j u w : ℕ} → C i v j u → E j u w → E i v w
   comes-ends c (k, l, e) = (k, l, comes-join c e)
 
-  comes-first : {i v j w : ℕ} → C i v j w → i ≤ size P → j ≤ size P
+  pub comes-first : {i v j w : ℕ} → C i v j w → i ≤ size P → j ≤ size P
   comes-first Comes.here h = h
   comes-first {i} (Comes.on {j = j} s f n m c) h = comes-first c (first-stays P R i j h f)
 
-  comes-second : {i v j w : ℕ} → C i v j w → size P < i → size P < j
+  pub comes-second : {i v j w : ℕ} → C i v j w → size P < i → size P < j
   comes-second Comes.here h = h
   comes-second {i} (Comes.on {j = j} s f n m c) h = comes-second c (second-stays P R i j h f)
 
-  back-first : {i v j w : ℕ} → C i v j w → j ≤ size P → i ≤ size P
+  pub back-first : {i v j w : ℕ} → C i v j w → j ≤ size P → i ≤ size P
   back-first {i} {j = j} c h = go (decLe i (size P))
     where
       go : Dec (i ≤ size P) → i ≤ size P
       go (yes r) = r
       go (no f) = let k = comes-second c (omega arith) in absurd (omega arith)
 
-  back-second : {i v j w : ℕ} → C i v j w → size P < j → size P < i
+  pub back-second : {i v j w : ℕ} → C i v j w → size P < j → size P < i
   back-second {i} {j = j} c h = go (decLe i (size P))
     where
       go : Dec (i ≤ size P) → size P < i
@@ -60,11 +60,11 @@ module _ (t : Tree) (P R : XPath) where
   pair-of : {x y p q n : ℕ} → First t P R x y p q n → Pair x y p q
   pair-of f = (f .different, (f .outside .0, f .inside .0, f .outside .1 .value ∙ sym (f .inside .1 .value), f .outside .3, f .inside .3))
 
-  diff-left : (p′ p q : ℕ) → (p ≤ size P → p′ ≤ size P) → (size P < p → size P < p′) → Different P R p q → Different P R p′ q
+  pub diff-left : (p′ p q : ℕ) → (p ≤ size P → p′ ≤ size P) → (size P < p → size P < p′) → Different P R p q → Different P R p′ q
   diff-left p′ p q f g (inl h) = inl (f (h .0), h .1)
   diff-left p′ p q f g (inr h) = inr (g (h .0), h .1)
 
-  diff-right : (p q′ q : ℕ) → (q ≤ size P → q′ ≤ size P) → (size P < q → size P < q′) → Different P R p q → Different P R p q′
+  pub diff-right : (p q′ q : ℕ) → (q ≤ size P → q′ ≤ size P) → (size P < q → size P < q′) → Different P R p q → Different P R p q′
   diff-right p q′ q f g (inl h) = inl (h .0, g (h .1))
   diff-right p q′ q f g (inr h) = inr (h .0, f (h .1))
 
@@ -145,13 +145,13 @@ module _ (t : Tree) (P R : XPath) where
         go (inl e) = absurd (a (sym (q .above) ∙ ap (t .parent) (sym e) ∙ k .above))
         go (inr h) = h
 
-    leave-top : (y : ℕ) {i v j w : ℕ} → C i v j w → Under t y v → ¬ Under t y w → Through i v j w y
+    pub leave-top : (y : ℕ) {i v j w : ℕ} → C i v j w → Under t y v → ¬ Under t y w → Through i v j w y
     leave-top y c h f = cross y (λ u. Under t y u) (cut-top y) c h f
 
-    enter-top : (y : ℕ) {i v j w : ℕ} → C i v j w → ¬ Under t y v → Under t y w → Through i v j w y
+    pub enter-top : (y : ℕ) {i v j w : ℕ} → C i v j w → ¬ Under t y v → Under t y w → Through i v j w y
     enter-top y c f h = cross y (λ u. ¬ Under t y u) (cut-not y (λ u. Under t y u) (cut-top y)) c f (λ g. g h)
 
-    leave-parent : (s : Bool) (x y : ℕ) → Child t s x y → {i v j w : ℕ} → C i v j w → Under t y v → ¬ Under t y w → Through i v j w x
+    pub leave-parent : (s : Bool) (x y : ℕ) → Child t s x y → {i v j w : ℕ} → C i v j w → Under t y v → ¬ Under t y w → Through i v j w x
     leave-parent s x y k c h f = cross x (λ u. Under t y u) (cut-parent s x y k) c h f
 
     enter-parent : (s : Bool) (x y : ℕ) → Child t s x y → {i v j w : ℕ} → C i v j w → ¬ Under t y v → Under t y w → Through i v j w x
@@ -166,7 +166,7 @@ module _ (t : Tree) (P R : XPath) where
     comes-inside Comes.here r = r
     comes-inside {v = v} (Comes.on {u = u} s f n m c) r = comes-inside c (near-inside v u r (near s v u m))
 
-    proper-not : (x y n : ℕ) → 0 < n → Down t x y n → ¬ Under t y x
+    pub proper-not : (x y n : ℕ) → 0 < n → Down t x y n → ¬ Under t y x
     proper-not x y n r d h = let a = down-le t wf d in let b = under-le t wf y x h in omega arith
 
     -- ── Completeness: halving down to power 0 ──

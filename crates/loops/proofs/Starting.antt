@@ -1,0 +1,64 @@
+-- The matrices at the start.
+use Prim.Native.Nat.{ℕ, _+_, _<_}
+use mathlib.Core.Path.{_≡_, refl, sym, _∙_, subst}
+use mathlib.Core.Logic.{_↔_}
+use mathlib.Core.List.{List}
+use native.Mathlib.Omega.{arith}
+use Rattle.links.specs.Table.{word}
+use Rattle.matrices.specs.Matrices.{Related, Chain, Redrawn, Drawing}
+use Rattle.matrices.proofs.Chains.{chain-map}
+use Rattle.walks.specs.declared.Machine.{Machine}
+use Rattle.walks.specs.Part.{STAYS}
+use Rattle.loops.specs.Loops.{Stage, loopAt}
+use Rattle.loops.specs.Closed.{Goes}
+use Rattle.loops.specs.Growing.{Steps, Begun, Started}
+use Rattle.loops.proofs.Kept.{stage-kept}
+use Rattle.loops.proofs.Sounds.{chain-comes, stay-comes}
+use Rattle.loops.proofs.Replaced.{sound-one, woven-one}
+
+-- the steps that stay, drawn and closed
+pub begun : (m : Machine) (n v : ℕ) {p q q′ : List ℕ} {at w : ℕ} → at ≡ loopAt n v → w ≡ word p n STAYS v → Drawing (Steps (m .rows) w) at 16 p q
+    → Redrawn at q q′ × ((i j : ℕ) → i < 16 → j < 16 → Related q′ at i j ↔ Chain (λ i j. Related q at i j) i j) → Begun m n v p q′
+begun m n v {p} {q} {q′} {at} {w} e f d (only, closure) = record {
+  only = subst (λ (x : ℕ). Redrawn x p q′) e (record {
+    long = only .long ∙ d .long;
+    front = λ k h. only .front k h ∙ d .front k h;
+    behind = λ k h. only .behind k h ∙ d .behind k h;
+  });
+  closed = λ i j h l. subst (λ (x : ℕ). Related q′ x i j ↔ Chain (Goes m (word p n STAYS v)) i j) e (to i j h l, from i j h l);
+}
+  where
+    to : (i j : ℕ) → i < 16 → j < 16 → Related q′ at i j → Chain (Goes m (word p n STAYS v)) i j
+    to i j h l r = chain-map (λ a b x y s. let (g, o) = d .done a b x y .0 s in subst (λ (z : ℕ). Goes m z a b) f (record { follows = g; step = o })) h (closure i j h l .0 r)
+
+    from : (i j : ℕ) → i < 16 → j < 16 → Chain (Goes m (word p n STAYS v)) i j → Related q′ at i j
+    from i j h l c =
+        closure i j h l .1 (chain-map (λ a b x y g. let s : Goes m w a b = subst (λ (z : ℕ). Goes m z a b) (sym f) g in d .done a b x y .1 (s .follows, s .step)) h c)
+
+pub started-none : (m : Machine) (n : ℕ) (p : List ℕ) → Started m n 0 p p
+started-none m n p = record {
+  long = refl;
+  front = λ l h. refl;
+  behind = λ l h. refl;
+  woven = record {
+    reflexive = λ v i h. absurd (let f : ⊥ = omega arith in f);
+    transitive = λ v i j l h. absurd (let f : ⊥ = omega arith in f);
+    bracket = λ v i j h. absurd (let f : ⊥ = omega arith in f);
+  };
+  sound = λ P R t s v h. absurd (let f : ⊥ = omega arith in f);
+}
+
+-- one node more
+pub started-step : {m : Machine} {n v : ℕ} {p q q′ : List ℕ} → v < n → Started m n v p q → Begun m n v q q′ → Started m n (v + 1) p q′
+started-step {m} {n} {v} {p} {q} {q′} inside s b = record {
+  long = b .only .long ∙ s .long;
+  front = λ l h. b .only .front l (omega arith) ∙ s .front l h;
+  behind = λ l h. b .only .behind l (omega arith) ∙ s .behind l (omega arith);
+  woven = woven-one n v (b .only) (λ y h e. omega arith) (omega arith) (b .closed) (λ i j h l r g. g) (s .woven);
+  sound = λ P R t stage.
+      let now : Stage P R t m n q = stage-kept (s .front) stage in
+      sound-one n v (b .only) (λ y h e. omega arith) (λ i j l r a. chain-comes (λ c d x y g. stay-comes now v c d inside x y g) l (b .closed i j l r .0 a)) (s .sound P R t stage);
+}
+
+pub started-to : {m : Machine} {n k : ℕ} {p q : List ℕ} → k ≡ n → Started m n k p q → Started m n n p q
+started-to {m} {n} {k} {p} {q} e s = subst (λ (x : ℕ). Started m n x p q) e s

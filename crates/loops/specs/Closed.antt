@@ -1,0 +1,58 @@
+-- The matrices in a part are closed: over words alone, nothing that the machine can do within a node and its neighbours leads out of them.
+use Prim.Native.Nat.{ℕ, _<_}
+use mathlib.Core.Path.{_≡_}
+use mathlib.Core.Logic.{_≢_}
+use mathlib.Core.Bool.{Bool, true, false}
+use mathlib.Core.List.{List}
+use lib.ListN.{getD}
+use Rattle.bits.specs.Sets.{bit}
+use Rattle.links.specs.Table.{LEFT, PARENT, word}
+use Rattle.matrices.specs.Matrices.{Related}
+use Rattle.walks.specs.declared.Machine.{Machine}
+use Rattle.walks.specs.Part.{STAYS}
+use Rattle.loops.specs.Loops.{loopAt}
+
+-- the steps down to a child on a side, and the steps up from it
+abbrev pub downs : Machine → Bool → ℕ
+downs m true = m .left
+downs m false = m .right
+
+abbrev pub ups : Machine → Bool → ℕ
+ups m true = m .leftup
+ups m false = m .rightup
+
+-- the side of its parent that a node is on: right where it is not the left child
+abbrev pub OnSide : List ℕ → ℕ → ℕ → Bool → Type 0
+OnSide p n v true = word p n LEFT (word p n PARENT v) ≡ v
+OnSide p n v false = word p n LEFT (word p n PARENT v) ≢ v
+
+-- j follows i and is one of the steps w
+pub record Goes (m : Machine) (w i j : ℕ) : Type 0 where
+  pub follows : bit (getD (m .rows) i 0) j ≡ true
+  pub step : bit w j ≡ true
+
+-- by a step of w, by the matrix at an offset, and by a step of w′, i comes to j
+pub record Detour (m : Machine) (p : List ℕ) (at w w′ i j : ℕ) : Type 0 where
+  pub first : ℕ
+  pub last : ℕ
+  pub firstFew : first < 16
+  pub lastFew : last < 16
+  pub leave : Goes m w i first
+  pub within : Related p at first last
+  pub back : Goes m w′ last j
+
+-- the matrix of each node v, which stands at loopAt n v, holds
+pub record Closed (m : Machine) (n : ℕ) (p : List ℕ) : Type 0 where
+  -- no step
+  pub reflexive : (v i : ℕ) → v < n → i < 16 → Related p (loopAt n v) i i
+  -- one after the other
+  pub transitive : (v i j k : ℕ) → v < n → i < 16 → j < 16 → k < 16
+      → Related p (loopAt n v) i j → Related p (loopAt n v) j k → Related p (loopAt n v) i k
+  -- a step that stays
+  pub bracket : (v i j : ℕ) → v < n → i < 16 → j < 16 → Goes m (word p n STAYS v) i j → Related p (loopAt n v) i j
+  -- from the parent of v by a detour over v, which is on a side
+  pub upwards : (side : Bool) (v i j : ℕ) → 0 < v → v < n → OnSide p n v side → i < 16 → j < 16
+      → Detour m p (loopAt n v) (downs m side) (ups m side) i j → Related p (loopAt n (word p n PARENT v)) i j
+  -- from v by a detour over its parent
+  pub downwards : (side : Bool) (v i j : ℕ) → 0 < v → v < n → OnSide p n v side → i < 16 → j < 16
+      → Detour m p (loopAt n (word p n PARENT v)) (ups m side) (downs m side) i j → Related p (loopAt n v) i j

@@ -1,0 +1,4 @@
+pub mod Loops
+pub mod Closed
+pub mod Sound
+pub mod Growing

@@ -1,0 +1,49 @@
+// The matrices at the start: the steps that stay at their node, closed.
+use crate::place::loop_at;
+use bits::meet;
+use links::table::get;
+use matrices::close;
+use walks::Machine;
+ghost use Prim.Native.Nat.{_+_, _≤_, _<_};
+ghost use lib.ListN.{length};
+ghost use Rattle.matrices.specs.Matrices.{Drawing};
+ghost use Rattle.loops.specs.Growing.{Ready, Steps, Begun, Started};
+
+// The column of the positions whose bracketed test holds at the node.
+const STAYS: usize = 6;
+
+// The matrix at `at` becomes the steps of `w`.
+fn draw(p: &mut [u16], rows: [u16; 16], at: usize, w: u16)
+    requires { ⌜ at + 16 ≤ length (now p) ⌝ }
+    ensures { λ _. ⌜ Drawing (Steps rows w) at 16 (now (p .entry)) (now (p .exit)) ⌝ }
+{
+    let mut i: usize = 0;
+    while i < 16 {
+        p[at + i] = meet(rows[i], w);
+        i += 1;
+    }
+}
+
+// The matrix of node `v`.
+fn begin(p: &mut [u16], n: usize, m: Machine, v: usize)
+    requires { ⌜ Ready n (now p) × (v < n) ⌝ }
+    ensures { λ _. ⌜ Begun m n v (now (p .entry)) (now (p .exit)) ⌝ }
+{
+    let at = loop_at(n, v);
+    let w = get(p, n, STAYS, v) as u16;
+    let rows = m.rows;
+    draw(p, rows, at, w);
+    close(p, at);
+}
+
+// The matrix of each node.
+pub fn start(p: &mut [u16], n: usize, m: Machine)
+    requires { ⌜ Ready n (now p) ⌝ }
+    ensures { λ _. ⌜ Started m n n (now (p .entry)) (now (p .exit)) ⌝ }
+{
+    let mut v = 0;
+    while v < n {
+        begin(p, n, m, v);
+        v += 1;
+    }
+}

@@ -1,0 +1,91 @@
+// Relations on the 16 positions. Each is a matrix, 16 words of a slice from an offset on: row i is the set of what i is related to.
+mod closure;
+pub mod followers;
+pub mod sets;
+
+use bits::count;
+use bits::insert;
+use bits::union;
+use closure::join;
+use closure::reflect;
+use sets::first;
+use sets::touches;
+use sets::without;
+ghost use mathlib.Core.Path.{_≡_};
+ghost use mathlib.Core.Bool.{true};
+ghost use mathlib.Core.Logic.{_↔_};
+ghost use Prim.Native.Nat.{ℕ, _+_, _≤_, _<_};
+ghost use lib.ListN.{length};
+ghost use Rattle.bits.specs.Sets.{bit};
+ghost use Rattle.matrices.specs.Matrices.{Related, Image, Before, Chain, Redrawn, Apart, pairs};
+
+// What the members of `w` are related to. Each turn takes one member out, so that few members take few turns.
+pub fn image(p: &[u16], at: usize, w: u16) -> u16
+    requires { ⌜ at + 16 ≤ length (now p) ⌝ }
+    ensures { λ r. ⌜ ((j : ℕ) → j < 16 → (bit r j ≡ true) ↔ Image (now (p .entry)) at w j) ⌝ }
+{
+    let mut r = 0;
+    let mut rest = w;
+    while 0 < rest {
+        let i = first(rest);
+        r = union(r, p[at + i as usize]);
+        rest = without(rest, insert(0, i));
+    }
+    r
+}
+
+// What is related to a member of `w`.
+pub fn before(p: &[u16], at: usize, w: u16) -> u16
+    requires { ⌜ at + 16 ≤ length (now p) ⌝ }
+    ensures { λ r. ⌜ ((i : ℕ) → i < 16 → (bit r i ≡ true) ↔ Before (now (p .entry)) at w i) ⌝ }
+{
+    let mut r = 0;
+    let mut i: usize = 0;
+    while i < 16 {
+        if touches(p[at + i], w) {
+            r = insert(r, i as u16);
+        }
+        i += 1;
+    }
+    r
+}
+
+// The matrix becomes its reflexive and transitive closure.
+pub fn close(p: &mut [u16], at: usize)
+    requires { ⌜ at + 16 ≤ length (now p) ⌝ }
+    ensures { λ _. ⌜ Redrawn at (now (p .entry)) (now (p .exit)) × ((i j : ℕ) → i < 16 → j < 16 → Related (now (p .exit)) at i j ↔ Chain (λ i j. Related (now (p .entry)) at i j) i j) ⌝ }
+{
+    reflect(p, at);
+    let mut k = 0;
+    while k < 16 {
+        join(p, at, k);
+        k += 1;
+    }
+}
+
+// The matrix at `c` becomes the one at `a` followed by the one at `b`.
+pub fn compose(p: &mut [u16], a: usize, b: usize, c: usize)
+    requires { ⌜ Apart a c × Apart b c × (a + 16 ≤ length (now p)) × (b + 16 ≤ length (now p)) × (c + 16 ≤ length (now p)) ⌝ }
+    ensures { λ _. ⌜ Redrawn c (now (p .entry)) (now (p .exit)) × ((i j : ℕ) → i < 16 → j < 16 → Related (now (p .exit)) c i j ↔ ((k : ℕ) × (k < 16) × Related (now (p .entry)) a i k × Related (now (p .entry)) b k j)) ⌝ }
+{
+    let mut i: usize = 0;
+    while i < 16 {
+        let w = p[a + i];
+        p[c + i] = image(p, b, w);
+        i += 1;
+    }
+}
+
+// The number of pairs.
+pub fn size(p: &[u16], at: usize) -> usize
+    requires { ⌜ at + 16 ≤ length (now p) ⌝ }
+    ensures { λ r. ⌜ r ≡ pairs (now (p .entry)) at 16 ⌝ }
+{
+    let mut r: usize = 0;
+    let mut i: usize = 0;
+    while i < 16 {
+        r += count(p[at + i]) as usize;
+        i += 1;
+    }
+    r
+}
