@@ -1,0 +1,100 @@
+-- The links of a tree in a part: what they say, and that they stay where later columns change.
+use Prim.Native.Nat.{ℕ, _≤_, _<_}
+use mathlib.Core.Path.{_≡_, refl, sym, _∙_, subst}
+use mathlib.Core.Logic.{_⊎_, inl, inr, _↔_}
+use mathlib.Core.Bool.{Bool, true, false}
+use mathlib.Core.List.{List}
+use native.Mathlib.Omega.{arith}
+use Rattle.bits.specs.Sets.{bit}
+use Rattle.xpath.specs.Syntax.{Test, XPath, stay}
+use Rattle.xpath.specs.Tree.{Tree, Child, WellFormed}
+use Rattle.xpath.specs.Meaning.{Holds}
+use Rattle.xpath.proofs.Trees.{one-child}
+use Rattle.links.specs.Table.{PARENT, RANK, NONE, column, word}
+use Rattle.links.specs.Links.{Points}
+use Rattle.walks.specs.Part.{STAYS}
+use Rattle.walks.specs.Meaning.{IsStep, Drawn}
+use Rattle.skeletons.specs.Shape.{Shape, Within}
+use Rattle.skeletons.specs.Skeletons.{Ranks}
+use Rattle.skeletons.proofs.Within.{before-within, small-within}
+
+pub drawn-shape : {P R : XPath} {t : Tree} {n : ℕ} {p : List ℕ} → WellFormed t → Drawn P R t n p → Shape t n p
+drawn-shape wf d = record { formed = wf; size = d .size; few = d .few; children = d .children; parents = d .parents }
+
+side-early : (side : Bool) → column side < PARENT
+side-early true = omega arith
+side-early false = omega arith
+
+module _ (t : Tree) {n c d : ℕ} {p p′ : List ℕ} (late : RANK ≤ c) (w : Within n c d p p′) where
+  children-within : ((side : Bool) (v : ℕ) → v < n → Points (Child t side v) (word p n (column side) v))
+      → (side : Bool) (v : ℕ) → v < n → Points (Child t side v) (word p′ n (column side) v)
+  children-within h side v r = let e = side-early side in subst (λ x. Points (Child t side v) x) (sym (before-within w (column side) v (omega arith) r)) (h side v r)
+
+  parents-within : ((v : ℕ) → v < n → ((v ≡ 0) × (word p n PARENT v ≡ NONE)) ⊎ ((0 < v) × (word p n PARENT v ≡ t .parent v)))
+      → (v : ℕ) → v < n → ((v ≡ 0) × (word p′ n PARENT v ≡ NONE)) ⊎ ((0 < v) × (word p′ n PARENT v ≡ t .parent v))
+  parents-within h v r = subst (λ x. ((v ≡ 0) × (x ≡ NONE)) ⊎ ((0 < v) × (x ≡ t .parent v))) (sym (before-within w PARENT v (omega arith) r)) (h v r)
+
+pub shape-within : {t : Tree} {n c d : ℕ} {p p′ : List ℕ} → RANK ≤ c → Within n c d p p′ → Shape t n p → Shape t n p′
+shape-within {t} l w s =
+    record { formed = s .formed; size = s .size; few = s .few; children = children-within t l w (s .children); parents = parents-within t l w (s .parents) }
+
+-- so does all that is drawn
+pub drawn-within : {P R : XPath} {t : Tree} {n c d : ℕ} {p p′ : List ℕ} → STAYS < c → Within n c d p p′ → Drawn P R t n p → Drawn P R t n p′
+drawn-within {P} {R} {t} {n} {c} {p = p} {p′ = p′} l w x =
+    record {
+      size = x .size;
+      few = x .few;
+      children = children-within t (omega arith) w (x .children);
+      parents = parents-within t (omega arith) w (x .parents);
+      small = small-within (omega arith) w (x .small);
+      ordered = λ v u r q. let (f, g) = x .ordered v u r q in let a = rank v r in let b = rank u q in (λ h. f (omega arith), λ h. let k = g h in omega arith);
+      same = λ v u r q. let (f, g) = x .same v u r q in let a = rank v r in let b = rank u q in (λ h. f (omega arith), λ h. let k = g h in omega arith);
+      tests = λ v j r i. subst (λ y. (bit y j ≡ true) ↔ ((T : Test) × IsStep P R j (stay T) × Holds t T v)) (sym (before-within w STAYS v l r)) (x .tests v j r i);
+    }
+  where
+    rank : (v : ℕ) → v < n → word p′ n RANK v ≡ word p n RANK v
+    rank v r = before-within w RANK v (omega arith) r
+
+-- the nodes of v's rank are those that have v's value
+pub drawn-ranks : {P R : XPath} {t : Tree} {n : ℕ} {p : List ℕ} → Drawn P R t n p → (v : ℕ) → v < n → Ranks t (t .value v) n (word p n RANK v) p
+drawn-ranks d v r w q = d .same w v q r
+
+pub ranks-within : (t : Tree) {v : List ℕ} {n r c d : ℕ} {p p′ : List ℕ} → RANK < c → Within n c d p p′ → Ranks t v n r p → Ranks t v n r p′
+ranks-within t l w k u i = let e = before-within w RANK u l i in (λ h. k u i .0 (sym e ∙ h), λ h. e ∙ k u i .1 h)
+
+module _ {t : Tree} {n : ℕ} {p : List ℕ} (s : Shape t n p) where
+  -- the word for the parent of a child
+  pub parent-of : {side : Bool} {u v : ℕ} → Child t side u v → word p n PARENT v ≡ u
+  parent-of {side} {u} {v} c = let e = s .size in let i = c .inside in go (s .parents v (omega arith))
+    where
+      go : ((v ≡ 0) × (word p n PARENT v ≡ NONE)) ⊎ ((0 < v) × (word p n PARENT v ≡ t .parent v)) → word p n PARENT v ≡ u
+      go (inl (e, none)) = let i = c .inner in absurd (omega arith)
+      go (inr (h, e)) = e ∙ c .above
+
+  -- a node's word for the parent: none for the root, and else the node whose child it is
+  pub parent-case : (v : ℕ) → v < n
+      → ((v ≡ 0) × (word p n PARENT v ≡ NONE)) ⊎ ((word p n PARENT v < v) × Child t (t .isLeft v) (word p n PARENT v) v)
+  parent-case v r = go (s .parents v r)
+    where
+      go : ((v ≡ 0) × (word p n PARENT v ≡ NONE)) ⊎ ((0 < v) × (word p n PARENT v ≡ t .parent v))
+          → ((v ≡ 0) × (word p n PARENT v ≡ NONE)) ⊎ ((word p n PARENT v < v) × Child t (t .isLeft v) (word p n PARENT v) v)
+      go (inl h) = inl h
+      go (inr (h, e)) =
+          let l = s .size in let u = s .formed .upwards v h (omega arith) in
+          inr (omega arith, record { inner = h; inside = omega arith; above = sym e; which = refl })
+
+  -- the word for a child
+  pub child-word : (side : Bool) {v u : ℕ} → v < n → Child t side v u → word p n (column side) v ≡ u
+  child-word side {v} {u} r c = go (s .children side v r)
+    where
+      go : Points (Child t side v) (word p n (column side) v) → word p n (column side) v ≡ u
+      go (inl k) = one-child (s .formed) side k c
+      go (inr (e, f)) = absurd (f u c)
+
+  -- a node's word for a child that is a node
+  pub word-child : (side : Bool) (v : ℕ) → v < n → word p n (column side) v < n → Child t side v (word p n (column side) v)
+  word-child side v r l = go (s .children side v r)
+    where
+      go : Points (Child t side v) (word p n (column side) v) → Child t side v (word p n (column side) v)
+      go (inl k) = k
+      go (inr (e, f)) = let few = s .few in absurd (omega arith)

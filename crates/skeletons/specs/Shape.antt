@@ -1,0 +1,30 @@
+-- The tree in a comparison's part, and which of the part's columns may change.
+use Prim.Native.Nat.{ℕ, _*_, _≤_, _<_}
+use mathlib.Core.Path.{_≡_}
+use mathlib.Core.Logic.{_⊎_}
+use mathlib.Core.Bool.{Bool}
+use mathlib.Core.List.{List}
+use lib.ListN.{length, getD}
+use Rattle.xpath.specs.Tree.{Tree, Child, WellFormed}
+use Rattle.links.specs.Table.{PARENT, RANK, NONE, column, word}
+use Rattle.links.specs.Links.{Points}
+
+-- the words hold the links of the tree t, which has n nodes: what `Drawn` says of them
+pub record Shape (t : Tree) (n : ℕ) (p : List ℕ) : Type 0 where
+  pub formed : WellFormed t
+  pub size : t .size ≡ n
+  pub few : n ≤ 4096
+  -- a word for a child is the child, or none
+  pub children : (side : Bool) (v : ℕ) → v < n → Points (Child t side v) (word p n (column side) v)
+  -- a word for the parent is the parent, or none for the root
+  pub parents : (v : ℕ) → v < n → ((v ≡ 0) × (word p n PARENT v ≡ NONE)) ⊎ ((0 < v) × (word p n PARENT v ≡ t .parent v))
+
+-- each node's rank is below n
+abbrev pub Small : ℕ → List ℕ → Type 0
+Small n p = (v : ℕ) → v < n → word p n RANK v < n
+
+-- only the words of the columns from c up to d, d not among them, may be different
+pub record Within (n c d : ℕ) (p p′ : List ℕ) : Type 0 where
+  pub long : length p′ ≡ length p
+  pub front : (k : ℕ) → k < c * n → getD p′ k 0 ≡ getD p k 0
+  pub behind : (k : ℕ) → d * n ≤ k → getD p′ k 0 ≡ getD p k 0

@@ -1,0 +1,45 @@
+-- What the single steps write: a column, a node in its bucket, the marks of a node and all above it.
+use Prim.Native.Nat.{ℕ, suc, _≤_, _<_}
+use mathlib.Core.Path.{_≡_}
+use mathlib.Core.Logic.{_⊎_}
+use mathlib.Core.List.{List, [], _∷_}
+use Rattle.xpath.specs.Tree.{Tree, Under}
+use Rattle.links.specs.Table.{PARENT, RANK, cell, word}
+use Rattle.skeletons.specs.Shape.{Shape, Within}
+use Rattle.skeletons.specs.Skeletons.{FIRST, NEXT, MARKED}
+
+pub record Filled (n c x v : ℕ) (p p′ : List ℕ) : Type 0 where
+  pub inside : v ≤ n
+  -- no other column has changed
+  pub within : Within n c (suc c) p p′
+  -- x stands in column c of the nodes below v
+  pub filled : (u : ℕ) → u < v → word p′ n c u ≡ x
+
+-- what is written for node v: it is the first of its rank, and the node that was the first is next
+abbrev pub entered : ℕ → ℕ → List ℕ → List (ℕ × ℕ)
+entered n v p = (cell n FIRST (word p n RANK v), v) ∷ (cell n NEXT v, word p n FIRST (word p n RANK v)) ∷ []
+
+-- v is marked
+abbrev pub IsMarked : List ℕ → ℕ → ℕ → Type 0
+IsMarked p n v = word p n MARKED v ≡ 1
+
+-- a word is a node that is marked
+abbrev pub MarkedNode : List ℕ → ℕ → ℕ → Type 0
+MarkedNode p n x = (x < n) × IsMarked p n x
+
+pub record Closed (n : ℕ) (p : List ℕ) : Type 0 where
+  -- the column of the marks has 1 and 0 alone
+  pub marks : (v : ℕ) → v < n → IsMarked p n v ⊎ (word p n MARKED v ≡ 0)
+  -- the parent of a marked node is marked
+  pub up : (v : ℕ) → v < n → IsMarked p n v → word p n PARENT v < n → IsMarked p n (word p n PARENT v)
+
+-- w and all above it are marked too now
+pub record Raised (n w : ℕ) (p p′ : List ℕ) : Type 0 where
+  -- no other column has changed
+  pub within : Within n MARKED (suc MARKED) p p′
+  pub closed : Closed n p′
+  -- what was marked is marked
+  pub grows : (v : ℕ) → v < n → IsMarked p n v → IsMarked p′ n v
+  pub here : IsMarked p′ n w
+  -- what is newly marked is w or above w
+  pub sound : (t : Tree) → Shape t n p → (v : ℕ) → v < n → IsMarked p′ n v → IsMarked p n v ⊎ Under t v w
