@@ -1,0 +1,36 @@
+-- Along a stretch of the tree, from a node y up to the node x that lies some edges above it.
+use Prim.Native.Nat.{ℕ, _+_, _-_, _*_, _^_, _≤_, _<_}
+use mathlib.Core.Path.{_≡_}
+use mathlib.Core.List.{List}
+use lib.ListN.{length, getD}
+use Rattle.xpath.specs.Syntax.{XPath, size}
+use Rattle.xpath.specs.Tree.{Tree, WellFormed, Down}
+use Rattle.loops.specs.Loops.{Loops}
+use Rattle.powers.specs.Powers.{BLOCKS, upperAt, Powers}
+
+-- the loops and the powers below b of two paths on a tree
+pub record Ladder (P R : XPath) (t : Tree) (n b : ℕ) (p : List ℕ) : Type 0 where
+  pub formed : WellFormed t
+  pub few : size P + size R ≤ 14
+  pub loops : Loops P R t n p
+  pub powers : Powers P R t n p b
+
+-- some node lies len edges above y, and the powers below b lead there
+pub record Stretch (n b y len : ℕ) (p : List ℕ) : Type 0 where
+  pub first : XPath
+  pub second : XPath
+  pub tree : Tree
+  pub top : ℕ
+  pub ladder : Ladder first second tree n b p
+  pub down : Down tree top y len
+  pub node : y < n
+  pub few : n ≤ 4096
+  pub low : b ≤ 13
+  pub short : len < 2 ^ b
+  pub room : (BLOCKS + 64 * b) * n ≤ length p
+
+-- by a power k to the node over y, with the rest still to go
+pub record Hops (n y len k over rest : ℕ) (p : List ℕ) : Type 0 where
+  pub some : 2 ^ k ≤ len
+  pub there : over ≡ getD p (upperAt n k y) 0
+  pub left : rest ≡ len - 2 ^ k

@@ -1,0 +1,58 @@
+-- The powers of two along the tree: for each node y and exponent k the node 2^k above it, and which positions come to which between the two.
+use Prim.Native.Nat.{ℕ, suc, _+_, _*_, _^_, _≤_, _<_}
+use mathlib.Core.Path.{_≡_}
+use mathlib.Core.Logic.{_↔_}
+use mathlib.Core.Bool.{true}
+use mathlib.Core.List.{List}
+use lib.ListN.{length, getD}
+use Rattle.bits.specs.Sets.{bit}
+use Rattle.xpath.specs.Syntax.{XPath}
+use Rattle.xpath.specs.Tree.{Tree, Down}
+use Rattle.positions.specs.Positions.{Comes}
+use Rattle.links.specs.Links.{Points}
+use Rattle.matrices.specs.Matrices.{Related}
+
+-- ── The part behind its first 112 columns: 64 words for each exponent and node ──
+abbrev pub BLOCKS : ℕ
+BLOCKS = 112
+
+abbrev pub blockAt : ℕ → ℕ → ℕ → ℕ
+blockAt n k y = BLOCKS * n + 64 * (k * n + y)
+
+-- a position at the upper node and one at y
+abbrev pub downAt : ℕ → ℕ → ℕ → ℕ
+downAt n k y = blockAt n k y
+
+-- a position at y and one at the upper node
+abbrev pub upAt : ℕ → ℕ → ℕ → ℕ
+upAt n k y = blockAt n k y + 16
+
+-- the snippets of power k whose lower node is y: p at the upper node and q at y
+abbrev pub snippetAt : ℕ → ℕ → ℕ → ℕ
+snippetAt n k y = blockAt n k y + 32
+
+-- the upper node, or none
+abbrev pub upperAt : ℕ → ℕ → ℕ → ℕ
+upperAt n k y = blockAt n k y + 48
+
+module _ (P R : XPath) (t : Tree) (n : ℕ) (p : List ℕ) where
+  -- the words of exponent k and node y
+  pub record Power (k y : ℕ) : Type 0 where
+    pub upper : Points (λ x. Down t x y (2 ^ k)) (getD p (upperAt n k y) 0)
+    pub down : (x i j : ℕ) → Down t x y (2 ^ k) → i < 16 → j < 16 → Related p (downAt n k y) i j ↔ Comes P R t i x j y
+    pub up : (x i j : ℕ) → Down t x y (2 ^ k) → i < 16 → j < 16 → Related p (upAt n k y) i j ↔ Comes P R t i y j x
+
+  -- all exponents below b
+  abbrev pub Powers : ℕ → Type 0
+  Powers b = (k y : ℕ) → k < b → y < n → Power k y
+
+-- all before the blocks is as before
+pub record Powered (P R : XPath) (t : Tree) (n b : ℕ) (p p′ : List ℕ) : Type 0 where
+  pub long : length p′ ≡ length p
+  pub front : (k : ℕ) → k < BLOCKS * n → getD p′ k 0 ≡ getD p k 0
+  pub powers : Powers P R t n p′ b
+
+-- ── Along a stretch of any length below 2^b ──
+-- the positions that at x come to a member of S at y
+abbrev pub Lifts : XPath → XPath → Tree → ℕ → ℕ → ℕ → ℕ → Type 0
+Lifts P R t x y S r = (i : ℕ) → i < 16 → (bit r i ≡ true) ↔ ((j : ℕ) × (j < 16) × (bit S j ≡ true) × Comes P R t i x j y)

@@ -1,0 +1,104 @@
+// The words of a power: 64 for each exponent and node, behind the first 112 columns of the part.
+use bits::meet;
+use matrices::compose;
+use matrices::followers::followers;
+use matrices::image;
+use walks::Machine;
+ghost use mathlib.Core.Path.{_≡_};
+ghost use mathlib.Core.Logic.{_↔_};
+ghost use Prim.Native.Nat.{ℕ, _+_, _≤_, _<_};
+ghost use lib.ListN.{length, getD};
+ghost use Rattle.links.specs.Table.{NONE};
+ghost use Rattle.loops.specs.Loops.{loopAt};
+ghost use Rattle.matrices.specs.Matrices.{Related, Redrawn};
+ghost use Rattle.powers.specs.Powers.{blockAt, upperAt};
+ghost use Rattle.powers.specs.Blocks.{Fits, Only, Crossed, Edge, Twice};
+
+pub const BLOCKS: usize = 112;
+
+pub const WORDS: usize = 64;
+
+// Within a block: the rows that lead down, those that lead up, and the upper node.
+pub const DOWN: usize = 0;
+
+pub const UP: usize = 16;
+
+pub const UPPER: usize = 48;
+
+// The word that stands for no node.
+const NO_NODE: u16 = 65535;
+
+// Where the words of exponent `k` and node `y` begin.
+pub fn block_at(n: usize, k: usize, y: usize) -> usize
+    requires { ⌜ (y < n) × (n ≤ 4096) × (k < 13) ⌝ }
+    ensures { λ r. ⌜ r ≡ blockAt n k y ⌝ }
+{
+    BLOCKS * n + WORDS * (k * n + y)
+}
+
+// Where the loops of node `v` begin.
+pub fn loop_at(n: usize, v: usize) -> usize
+    requires { ⌜ (v < n) × (n ≤ 4096) ⌝ }
+    ensures { λ r. ⌜ r ≡ loopAt n v ⌝ }
+{
+    16 * n + 16 * v
+}
+
+// The node 2^k above node `y`, or none.
+pub fn upper(p: &[u16], n: usize, k: usize, y: usize) -> usize
+    requires { ⌜ Fits n k y (now p) ⌝ }
+    ensures { λ r. ⌜ (r ≡ getD (now (p .entry)) (upperAt n k y) 0) × (r < 65536) ⌝ }
+{
+    let at = block_at(n, k, y);
+    p[at + UPPER] as usize
+}
+
+// There is no node 2^k above node `y`.
+pub fn none(p: &mut [u16], n: usize, k: usize, y: usize)
+    requires { ⌜ Fits n k y (now p) ⌝ }
+    ensures { λ _. ⌜ Only n k y (now (p .entry)) (now (p .exit)) × (getD (now (p .exit)) (upperAt n k y) 0 ≡ NONE) ⌝ }
+{
+    let at = block_at(n, k, y);
+    p[at + UPPER] = NO_NODE;
+}
+
+// The matrix at `c` becomes the one at `a`, followed by the steps of `w`, followed by the one at `b`.
+fn cross(p: &mut [u16], rows: [u16; 16], a: usize, w: u16, b: usize, c: usize)
+    requires { ⌜ (a + 16 ≤ c) × (b + 16 ≤ c) × (c + 16 ≤ length (now p)) ⌝ }
+    ensures { λ _. ⌜ Redrawn c (now (p .entry)) (now (p .exit)) × ((i j : ℕ) → i < 16 → j < 16 → Related (now (p .exit)) c i j ↔ Crossed rows (now (p .entry)) a w b i j) ⌝ }
+{
+    let mut i: usize = 0;
+    while i < 16 {
+        let next = meet(followers(rows, p[a + i]), w);
+        p[c + i] = image(p, b, next);
+        i += 1;
+    }
+}
+
+// Exponent 0: node `y` and its parent `x`, with the steps between them.
+pub fn edge(p: &mut [u16], n: usize, m: Machine, x: usize, y: usize, down: u16, up: u16)
+    requires { ⌜ (x < n) × Fits n 0 y (now p) ⌝ }
+    ensures { λ _. ⌜ Edge m n x y down up (now (p .entry)) (now (p .exit)) ⌝ }
+{
+    let rows = m.rows;
+    let at = block_at(n, 0, y);
+    let above = loop_at(n, x);
+    let below = loop_at(n, y);
+    cross(p, rows, above, down, below, at);
+    cross(p, rows, below, up, above, at + UP);
+    p[at + UPPER] = x as u16;
+}
+
+// Exponent `k` + 1: from node `y` over node `h`. Where there is none above `h`, the two matrices say nothing.
+pub fn twice(p: &mut [u16], n: usize, k: usize, h: usize, y: usize)
+    requires { ⌜ (h < n) × Fits n (k + 1) y (now p) ⌝ }
+    ensures { λ _. ⌜ Twice n k h y (now (p .entry)) (now (p .exit)) ⌝ }
+{
+    let x = upper(p, n, k, h);
+    let at = block_at(n, k + 1, y);
+    let above = block_at(n, k, h);
+    let below = block_at(n, k, y);
+    compose(p, above, below, at);
+    compose(p, below + UP, above + UP, at + UP);
+    p[at + UPPER] = x as u16;
+}

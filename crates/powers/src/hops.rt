@@ -1,0 +1,35 @@
+// The first hop up along a stretch, by its largest power.
+use crate::blocks::upper;
+use exponents::exponent;
+ghost use mathlib.Core.Path.{_≡_};
+ghost use Prim.Native.Nat.{_^_, _<_};
+ghost use Rattle.powers.specs.Ladder.{Stretch, Hops};
+
+// The node over, 2^exponent above, and how many edges are left from there.
+pub struct Hop {
+    pub exponent: usize,
+    pub over: usize,
+    pub rest: usize,
+}
+
+// 2^k.
+fn two_to(k: usize) -> usize
+    requires { ⌜ k < 13 ⌝ }
+    ensures { λ r. ⌜ r ≡ 2 ^ k ⌝ }
+{
+    1 << k
+}
+
+// The hop from node `y`, below the top of a stretch of `len` edges.
+pub fn first_hop(p: &[u16], n: usize, b: usize, y: usize, len: usize) -> Hop
+    requires { ⌜ Stretch n b y len (now p) × (0 < len) ⌝ }
+    ensures { λ r. ⌜ Hops n y len (r .exponent) (r .over) (r .rest) (now (p .entry)) ⌝ }
+{
+    let k = exponent(len) as usize;
+    let over = upper(p, n, k, y);
+    Hop {
+        exponent: k,
+        over: over,
+        rest: len - two_to(k),
+    }
+}
