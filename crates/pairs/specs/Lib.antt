@@ -1,0 +1,4 @@
+pub mod Pairs
+pub mod Derived
+pub mod Growing
+pub mod Settled
