@@ -97,6 +97,53 @@ number-one {A} {B} {n} {m} h g =
     let i = h .long in let j = g .long in
     omega arith
 
+-- ── How many there are ──
+module _ {A : Type 0} where
+  pub number-none : (B : A → Type 0) → ((a : A) → ¬ B a) → Number B 0
+  number-none B f = record { list = []; all = λ a h. absurd (f a h); only = λ a o. absurd o; distinct = tt; long = refl }
+
+  pub number-single : (a : A) → Number (λ (x : A). x ≡ a) 1
+  number-single a = record { list = a ∷ []; all = λ x e. inl e; only = λ x o. ⊎-elim (λ e. e) (λ n. absurd n) o; distinct = (λ o. o, tt); long = refl }
+
+  pub number-iff : {B C : A → Type 0} {n : ℕ} → ((a : A) → B a ↔ C a) → Number B n → Number C n
+  number-iff e h = record { list = h .list; all = λ a c. h .all a (e a .1 c); only = λ a o. e a .0 (h .only a o); distinct = h .distinct; long = h .long }
+
+  distinct-append : (xs ys : List A) → Distinct xs → Distinct ys → ((a : A) → Occurs a xs → ¬ Occurs a ys) → Distinct (xs ++ ys)
+  distinct-append [] ys d e f = e
+  distinct-append (x ∷ xs) ys (n, d) e f = (λ o. ⊎-elim n (f x (inl refl)) (occurs-append x xs ys o), distinct-append xs ys d e (λ a o. f a (inr o)))
+
+  -- of two kinds that have nothing in common: the sum
+  pub number-add : {B C : A → Type 0} {n m : ℕ} → Number B n → Number C m → ((a : A) → B a → ¬ C a) → Number (λ (a : A). B a ⊎ C a) (n + m)
+  number-add {n} {m} h g f = record {
+    list = h .list ++ g .list;
+    all = λ a c. ⊎-elim (λ b. occurs-left a (h .list) (g .list) (h .all a b)) (λ c. occurs-right a (h .list) (g .list) (g .all a c)) c;
+    only = λ a o. ⊎-map (h .only a) (g .only a) (occurs-append a (h .list) (g .list) o);
+    distinct = distinct-append (h .list) (g .list) (h .distinct) (g .distinct) (λ a o p. f a (h .only a o) (g .only a p));
+    long = length-append (h .list) (g .list) ∙ ap₂ (λ x y. x + y) (h .long) (g .long);
+  }
+
+  -- of n kinds, no two of which have anything in common, with f i of kind i: the sum, which g gives
+  pub number-sum : (B : ℕ → A → Type 0) (f g : ℕ → ℕ) → g 0 ≡ 0 → ((i : ℕ) → g (suc i) ≡ g i + f i) → ((i j : ℕ) (a : A) → B i a → B j a → i ≡ j)
+      → (n : ℕ) → ((i : ℕ) → i < n → Number (B i) (f i)) → Number (λ (a : A). (i : ℕ) × (i < n) × B i a) (g n)
+  number-sum B f g z s one zero h = subst (λ m. Number (λ (a : A). (i : ℕ) × (i < 0) × B i a) m) (sym z) (number-none _ (λ a (i, r, b). let e : ⊥ = omega arith in e))
+  number-sum B f g z s one (suc n) h =
+      subst (λ m. Number (λ (a : A). (i : ℕ) × (i < suc n) × B i a) m) (sym (s n))
+      (number-iff (λ a. (split a, join a)) (number-add (number-sum B f g z s one n (λ i r. h i (omega arith))) (h n (omega arith)) apart))
+    where
+      apart : (a : A) → (i : ℕ) × (i < n) × B i a → ¬ B n a
+      apart a (i, r, b) c = let e = one i n a b c in omega arith
+
+      split : (a : A) → ((i : ℕ) × (i < n) × B i a) ⊎ B n a → (i : ℕ) × (i < suc n) × B i a
+      split a (inl (i, r, b)) = (i, omega arith, b)
+      split a (inr b) = (n, omega arith, b)
+
+      join : (a : A) → (i : ℕ) × (i < suc n) × B i a → ((i : ℕ) × (i < n) × B i a) ⊎ B n a
+      join a (i, r, b) = go (ℕ-discrete i n)
+        where
+          go : Dec (i ≡ n) → ((i : ℕ) × (i < n) × B i a) ⊎ B n a
+          go (yes e) = inr (subst (λ j. B j a) e b)
+          go (no g) = inl (i, omega arith, b)
+
 -- ── Lists of candidates ──
 unfoldable pub range : ℕ → ℕ → List ℕ
 range lo zero = []

@@ -120,6 +120,9 @@ module _ {s : List ℕ} {f : List (List Bool)} {a : Automaton} {places : List �
       let n = k .automaton .count in let l = k .few in
       inside s (steps P ++ steps R) places (k .placed) (a .count) (numbers P R k) (omega arith)
 
+  pub known-middle : Known s f a places → a .middle < 16
+  known-middle (P, R, k) = let m = k .automaton .middle in let l = k .few in omega arith
+
   pub machine-told : {m : Machine} → ((i j : ℕ) → i < 16 → j < 16 → (bit (getD (m .rows) i 0) j ≡ true) ↔ (cell f i j ≡ true))
       → Gathered (Begins s places 108) (a .count + 1) (m .left)
       → Gathered (Begins s places 114) (a .count + 1) (m .right)
@@ -127,9 +130,10 @@ module _ {s : List ℕ} {f : List (List Bool)} {a : Automaton} {places : List �
       → Gathered (Begins s places 82) (a .count + 1) (m .rightup)
       → Gathered (Begins s places 91) (a .count + 1) (m .brackets)
       → m .last ≡ a .last
+      → ((j : ℕ) → (bit (m .first) j ≡ true) ↔ (j ≤ a .middle))
       → m .second ≡ a .count + 1
       → Machines s f a places m
-  machine-told rows left right leftup rightup brackets last second P R k = record {
+  machine-told {m} rows left right leftup rightup brackets last first second P R k = record {
     few = k .few;
     rows = λ i j p q. let r = rows i j p q in let h = k .automaton .follow i j p q in (λ e. h .0 (r .0 e), λ e. r .1 (h .1 e));
     left = λ j p. step-set P R k toLeft (told 108) refl left j;
@@ -138,6 +142,7 @@ module _ {s : List ℕ} {f : List (List Bool)} {a : Automaton} {places : List �
     fromRight = λ j p. step-set P R k fromRight (told 82) refl rightup j;
     brackets = λ j p. bracket-set P R k brackets j;
     last = λ j. subst (λ w. (bit w j ≡ true) ↔ IsLast P R j) (sym last) (k .automaton .last j);
+    first = λ j p. subst (λ n. (bit (m .first) j ≡ true) ↔ (j ≤ n)) (k .automaton .middle) (first j);
     start = let n = k .automaton .count in omega arith;
   }
 

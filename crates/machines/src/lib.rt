@@ -10,6 +10,7 @@ use automaton::places::places_of_one;
 use bits::square::empty;
 use rows::rows_of;
 use steps::steps_with;
+use steps::up_to;
 use walks::Machine;
 ghost use Rattle.automaton.specs.Compared.{TwoPaths};
 ghost use Rattle.machines.specs.Machines.{Known, Machines, Machined, OnePath, MachinedAlone};
@@ -28,6 +29,7 @@ fn machine(s: &[u8], f: [[bool; 16]; 16], a: Automaton, places: [usize; 16]) -> 
         rightup: steps_with(s, places, n, b'R'),
         brackets: steps_with(s, places, n, b'['),
         last: a.last,
+        first: up_to(a.middle),
         second: n + 1,
     }
 }

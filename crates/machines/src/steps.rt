@@ -1,6 +1,10 @@
-// The steps of one kind as a set.
+// The steps of one kind, and the positions of the first path, as sets.
 use bits::insert;
-ghost use Prim.Native.Nat.{_+_};
+ghost use mathlib.Core.Path.{_≡_};
+ghost use mathlib.Core.Bool.{true};
+ghost use mathlib.Core.Logic.{_↔_};
+ghost use Prim.Native.Nat.{ℕ, _+_, _≤_, _<_};
+ghost use Rattle.bits.specs.Sets.{bit};
 ghost use Rattle.machines.specs.Gathered.{Gathered, Inside, Begins};
 
 // The steps 1 to n that begin with a byte: it stands at their places.
@@ -15,6 +19,20 @@ pub fn steps_with(s: &[u8], places: [usize; 16], n: usize, byte: u8) -> u16
             w = insert(w, i as u16);
         }
         i += 1;
+    }
+    w
+}
+
+// The positions 0 to n.
+pub fn up_to(n: usize) -> u16
+    requires { ⌜ n < 16 ⌝ }
+    ensures { λ r. ⌜ ((j : ℕ) → (bit r j ≡ true) ↔ (j ≤ n)) ⌝ }
+{
+    let mut w = 0;
+    let mut j: usize = 0;
+    while j <= n {
+        w = insert(w, j as u16);
+        j += 1;
     }
     w
 }

@@ -1,5 +1,6 @@
 pub mod Counts
 pub mod Lights
+pub mod Counted
 pub mod Following
 pub mod Shapes
 pub mod Listing

@@ -61,6 +61,10 @@ light-at [] k h l = absurd (omega arith)
 light-at (T ∷ Ts) zero h l = h .0
 light-at (T ∷ Ts) (suc k) h l = light-at Ts k (h .1) (omega arith)
 
-pub tests-light : {s : List ℕ} {T : Test} → Accepts s T → (k : ℕ) → k < length (testsOf T) → Light (test (testsOf T) k)
-unfolding parts
-tests-light {T = T} a k l = light-at (testsOf T) k (light-test T 0 1 (all-occurs _ (testParts T 0 1) .1 (a .light))) l
+module _ {s : List ℕ} {T : Test} (a : Accepts s T) where
+  pub all-light : All Light (testsOf T)
+  unfolding parts
+  all-light = light-test T 0 1 (all-occurs _ (testParts T 0 1) .1 (a .light))
+
+  pub tests-light : (k : ℕ) → k < length (testsOf T) → Light (test (testsOf T) k)
+  tests-light k l = light-at (testsOf T) k all-light l

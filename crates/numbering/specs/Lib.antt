@@ -1,3 +1,4 @@
 pub mod Tests
+pub mod Owned
 pub mod Numbering
 pub mod Walks

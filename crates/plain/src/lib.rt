@@ -1,7 +1,7 @@
 // The plain evaluation of one comparison at every node, in the part of the scratch that is lent for it.
-mod ends;
+pub mod ends;
 mod marks;
-mod ranges;
+pub mod ranges;
 
 use ends::Column;
 use ends::any_hit;
@@ -53,7 +53,7 @@ fn one_if(b: bool) -> usize
 }
 
 // The answer of node `v` becomes `b`.
-fn answer(p: &mut [u16], n: usize, v: usize, b: bool)
+pub fn answer(p: &mut [u16], n: usize, v: usize, b: bool)
     requires { ⌜ Space n (now p) × (v < n) ⌝ }
     ensures { λ _. ⌜ Wrote ((cell n ANSWER v, one b) ∷ []) (now (p .entry)) (now (p .exit)) ⌝ }
 {

@@ -77,7 +77,7 @@ fn under(a: Range, b: Range) -> bool
 }
 
 // Whether the sign stands between some rank of the first range and some rank of the second. Ranges tell nothing of equal ranks: `=` is not asked here.
-fn ordered(a: Range, b: Range, o: Operator) -> bool
+pub fn ordered(a: Range, b: Range, o: Operator) -> bool
     requires { ⌜ (a .least < 65536) × (b .least < 65536) ⌝ }
     ensures { λ r. ⌜ (r ≡ true) ↔ Across o a b ⌝ }
 {

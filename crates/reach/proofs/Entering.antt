@@ -37,7 +37,7 @@ pub record Fresh (was w all new : ℕ) : Type 0 where
   pub fits : new < 65_536
 
 module _ {was w all new : ℕ} (f : Fresh was w all new) where
-  new-parts : (j : ℕ) → bit new j ≡ true → (bit w j ≡ true) × (bit was j ≡ false)
+  pub new-parts : (j : ℕ) → bit new j ≡ true → (bit w j ≡ true) × (bit was j ≡ false)
   new-parts j e = let (a, b) = and-parts (bit w j) (not (bit was j)) (sym (f .without j) ∙ e) in (a, not-true (bit was j) b)
 
   fresh-was : (j : ℕ) → bit was j ≡ true → bit all j ≡ true

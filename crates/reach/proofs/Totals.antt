@@ -30,7 +30,7 @@ total-room p n u (suc v) h l = ⊎-elim
     (eq-or-lt-of-le (le-of-suc-le-suc h))
 
 module _ (p p′ : List ℕ) (n u : ℕ) (same : (x : ℕ) → x < n → x ≢ u → word p′ n SEEN x ≡ word p n SEEN x) where
-  total-same : (v : ℕ) → v ≤ n → v ≤ u → total p′ n v ≡ total p n v
+  pub total-same : (v : ℕ) → v ≤ n → v ≤ u → total p′ n v ≡ total p n v
   unfolding total
   total-same zero h l = refl
   total-same (suc v) h l =

@@ -17,7 +17,7 @@ ghost use Rattle.walks.specs.Part.{Space};
 ghost use Rattle.reach.specs.Work.{Work, Added, Climbs, Onward, After};
 
 // The set `w` if `v` stands in column `c` of node `u`, and else the empty set.
-fn if_linked(p: &[u16], n: usize, c: usize, u: usize, v: usize, w: u16) -> u16
+pub fn if_linked(p: &[u16], n: usize, c: usize, u: usize, v: usize, w: u16) -> u16
     requires { ⌜ (c < COLUMNS) × (u < n) × Room n (now p) ⌝ }
     ensures { λ r. ⌜ ((j : ℕ) → (bit r j ≡ true) ↔ ((bit w j ≡ true) × (word (now (p .entry)) n c u ≡ v))) ⌝ }
 {

@@ -1,6 +1,6 @@
 // Where a walk comes to: a work list over nodes and sets of positions, in a comparison's part of the scratch.
-mod expand;
-mod list;
+pub mod expand;
+pub mod list;
 
 use bits::insert;
 use expand::expand;

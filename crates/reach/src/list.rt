@@ -35,7 +35,7 @@ pub fn clear(p: &mut [u16], n: usize)
 }
 
 // Entry `len`: node `u` and the positions that are new there. `seen` are all that are seen there now.
-fn enter(p: &mut [u16], n: usize, u: usize, seen: u16, new: u16, len: usize)
+pub fn enter(p: &mut [u16], n: usize, u: usize, seen: u16, new: u16, len: usize)
     requires { ⌜ Space n (now p) × (u < n) × (len < 16 * n) ⌝ }
     ensures { λ _. ⌜ Wrote (entered n u seen new len) (now (p .entry)) (now (p .exit)) ⌝ }
 {

@@ -55,12 +55,12 @@ same-top t wf x x′ y n d e = go (ancestors t wf d e)
     go (inl (k, i, r)) = sym (down-zero t wf (omega arith) r)
     go (inr (k, i, r)) = down-zero t wf (omega arith) r
 
-down-inside : (t : Tree) (x y n : ℕ) → 0 < n → Down t x y n → y < t .size
+pub down-inside : (t : Tree) (x y n : ℕ) → 0 < n → Down t x y n → y < t .size
 down-inside t x y n r Down.here = absurd (omega arith)
 down-inside t x y n r (Down.deeper d c) = c .inside
 
 module _ (P R : XPath) where
-  follows-small : (i j : ℕ) → Follows P R i j → i ≤ second P R
+  pub follows-small : (i j : ℕ) → Follows P R i j → i ≤ second P R
   follows-small i j f = go (follows-iff P R i j .0 f)
     where
       go : RightAfter P R i j → i ≤ second P R
@@ -78,7 +78,7 @@ module _ (P R : XPath) where
       go (inr (inl (e, h))) = omega arith
       go (inr (inr h)) = let k = stops-in R (suc (size P)) i h in omega arith
 
-  ends-small : (t : Tree) (i v j w : ℕ) → IsLast P R j → Comes P R t i v j w → i ≤ second P R
+  pub ends-small : (t : Tree) (i v j w : ℕ) → IsLast P R j → Comes P R t i v j w → i ≤ second P R
   ends-small t i v j w l Comes.here = last-small i l
   ends-small t i v j w l (Comes.on {j = k} s f n m c) = follows-small i k f
 

@@ -29,6 +29,8 @@ pub record IsMachine (P R : XPath) (m : Machine) : Type 0 where
   pub fromRight : (j : ℕ) → j < 16 → (bit (m .rightup) j ≡ true) ↔ IsStep P R j fromRight
   pub brackets : (j : ℕ) → j < 16 → (bit (m .brackets) j ≡ true) ↔ ((T : Test) × IsStep P R j (stay T))
   pub last : (j : ℕ) → (bit (m .last) j ≡ true) ↔ IsLast P R j
+  -- the positions of the first path: its start 0 and the numbers of its steps
+  pub first : (j : ℕ) → j < 16 → (bit (m .first) j ≡ true) ↔ (j ≤ size P)
   pub start : m .second ≡ second P R
 
 -- the links of the tree t, the ranks of its values, and where the bracketed tests hold

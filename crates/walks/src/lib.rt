@@ -1,6 +1,6 @@
 // The machine of a comparison: its automaton as words, and what it can do in one step.
 
-// Row i of the follow square is the set of the positions that follow i. Each step is in one of the five sets that say what it is; `second` is the start of the second path.
+// Row i of the follow square is the set of the positions that follow i. Each step is in one of the five sets that say what it is; `first` is the set of the positions of the first path, its start among them, and `second` is the start of the second path.
 pub struct Machine {
     pub rows: [u16; 16],
     pub left: u16,
@@ -9,5 +9,6 @@ pub struct Machine {
     pub rightup: u16,
     pub brackets: u16,
     pub last: u16,
+    pub first: u16,
     pub second: usize,
 }

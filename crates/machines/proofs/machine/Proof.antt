@@ -1,6 +1,6 @@
 -- `machines::machine` meets its contract.
 use mathlib.Core.Path.{refl}
-use Rattle.machines.proofs.Machines.{known-inside, machine-told}
+use Rattle.machines.proofs.Machines.{known-inside, known-middle, machine-told}
 use borrow.Author.Needs.{needs}
 use Rattle.machines.proofs.machine.Statement.{statement}
 use Rattle.machines.proofs.machine.Tie as tie
@@ -23,11 +23,14 @@ steps-with-requires-4 c κs = known-inside (c .before .before .before .before .b
 steps-with-requires-5 : tie.Need-steps-with-requires-5
 steps-with-requires-5 c κs = known-inside (c .before .before .before .before .before .before .pre)
 
-add-t12 : tie.Need-add-t12
-add-t12 c = search needs
+up-to-requires : tie.Need-up-to-requires
+up-to-requires c κs = known-middle (c .before .before .before .before .before .before .before .pre)
+
+add-t13 : tie.Need-add-t13
+add-t13 c = search needs
 
 returns : tie.Need-returns
-returns c = machine-told (c .before .before .before .before .before .rows-of .ensures) (c .before .before .before .before .steps-with .ensures) (c .before .before .before .steps-with2 .ensures) (c .before .before .steps-with3 .ensures) (c .before .steps-with4 .ensures) (c .steps-with5 .ensures) refl refl
+returns c = machine-told (c .before .before .before .before .before .before .rows-of .ensures) (c .before .before .before .before .before .steps-with .ensures) (c .before .before .before .before .steps-with2 .ensures) (c .before .before .before .steps-with3 .ensures) (c .before .before .steps-with4 .ensures) (c .before .steps-with5 .ensures) refl (c .up-to .ensures) refl
 
 pub machine-spec : {M : Type 1} → statement M
 machine-spec =
@@ -39,5 +42,6 @@ machine-spec =
     steps-with-requires-3
     steps-with-requires-4
     steps-with-requires-5
-    add-t12
+    up-to-requires
+    add-t13
     returns)

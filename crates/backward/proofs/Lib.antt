@@ -1,0 +1,13 @@
+pub mod Linked
+pub mod Preceding
+pub mod Filling
+pub mod Joining
+pub mod Retracing
+pub mod Spreading
+pub mod Telling
+pub mod Ending
+pub mod Hitting
+pub mod Noting
+pub mod Seeding
+pub mod Sweeping
+pub mod Ranking

@@ -1,0 +1,201 @@
+-- The sweeps by rising and by falling rank, and the ranges that they give.
+use Prim.Native.Nat.{ℕ, suc, _+_, _-_, _*_, _≤_, _<_}
+use mathlib.Core.Path.{_≡_, sym, ap, _∙_, subst}
+use mathlib.Core.Logic.{_⊎_, inl, inr, ⊎-elim, _↔_, _≢_, Iff·trans, Iff·symm}
+use mathlib.Core.List.{List}
+use native.Mathlib.Decide.{decLt}
+use native.Mathlib.Nat.{mul-le-mul-right}
+use native.Mathlib.Omega.{arith}
+use lib.ListN.{getD}
+use Rattle.xpath.specs.Syntax.{Op, eq}
+use Rattle.links.specs.Table.{RANK, cell, word}
+use Rattle.links.specs.Links.{Points}
+use Rattle.parts.specs.Kinds.{operator}
+use Rattle.parts.specs.declared.kinds.Operator.{Operator}
+use Rattle.walks.specs.declared.Machine.{Machine}
+use Rattle.walks.specs.Walks.{Stops, Meets}
+use Rattle.skeletons.specs.Skeletons.{FIRST, NEXT, MARKED, Least, Buckets}
+use Rattle.skeletons.specs.Shape.{Within}
+use Rattle.plain.specs.declared.ranges.Range.{Range}
+use Rattle.plain.specs.Plain.{Answered, Small}
+use Rattle.plain.specs.Ends.{Held}
+use Rattle.plain.specs.Ranges.{Ranged, Across}
+use Rattle.plain.proofs.Ranged.{across-some}
+use Rattle.plain.proofs.Steady.{held-then, held-word, held-small}
+use Rattle.plain.proofs.Walks.{stops-same, meets-same}
+use Rattle.backward.specs.Backward.{LinkedBothWays, Listed}
+use Rattle.backward.specs.Sweeps.{LEAST, ABOVE, rangeOf, Seeded, Extreme, Spared, Blank, Blanked, Risen, Fallen, Ranges}
+use Rattle.backward.proofs.Linked.{linked-same}
+use Rattle.backward.proofs.Sweeping.{extreme-as, Sweeping, sweeping-none, sweeping-step, sweeping-all}
+
+-- ── By rising rank: those of the ranks below r are done ──
+abbrev pub Rising : Machine → ℕ → ℕ → ℕ → List ℕ → List ℕ → Type 0
+Rising m n r len p₀ p = Sweeping (λ a b. a ≤ b) 65_535 (word p₀ n RANK) m n LEAST (λ w. word p₀ n RANK w < r) len p₀ p
+
+pub rising-none : {m : Machine} {n : ℕ} {p : List ℕ} → Blank n LEAST 65_535 p → LinkedBothWays n p → Rising m n 0 0 p p
+rising-none b linked = sweeping-none b linked (λ w l d. absurd (omega arith))
+
+pub rising-step : {m : Machine} {n r len len′ : ℕ} {p₀ p p′ : List ℕ} → m .second < 16 → Listed n 0 p₀ → Rising m n r len p₀ p → Seeded m n (λ u. word p n RANK u ≡ r) LEAST r len len′ p p′
+    → Rising m n (r + 1) len′ p₀ p′
+rising-step {m} {n} {r} {p₀ = p₀} {p = p} small empty s g =
+    sweeping-step small empty s g (λ w l e. sym (rank w l) ∙ e) (omega arith) (λ w u l h d e. let z = rank u h in omega arith) both
+  where
+    rank : (w : ℕ) → w < n → word p n RANK w ≡ word p₀ n RANK w
+    rank w l = s .added .front (cell n RANK w) (omega arith)
+
+    part : (w : ℕ) → w < n → word p₀ n RANK w < r + 1 → Dec (word p₀ n RANK w < r) → (word p₀ n RANK w < r) ⊎ (word p n RANK w ≡ r)
+    part w l h (yes k) = inl k
+    part w l h (no k) = let z = rank w l in inr (omega arith)
+
+    both : (w : ℕ) → w < n → ((word p₀ n RANK w < r) ⊎ (word p n RANK w ≡ r)) ↔ (word p₀ n RANK w < r + 1)
+    both w l = (⊎-elim (λ k. omega arith) (λ e. let z = rank w l in omega arith), λ h. part w l h (decLt (word p₀ n RANK w) r))
+
+pub rising-all : {m : Machine} {n r len : ℕ} {p₀ p : List ℕ} → Small n p₀ → Rising m n r len p₀ p → n ≤ r → Risen m n p₀ p
+rising-all small s l = sweeping-all s (λ w h. let k = small w h in omega arith)
+
+-- ── By falling rank: those from r on are done ──
+abbrev pub Falling : Machine → ℕ → ℕ → ℕ → List ℕ → List ℕ → Type 0
+Falling m n r len p₀ p = Sweeping (λ a b. b ≤ a) 0 (λ w. suc (word p₀ n RANK w)) m n ABOVE (λ w. r ≤ word p₀ n RANK w) len p₀ p
+
+pub falling-none : {m : Machine} {n : ℕ} {p : List ℕ} → Small n p → Blank n ABOVE 0 p → LinkedBothWays n p → Falling m n n 0 p p
+falling-none small b linked = sweeping-none b linked (λ w l d. let k = small w l in absurd (omega arith))
+
+pub falling-step : {m : Machine} {n r len len′ : ℕ} {p₀ p p′ : List ℕ} → m .second < 16 → Listed n 0 p₀ → Falling m n r len p₀ p → 0 < r → Seeded m n (λ u. word p n RANK u ≡ r - 1) ABOVE r len len′ p p′
+    → Falling m n (r - 1) len′ p₀ p′
+falling-step {m} {n} {r} {p₀ = p₀} {p = p} small empty s some g =
+    sweeping-step small empty s g (λ w l e. let z = rank w l in omega arith) (omega arith) (λ w u l h d e. let z = rank u h in omega arith) both
+  where
+    rank : (w : ℕ) → w < n → word p n RANK w ≡ word p₀ n RANK w
+    rank w l = s .added .front (cell n RANK w) (omega arith)
+
+    part : (w : ℕ) → w < n → r - 1 ≤ word p₀ n RANK w → Dec (word p₀ n RANK w < r) → (r ≤ word p₀ n RANK w) ⊎ (word p n RANK w ≡ r - 1)
+    part w l h (yes k) = let z = rank w l in inr (omega arith)
+    part w l h (no k) = inl (omega arith)
+
+    both : (w : ℕ) → w < n → ((r ≤ word p₀ n RANK w) ⊎ (word p n RANK w ≡ r - 1)) ↔ (r - 1 ≤ word p₀ n RANK w)
+    both w l = (⊎-elim (λ k. omega arith) (λ e. let z = rank w l in omega arith), λ h. part w l h (decLt (word p₀ n RANK w) r))
+
+pub falling-all : {m : Machine} {n r len : ℕ} {p₀ p : List ℕ} → Falling m n r len p₀ p → r ≤ 0 → Fallen m n p₀ p
+falling-all s l = sweeping-all s (λ w h. omega arith)
+
+-- ── What the sweeps leave ──
+spared-held : {n c : ℕ} {p q : List ℕ} → Spared n c p q → Held n p q
+spared-held s = record { long = s .long; middle = λ k l h. s .front k h }
+
+-- the same ranks and buckets
+module _ {n : ℕ} {p q : List ℕ} (rank : (w : ℕ) → w < n → word q n RANK w ≡ word p n RANK w) where
+  least-to : {v r w : ℕ} → Least n p v r w → Least n q v r w
+  least-to {w = w} l = record { inside = l .inside; from = l .from; ranked = rank w (l .inside) ∙ l .ranked; least = λ u a b e. l .least u a b (sym (rank u b) ∙ e) }
+
+  least-from : {v r w : ℕ} → Least n q v r w → Least n p v r w
+  least-from {w = w} l = record { inside = l .inside; from = l .from; ranked = sym (rank w (l .inside)) ∙ l .ranked; least = λ u a b e. l .least u a b (rank u b ∙ e) }
+
+  points-to : {v r w : ℕ} → Points (Least n p v r) w → Points (Least n q v r) w
+  points-to (inl l) = inl (least-to l)
+  points-to (inr (e, none)) = inr (e, λ x l. none x (least-from l))
+
+  buckets-kept : ((r : ℕ) → r < n → word q n FIRST r ≡ word p n FIRST r) → ((v : ℕ) → v < n → word q n NEXT v ≡ word p n NEXT v) → Buckets n p → Buckets n q
+  buckets-kept first next b =
+      record {
+        first = λ r l. subst (λ (y : ℕ). Points (Least n q 0 r) y) (sym (first r l)) (points-to (b .first r l));
+        next = λ v l.
+            subst (λ (y : ℕ). Points (Least n q (suc v) (word q n RANK v)) y) (sym (next v l))
+            (subst (λ (y : ℕ). Points (Least n q (suc v) y) (word p n NEXT v)) (sym (rank v l)) (points-to (b .next v l)));
+      }
+
+pub sweeping-buckets : {Order : ℕ → ℕ → Type 0} {blank : ℕ} {key : ℕ → ℕ} {m : Machine} {n : ℕ} (c : ℕ) {D : ℕ → Type 0} {len : ℕ} {p₀ p : List ℕ} → LEAST ≤ c
+    → Sweeping Order blank key m n c D len p₀ p → Buckets n p₀ → Buckets n p
+sweeping-buckets {n = n} c l s =
+    let low : LEAST * n ≤ c * n = mul-le-mul-right n l in
+    buckets-kept
+    (λ w h. s .added .front (cell n RANK w) (omega arith))
+    (λ w h. s .aside (cell n FIRST w) (omega arith) (omega arith))
+    (λ w h. s .aside (cell n NEXT w) (omega arith) (omega arith))
+
+spared-buckets : {n : ℕ} (c : ℕ) {p q : List ℕ} → LEAST ≤ c → Spared n c p q → Buckets n p → Buckets n q
+spared-buckets {n} c l s =
+    let low : LEAST * n ≤ c * n = mul-le-mul-right n l in
+    buckets-kept
+    (λ w h. s .front (cell n RANK w) (omega arith))
+    (λ w h. s .aside (cell n FIRST w) (omega arith) (omega arith))
+    (λ w h. s .aside (cell n NEXT w) (omega arith) (omega arith))
+
+-- what a sweep asks of the words before its columns
+abbrev pub Ready : ℕ → List ℕ → Type 0
+Ready n p = LinkedBothWays n p × Buckets n p × Small n p
+
+pub spared-ready : {n : ℕ} (c : ℕ) {p q : List ℕ} → LEAST ≤ c → Spared n c p q → Ready n p → Ready n q
+spared-ready c l s (linked, buckets, small) = (linked-same (λ k l h. s .front k h) linked, spared-buckets c l s buckets, held-small (spared-held s) small)
+
+-- ── The ranges ──
+ranged-of : {n : ℕ} {E : ℕ → Type 0} {rank : ℕ → ℕ} (a : Range) → Extreme (λ x y. x ≤ y) 65_535 n rank E (a .least) → Extreme (λ x y. y ≤ x) 0 n (λ w. suc (rank w)) E (a .above) → Ranged n E rank a
+ranged-of {n} {E} {rank} a f g =
+    record {
+      low = λ w l e. ⊎-elim (λ (z, none). absurd (none w l e)) (λ (z, first). first w l e) f;
+      least = ⊎-elim (λ (z, none). inl z) (λ (z, first). inr z) f;
+      high = λ w l e. ⊎-elim (λ (z, none). absurd (none w l e)) (λ (z, first). first w l e) g;
+      greatest = ⊎-elim (λ (z, none). inl z) (λ (z, first). inr z) g;
+    }
+
+-- the same keys
+extreme-keys : (Order : ℕ → ℕ → Type 0) (blank n : ℕ) (key key′ : ℕ → ℕ) {D : ℕ → Type 0} (x : ℕ) → ((w : ℕ) → w < n → key′ w ≡ key w) → Extreme Order blank n key D x → Extreme Order blank n key′ D x
+extreme-keys Order blank n key key′ x same (inl e) = inl e
+extreme-keys Order blank n key key′ x same (inr ((w, l, d, e), first)) = inr ((w, l, d, same w l ∙ e), λ u h k. subst (λ y. Order x y) (sym (same u h)) (first u h k))
+
+module _ {m : Machine} {n : ℕ} {p p₁ p₂ p₃ : List ℕ} (a : Blanked n LEAST 65_535 p p₁) (b : Risen m n p₁ p₂) (c : Blanked n ABOVE 0 p₂ p₃) where
+  -- what the second sweep asks
+  pub ready-again : Ready n p → Ready n p₃
+  ready-again r = spared-ready ABOVE (omega arith) (c .spared) (spared-ready LEAST (omega arith) (b .spared) (spared-ready LEAST (omega arith) (a .spared) r))
+
+module _ {m : Machine} {n : ℕ} {p p₁ p₂ p₃ p₄ : List ℕ} (a : Blanked n LEAST 65_535 p p₁) (b : Risen m n p₁ p₂) (c : Blanked n ABOVE 0 p₂ p₃) (d : Fallen m n p₃ p₄) where
+  held₁ : Held n p p₁
+  held₁ = spared-held (a .spared)
+
+  held₃ : Held n p p₃
+  held₃ = held-then (held-then held₁ (spared-held (b .spared))) (spared-held (c .spared))
+
+  -- the least ranks stay while the greatest are found
+  kept : (k : ℕ) → LEAST * n ≤ k → k < ABOVE * n → getD p₄ k 0 ≡ getD p₂ k 0
+  kept k l h = d .spared .aside k (omega arith) h ∙ c .spared .aside k (omega arith) h
+
+  module _ (i v : ℕ) (l : v < n) where
+    least : (x y : ℕ) → y ≡ x → Extreme (λ a b. a ≤ b) 65_535 n (word p₁ n RANK) (λ w. Stops m n p₁ i v w) x → Extreme (λ a b. a ≤ b) 65_535 n (word p n RANK) (λ w. Stops m n p i v w) y
+    least x y e f =
+        subst (λ z. Extreme (λ a b. a ≤ b) 65_535 n (word p n RANK) (λ w. Stops m n p i v w) z) (sym e)
+        (extreme-keys (λ a b. a ≤ b) 65_535 n (word p₁ n RANK) (word p n RANK) x (λ w r. sym (held-word held₁ RANK w (omega arith) (omega arith) r))
+        (extreme-as (λ a b. a ≤ b) 65_535 n (word p₁ n RANK) x (λ w r. Iff·symm (stops-same held₁ l)) f))
+
+    above : (x : ℕ) → Extreme (λ a b. b ≤ a) 0 n (λ w. suc (word p₃ n RANK w)) (λ w. Stops m n p₃ i v w) x → Extreme (λ a b. b ≤ a) 0 n (λ w. suc (word p n RANK w)) (λ w. Stops m n p i v w) x
+    above x f =
+        extreme-keys (λ a b. b ≤ a) 0 n (λ w. suc (word p₃ n RANK w)) (λ w. suc (word p n RANK w)) x (λ w r. ap suc (sym (held-word held₃ RANK w (omega arith) (omega arith) r)))
+        (extreme-as (λ a b. b ≤ a) 0 n (λ w. suc (word p₃ n RANK w)) x (λ w r. Iff·symm (stops-same held₃ l)) f)
+
+  pub ranges-all : Ranges m n p p₄
+  ranges-all =
+      record {
+        held = held-then held₃ (spared-held (d .spared));
+        first = λ v l. ranged-of (rangeOf p₄ n 0 v) (least 0 v l _ _ (kept (cell n LEAST v) (omega arith) (omega arith)) (b .first v l)) (above 0 v l _ (d .first v l));
+        second = λ v l. ranged-of (rangeOf p₄ n 1 v) (least (m .second) v l _ _ (kept (cell n (LEAST + 1) v) (omega arith) (omega arith)) (b .second v l)) (above (m .second) v l _ (d .second v l));
+      }
+
+-- ── The answers ──
+-- the buckets stand behind what a walk goes by
+pub bucketed-held : {n : ℕ} {p q : List ℕ} → Within n FIRST MARKED p q → Held n p q
+bucketed-held w = record { long = w .long; middle = λ k l h. w .front k (omega arith) }
+
+-- p₁ is the part with the buckets, and p₂ the part with the ranges
+pub order-answered : {m : Machine} {n : ℕ} {o : Operator} {p p₁ p₂ p₃ : List ℕ} → n ≤ 4096 → Small n p → Within n FIRST MARKED p p₁ → Ranges m n p₁ p₂
+    → Answered n (λ v. Across o (rangeOf p₂ n 0 v) (rangeOf p₂ n 1 v)) p₂ p₃ → (q : Op) → q ≢ eq → o ≡ operator q → Answered n (Meets m n p q) p p₃
+order-answered {m} {n} {o} {p} {p₁} {p₂} {p₃} few small w g a q d e =
+    record {
+      long = a .long ∙ g .held .long ∙ w .long;
+      answers = λ v l. ⊎-elim (λ (s, z). inl (tells v l .0 s, z)) (λ (s, z). inr (λ h. s (tells v l .1 h), z)) (a .answers v l);
+    }
+  where
+    held : Held n p p₁
+    held = bucketed-held w
+
+    tells : (v : ℕ) → v < n → Across o (rangeOf p₂ n 0 v) (rangeOf p₂ n 1 v) ↔ Meets m n p q v
+    tells v l =
+        subst (λ x. Across x (rangeOf p₂ n 0 v) (rangeOf p₂ n 1 v) ↔ Meets m n p q v) (sym e)
+        (Iff·trans (across-some few (held-small held small) (g .first v l) (g .second v l) q d) (Iff·symm (meets-same held q v l)))

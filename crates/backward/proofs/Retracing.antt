@@ -1,0 +1,91 @@
+-- The additions for one node are where the steps to it come from.
+use Prim.Native.Nat.{ℕ, _<_}
+use mathlib.Core.Path.{_≡_, sym, ap, _∙_, subst}
+use mathlib.Core.Bool.{true}
+use mathlib.Core.Logic.{_⊎_, inl, inr, ⊎-elim, ⊎-map, _↔_}
+use mathlib.Core.List.{List}
+use lib.ListN.{getD}
+use Rattle.bits.specs.Sets.{bit, or}
+use Rattle.links.specs.Table.{LEFT, RIGHT, PARENT, word}
+use Rattle.walks.specs.declared.Machine.{Machine}
+use Rattle.walks.specs.Part.{STAYS}
+use Rattle.walks.specs.Walks.{Leads, left, right, fromLeft, fromRight, stays}
+use Rattle.reach.specs.Work.{At}
+use Rattle.matrices.proofs.Members.{or-cases, or-left, or-right}
+use Rattle.backward.specs.Backward.{LinkedBothWays, Sources, Descends, Joined, Into}
+use Rattle.backward.proofs.Joining.{joined-then, joined-as}
+
+-- the steps down are those to a left child and those to a right child
+pub descends : (m : Machine) (n : ℕ) (p : List ℕ) (v u a b r : ℕ)
+    → ((j : ℕ) → (bit a j ≡ true) ↔ ((bit (m .left) j ≡ true) × (word p n LEFT v ≡ u)))
+    → ((j : ℕ) → (bit b j ≡ true) ↔ ((bit (m .right) j ≡ true) × (word p n RIGHT v ≡ u)))
+    → ((j : ℕ) → bit r j ≡ or (bit a j) (bit b j))
+    → (j : ℕ) → (bit r j ≡ true) ↔ Descends m n p v u j
+descends m n p v u a b r f g union j = (
+  λ e. ⊎-map (f j .0) (g j .0) (or-cases (bit a j) (bit b j) (sym (union j) ∙ e)),
+  ⊎-elim (λ x. union j ∙ or-left (bit a j) (bit b j) (f j .1 x)) (λ x. union j ∙ or-right (bit a j) (bit b j) (g j .1 x)),
+)
+
+-- the nodes next to u, and the positions there that come to a position of s at u: by a bracketed test, by a step up from the left child or from the right child, and by a step down from the parent
+pub record Ways (m : Machine) (n : ℕ) (p : List ℕ) (u s l r v here fromL fromR fromUp : ℕ) : Type 0 where
+  pub left : l ≡ word p n LEFT u
+  pub right : r ≡ word p n RIGHT u
+  pub parent : v ≡ word p n PARENT u
+  pub brackets : ℕ
+  pub down : ℕ
+  pub held : brackets ≡ word p n STAYS u
+  pub downs : v < n → (j : ℕ) → (bit down j ≡ true) ↔ Descends m n p v u j
+  pub stay : (i : ℕ) → i < 16 → (bit here i ≡ true) ↔ Sources (m .rows) s brackets i
+  pub byLeft : (i : ℕ) → i < 16 → (bit fromL i ≡ true) ↔ Sources (m .rows) s (m .leftup) i
+  pub byRight : (i : ℕ) → i < 16 → (bit fromR i ≡ true) ↔ Sources (m .rows) s (m .rightup) i
+  pub byParent : (i : ℕ) → i < 16 → (bit fromUp i ≡ true) ↔ Sources (m .rows) s down i
+
+module _ {m : Machine} {n : ℕ} {p : List ℕ} {u s l r v here fromL fromR fromUp : ℕ} (linked : LinkedBothWays n p) (inside : u < n)
+    (w : Ways m n p u s l r v here fromL fromR fromUp) where
+  Next : ℕ → ℕ → Type 0
+  Next x i = ((At u here x i ⊎ At l fromL x i) ⊎ At r fromR x i) ⊎ At v fromUp x i
+
+  comes : (x i : ℕ) → x < n → i < 16 → Next x i → Into m n p u s x i
+  unfolding Next
+  comes x i h k (inl (inl (inl (e, b)))) =
+      let (j, q, f, g, t) = w .stay i k .0 b in
+      (j, q, f, t, stays (ap (λ (y : ℕ). bit y j) (ap (λ (y : ℕ). word p n STAYS y) e ∙ sym (w .held)) ∙ g) e)
+  comes x i h k (inl (inl (inr (e, b)))) =
+      let (j, q, f, g, t) = w .byLeft i k .0 b in let z : word p n LEFT u ≡ x = sym (w .left) ∙ sym e in
+      (j, q, f, t, fromLeft g (linked .left u x inside h z) inside z)
+  comes x i h k (inl (inr (e, b))) =
+      let (j, q, f, g, t) = w .byRight i k .0 b in let z : word p n RIGHT u ≡ x = sym (w .right) ∙ sym e in
+      (j, q, f, t, fromRight g (linked .right u x inside h z) inside z)
+  comes x i h k (inr (e, b)) =
+      let (j, q, f, g, t) = w .byParent i k .0 b in (
+        j,
+        q,
+        f,
+        t,
+        ⊎-elim
+            (λ (a, c). left a (ap (λ (y : ℕ). word p n LEFT y) e ∙ c) inside)
+            (λ (a, c). right a (ap (λ (y : ℕ). word p n RIGHT y) e ∙ c) inside)
+            (w .downs (subst (λ (y : ℕ). y < n) e h) j .0 g),
+      )
+
+  -- by a step down from the parent x
+  descend : (x i j : ℕ) → x < n → i < 16 → j < 16 → bit s j ≡ true → bit (getD (m .rows) i 0) j ≡ true → word p n PARENT u ≡ x → Descends m n p x u j → At v fromUp x i
+  descend x i j h k q f t e d =
+      let z : x ≡ v = sym (w .parent ∙ e) in
+      (z, w .byParent i k .1 (j, q, f, w .downs (subst (λ (y : ℕ). y < n) z h) j .1 (subst (λ (y : ℕ). Descends m n p y u j) z d), t))
+
+  leads : (x i j : ℕ) → x < n → i < 16 → j < 16 → bit s j ≡ true → bit (getD (m .rows) i 0) j ≡ true → Leads m n p x j u → Next x i
+  unfolding Next
+  leads x i j h k q f t (left b e o) = inr (descend x i j h k q f t (linked .left x u h inside e) (inl (b, e)))
+  leads x i j h k q f t (right b e o) = inr (descend x i j h k q f t (linked .right x u h inside e) (inr (b, e)))
+  leads x i j h k q f t (fromLeft b e o c) = inl (inl (inr (sym (w .left ∙ c), w .byLeft i k .1 (j, q, f, b, t))))
+  leads x i j h k q f t (fromRight b e o c) = inl (inr (sym (w .right ∙ c), w .byRight i k .1 (j, q, f, b, t)))
+  leads x i j h k q f t (stays b e) =
+      inl (inl (inl (e, w .stay i k .1 (j, q, f, ap (λ (y : ℕ). bit y j) (w .held ∙ ap (λ (y : ℕ). word p n STAYS y) (sym e)) ∙ b, t))))
+
+  pub joined-into : {i₀ i₁ i₂ i₃ i₄ : ℕ} {p₁ p₂ p₃ p₄ : List ℕ} → Joined (At u here) n i₀ i₁ p p₁ → Joined (At l fromL) n i₁ i₂ p₁ p₂
+      → Joined (At r fromR) n i₂ i₃ p₂ p₃ → Joined (At v fromUp) n i₃ i₄ p₃ p₄ → Joined (Into m n p u s) n i₀ i₄ p p₄
+  unfolding Next
+  joined-into a b c d =
+      let g = joined-then (joined-then (joined-then a b) c) d in
+      joined-as (λ x i h k y. inr (comes x i h k y)) (λ x i h k (j, q, f, t, y). g .added .seen x i h k .1 (inr (leads x i j h k q f t y))) g

@@ -1,0 +1,3 @@
+pub mod Backward
+pub mod Constants
+pub mod Sweeps

@@ -1,0 +1,50 @@
+// A constant: backwards from the hits.
+use crate::spread::spread;
+use bits::has;
+use links::table::get;
+use plain::answer;
+use plain::ends::Column;
+use walks::Machine;
+ghost use Prim.Native.Nat.{ℕ, _<_};
+ghost use Rattle.plain.specs.Plain.{Answered};
+ghost use Rattle.reach.specs.Work.{Seen};
+ghost use Rattle.walks.specs.Part.{Space};
+ghost use Rattle.backward.specs.Backward.{LinkedBothWays, Listed, Closed, Joined, Ends};
+ghost use Rattle.backward.specs.Constants.{IsHit, HitAt};
+
+// What ends at node `w`, if that is a hit.
+fn spread_hit(p: &mut [u16], n: usize, m: Machine, w: usize, len: usize) -> usize
+    requires { ⌜ Listed n len (now p) × LinkedBothWays n (now p) × Closed m n (now p) × (w < n) ⌝ }
+    ensures { λ r. ⌜ Joined (Ends m n (now (p .entry)) (HitAt (now (p .entry)) n w)) n len r (now (p .entry)) (now (p .exit)) ⌝ }
+{
+    if get(p, n, Column::HIT, w) == 1 {
+        return spread(p, n, m, w, m.last, len);
+    }
+    len
+}
+
+// What ends at a hit.
+pub fn spread_hits(p: &mut [u16], n: usize, m: Machine)
+    requires { ⌜ Listed n 0 (now p) × LinkedBothWays n (now p) ⌝ }
+    ensures { λ _. ⌜ ((len : ℕ) × Joined (Ends m n (now (p .entry)) (IsHit (now (p .entry)) n)) n 0 len (now (p .entry)) (now (p .exit))) ⌝ }
+{
+    let mut len = 0;
+    let mut w = 0;
+    while w < n {
+        len = spread_hit(p, n, m, w, len);
+        w += 1;
+    }
+}
+
+// The answer at each node: whether the first path's start is seen there.
+pub fn answer_seen(p: &mut [u16], n: usize)
+    requires { ⌜ Space n (now p) ⌝ }
+    ensures { λ _. ⌜ Answered n (λ v. Seen (now (p .entry)) n v 0) (now (p .entry)) (now (p .exit)) ⌝ }
+{
+    let mut v = 0;
+    while v < n {
+        let seen = get(p, n, Column::SEEN, v);
+        answer(p, n, v, has(seen as u16, 0));
+        v += 1;
+    }
+}

@@ -1,0 +1,51 @@
+// The snippet evaluation's way to constants and to the signs other than =: backwards from the ends, so that each position is visited once at each node.
+mod columns;
+mod constants;
+pub mod fill;
+mod list;
+mod notes;
+mod order;
+mod predecessors;
+mod retrace;
+mod seeds;
+pub mod spread;
+mod sweeps;
+
+use constants::answer_seen;
+use constants::spread_hits;
+use fill::fill;
+use order::answer_ordered;
+use parts::kinds::Operator;
+use reach::list::Part;
+use skeletons::buckets::buckets;
+use sweeps::sweep;
+use walks::Machine;
+ghost use mathlib.Core.Logic.{_≢_};
+ghost use mathlib.Core.Path.{_≡_};
+ghost use Prim.Native.Nat.{_<_};
+ghost use Rattle.xpath.specs.Syntax.{Op, eq};
+ghost use Rattle.parts.specs.Kinds.{operator};
+ghost use Rattle.walks.specs.Part.{Space};
+ghost use Rattle.walks.specs.Walks.{Meets, Hits};
+ghost use Rattle.plain.specs.Plain.{Answered, Small};
+ghost use Rattle.backward.specs.Backward.{LinkedBothWays};
+
+// The first path and a constant: the nodes whose value is in the relation to it are marked as hits.
+pub fn compare_constant(p: &mut [u16], n: usize, m: Machine)
+    requires { ⌜ Space n (now p) × LinkedBothWays n (now p) ⌝ }
+    ensures { λ _. ⌜ Answered n (Hits m n (now (p .entry))) (now (p .entry)) (now (p .exit)) ⌝ }
+{
+    fill(p, n, Part::SEEN, 0);
+    spread_hits(p, n, m);
+    answer_seen(p, n);
+}
+
+// The two paths of a comparison by a sign other than =, which only asks for the least and the greatest rank where each path ends.
+pub fn compare_order(p: &mut [u16], n: usize, m: Machine, o: Operator)
+    requires { ⌜ Space n (now p) × Small n (now p) × (m .second < 16) × LinkedBothWays n (now p) ⌝ }
+    ensures { λ _. ⌜ ((q : Op) → q ≢ eq → o ≡ operator q → Answered n (Meets m n (now (p .entry)) q) (now (p .entry)) (now (p .exit))) ⌝ }
+{
+    buckets(p, n);
+    sweep(p, n, m);
+    answer_ordered(p, n, o);
+}

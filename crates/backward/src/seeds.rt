@@ -1,0 +1,44 @@
+// Backwards from the nodes of a rank, with notes of what is new.
+use crate::notes::note_entries;
+use crate::spread::spread;
+use links::table::get;
+use skeletons::Column;
+use walks::Machine;
+ghost use mathlib.Core.Path.{_≡_};
+ghost use Prim.Native.Nat.{_<_};
+ghost use Rattle.links.specs.Table.{RANK, word};
+ghost use Rattle.backward.specs.Backward.{LinkedBothWays, Listed, Closed};
+ghost use Rattle.skeletons.specs.Skeletons.{Buckets};
+ghost use Rattle.backward.specs.Sweeps.{Paired, Seeded};
+
+// What ends at node `w`.
+fn seed(p: &mut [u16], n: usize, m: Machine, w: usize, len: usize, c: usize, x: usize) -> usize
+    requires { ⌜ Listed n len (now p) × LinkedBothWays n (now p) × Closed m n (now p) × (w < n) × (m .second < 16) × Paired c × (x < 65536) ⌝ }
+    ensures { λ r. ⌜ Seeded m n (λ u. u ≡ w) c x len r (now (p .entry)) (now (p .exit)) ⌝ }
+{
+    let end = spread(p, n, m, w, m.last, len);
+    note_entries(p, n, m.second, len, end, c, x);
+    end
+}
+
+// What ends at a node of rank `r`.
+pub fn seed_rank(
+    p: &mut [u16],
+    n: usize,
+    m: Machine,
+    r: usize,
+    len: usize,
+    c: usize,
+    x: usize,
+) -> usize
+    requires { ⌜ Listed n len (now p) × LinkedBothWays n (now p) × Closed m n (now p) × Buckets n (now p) × (r < n) × (m .second < 16) × Paired c × (x < 65536) ⌝ }
+    ensures { λ e. ⌜ Seeded m n (λ u. word (now (p .entry)) n RANK u ≡ r) c x len e (now (p .entry)) (now (p .exit)) ⌝ }
+{
+    let mut end = len;
+    let mut w = get(p, n, Column::FIRST, r);
+    while w < n {
+        end = seed(p, n, m, w, end, c, x);
+        w = get(p, n, Column::NEXT, w);
+    }
+    end
+}

@@ -1,0 +1,71 @@
+-- Laws of the rows that become 0.
+use Prim.Native.Nat.{ℕ, suc, _+_, _-_, _*_, _/_, _%_, _≤_, _<_}
+use mathlib.Core.Path.{_≡_, refl, sym, ap, _∙_, subst}
+use mathlib.Core.Logic.{_≢_, _⊎_, inl, inr}
+use mathlib.Core.List.{List}
+use native.Mathlib.Decide.{decLt, decLe}
+use native.Mathlib.Nat.{eq-or-lt-of-le, mul-le-mul-right, div-add-mod', div-lt-iff-lt-mul, mod-lt}
+use native.Mathlib.Omega.{arith}
+use lib.ListN.{length, getD, set, length-set}
+use lib.Seq.{getD-set-same, getD-set-other}
+use Rattle.groups.specs.Groups.{Aside, Rest}
+use Rattle.equalities.specs.Steps.{Zeroed, rowsAt, Cleared, Empty}
+
+-- ── Words from an offset on ──
+pub zeroed-none : (at : ℕ) (p : List ℕ) → Zeroed at 0 p p
+zeroed-none at p = record { long = refl; front = λ l h. refl; behind = λ l h. refl; zero = λ i h. absurd (omega arith) }
+
+pub zeroed-step : {at k : ℕ} {p q : List ℕ} → Zeroed at k p q → at + k < length p → Zeroed at (k + 1) p (set q (at + k) 0)
+zeroed-step {at} {k} {p} {q} z room = record {
+  long = length-set q (at + k) 0 ∙ z .long;
+  front = λ l h. getD-set-other q (at + k) l 0 0 (omega arith) ∙ z .front l h;
+  behind = λ l h. getD-set-other q (at + k) l 0 0 (omega arith) ∙ z .behind l (omega arith);
+  zero = λ i h. go i (eq-or-lt-of-le (omega arith));
+}
+  where
+    go : (i : ℕ) → (i ≡ k) ⊎ (i < k) → getD (set q (at + k) 0) (at + i) 0 ≡ 0
+    go i (inl e) = ap (λ (j : ℕ). getD (set q (at + k) 0) (at + j) 0) e ∙ getD-set-same q (at + k) 0 0 (omega (arith, z .long))
+    go i (inr h) = getD-set-other q (at + k) (at + i) 0 0 (omega arith) ∙ z .zero i h
+
+pub zeroed-to : {at k m : ℕ} {p q : List ℕ} → k ≡ m → Zeroed at k p q → Zeroed at m p q
+zeroed-to {at} {p = p} {q} e z = subst (λ (x : ℕ). Zeroed at x p q) e z
+
+-- ── The rows of the blocks ──
+pub cleared-none : (n : ℕ) (p : List ℕ) → Cleared n 0 p p
+cleared-none n p = record { long = refl; other = λ k h. refl; zero = λ l i h. absurd (omega arith) }
+
+pub cleared-step : {n c : ℕ} {p q q′ : List ℕ} → Cleared n c p q → Zeroed (rowsAt n c) 16 q q′ → Cleared n (c + 1) p q′
+cleared-step {n} {c} {p} {q} {q′} f z = record {
+  long = z .long ∙ f .long;
+  other = λ k h. outside k (λ i r. h c i (omega arith) r) ∙ f .other k (λ l i r s. h l i (omega arith) s);
+  zero = λ l i h r. go l i r (eq-or-lt-of-le (omega arith));
+}
+  where
+    outside : (k : ℕ) → ((i : ℕ) → i < 16 → k ≢ rowsAt n c + i) → getD q′ k 0 ≡ getD q k 0
+    outside k h = go (decLt k (rowsAt n c)) (decLe (rowsAt n c + 16) k)
+      where
+        go : Dec (k < rowsAt n c) → Dec (rowsAt n c + 16 ≤ k) → getD q′ k 0 ≡ getD q k 0
+        go (yes r) d = z .front k r
+        go (no r) (yes s) = z .behind k s
+        go (no r) (no s) = absurd (h (k - rowsAt n c) (omega arith) (omega arith))
+
+    go : (l i : ℕ) → i < 16 → (l ≡ c) ⊎ (l < c) → getD q′ (rowsAt n l + i) 0 ≡ 0
+    go l i r (inl e) = ap (λ (j : ℕ). getD q′ (rowsAt n j + i) 0) e ∙ z .zero i r
+    go l i r (inr h) = z .front (rowsAt n l + i) (omega arith) ∙ f .zero l i h r
+
+module _ {n b : ℕ} {p p′ : List ℕ} (f : Cleared n (b * n) p p′) where
+  pub cleared-empty : Empty n b p′
+  cleared-empty k y i l r s = let h : suc k * n ≤ b * n = mul-le-mul-right n l in f .zero (k * n + y) i (omega arith) s
+
+  -- all else stays
+  pub cleared-rest : 0 < n → Rest 16 n b p p′
+  cleared-rest some = record {
+    long = f .long;
+    front = λ k h. f .other k (λ l i r s e. omega arith);
+    behind = λ k h aside. f .other k (λ l i r s. place k aside l i r s);
+  }
+    where
+      place : (k : ℕ) → Aside n b k → (l i : ℕ) → l < b * n → i < 16 → k ≢ rowsAt n l + i
+      place k aside l i r s e =
+          let whole : l / n * n + l % n ≡ l = div-add-mod' l n in
+          aside (l / n) (l % n) i (div-lt-iff-lt-mul some .1 r) (mod-lt l some) s (e ∙ ap (λ (z : ℕ). rowsAt n z + i) (sym whole))

@@ -1,0 +1,63 @@
+-- What the steps of the evaluation leave: rows without snippets, the loops and the powers, and then the snippets.
+use Prim.Native.Nat.{ℕ, _+_, _*_, _≤_, _<_}
+use mathlib.Core.Path.{_≡_}
+use mathlib.Core.Logic.{_≢_, _↔_}
+use mathlib.Core.List.{List}
+use lib.ListN.{length, getD}
+use Rattle.lists.specs.Lists.{Number}
+use Rattle.xpath.specs.Syntax.{XPath}
+use Rattle.xpath.specs.Tree.{Tree}
+use Rattle.snippets.specs.Snippets.{Yielded}
+use Rattle.snippets.specs.Count.{IsSnippet}
+use Rattle.snippets.proofs.Direct.{Direct}
+use Rattle.walks.specs.declared.Machine.{Machine}
+use Rattle.loops.specs.Loops.{Stage, Loops}
+use Rattle.powers.specs.Powers.{BLOCKS, snippetAt, Powers}
+use Rattle.pairs.specs.Settled.{Marked}
+
+-- ── Rows without snippets ──
+-- the first k words from an offset on become 0
+pub record Zeroed (at k : ℕ) (p p′ : List ℕ) : Type 0 where
+  pub long : length p′ ≡ length p
+  pub front : (l : ℕ) → l < at → getD p′ l 0 ≡ getD p l 0
+  pub behind : (l : ℕ) → at + k ≤ l → getD p′ l 0 ≡ getD p l 0
+  pub zero : (i : ℕ) → i < k → getD p′ (at + i) 0 ≡ 0
+
+-- where the snippets of a block stand, the blocks counted one behind the other
+abbrev pub rowsAt : ℕ → ℕ → ℕ
+rowsAt n l = BLOCKS * n + 64 * l + 32
+
+-- the rows of the first c blocks become 0, and all other words are as before
+pub record Cleared (n c : ℕ) (p p′ : List ℕ) : Type 0 where
+  pub long : length p′ ≡ length p
+  pub other : (k : ℕ) → ((l i : ℕ) → l < c → i < 16 → k ≢ rowsAt n l + i) → getD p′ k 0 ≡ getD p k 0
+  pub zero : (l i : ℕ) → l < c → i < 16 → getD p′ (rowsAt n l + i) 0 ≡ 0
+
+-- there are no snippets
+abbrev pub Empty : ℕ → ℕ → List ℕ → Type 0
+Empty n b p = (k y i : ℕ) → k < b → y < n → i < 16 → getD p (snippetAt n k y + i) 0 ≡ 0
+
+-- ── Before the snippets ──
+-- a comparison of two paths on a tree, with its loops and its powers
+pub record Founded (P R : XPath) (t : Tree) (m : Machine) (n b : ℕ) (p : List ℕ) : Type 0 where
+  pub stage : Stage P R t m n p
+  pub loops : Loops P R t n p
+  pub powers : Powers P R t n p b
+
+-- these are found, and there are no snippets yet
+pub record Prepares (m : Machine) (n b : ℕ) (p p′ : List ℕ) : Type 0 where
+  pub long : length p′ ≡ length p
+  pub founded : (P R : XPath) (t : Tree) → Stage P R t m n p → Founded P R t m n b p′
+  pub empty : Empty n b p′
+
+-- ── The snippets ──
+-- what the first snippets of any value yield
+abbrev pub FromFirst : XPath → XPath → Tree → ℕ → ℕ → ℕ → ℕ → ℕ → Type 0
+FromFirst P R t k x y i j = (d : List ℕ) × Direct t P R d k x y i j
+
+-- they are found, r in all; those of power 0 are in the rows
+pub record Gathers (m : Machine) (n b : ℕ) (p p′ : List ℕ) (r : ℕ) : Type 0 where
+  pub long : length p′ ≡ length p
+  pub founded : (P R : XPath) (t : Tree) → Founded P R t m n b p → Founded P R t m n b p′
+  pub number : (P R : XPath) (t : Tree) → Founded P R t m n b p → Number (IsSnippet t (record { first = P; second = R })) r
+  pub marked : (P R : XPath) (t : Tree) → Founded P R t m n b p → (x y i j : ℕ) → Marked t n p′ x y i j ↔ Yielded t P R 0 x y i j

@@ -1,0 +1,35 @@
+// The rows of the snippets become empty: the scratch may hold those of an earlier comparison.
+use powers::blocks::BLOCKS;
+use powers::blocks::WORDS;
+ghost use Prim.Native.Nat.{_+_, _*_, _≤_, _<_};
+ghost use lib.ListN.{length};
+ghost use Rattle.halving.specs.Halving.{BlockRoom};
+ghost use Rattle.equalities.specs.Steps.{Zeroed, Cleared};
+
+// Within a block, between the rows that lead up and the upper node.
+const SNIPPETS: usize = 32;
+
+// The 16 rows at `at`.
+fn clear_rows(p: &mut [u16], at: usize)
+    requires { ⌜ at + 16 ≤ length (now p) ⌝ }
+    ensures { λ _. ⌜ Zeroed at 16 (now (p .entry)) (now (p .exit)) ⌝ }
+{
+    let mut i: usize = 0;
+    while i < 16 {
+        p[at + i] = 0;
+        i += 1;
+    }
+}
+
+// Those of all exponents below `b` and all nodes: the blocks stand one behind the other.
+pub fn clear_snippets(p: &mut [u16], n: usize, b: usize)
+    requires { ⌜ BlockRoom n b (now p) ⌝ }
+    ensures { λ _. ⌜ Cleared n (b * n) (now (p .entry)) (now (p .exit)) ⌝ }
+{
+    let blocks = b * n;
+    let mut i: usize = 0;
+    while i < blocks {
+        clear_rows(p, BLOCKS * n + WORDS * i + SNIPPETS);
+        i += 1;
+    }
+}

@@ -1,0 +1,53 @@
+// An equality between two paths, evaluated by snippets in a comparison's part of the scratch.
+mod clear;
+
+use clear::clear_snippets;
+use groups::add_groups;
+use halving::count;
+use halving::halve;
+use loops::find_loops;
+use pairs::settle;
+use powers::find_powers;
+use skeletons::buckets::buckets;
+use walks::Machine;
+ghost use Prim.Native.Nat.{_+_, _*_, _^_, _≤_, _<_};
+ghost use lib.ListN.{length};
+ghost use Rattle.xpath.specs.Syntax.{XPath};
+ghost use Rattle.xpath.specs.Tree.{Tree};
+ghost use Rattle.loops.specs.Loops.{Stage};
+ghost use Rattle.powers.specs.Powers.{BLOCKS};
+ghost use Rattle.groups.specs.Groups.{Sizes};
+ghost use Rattle.equalities.specs.Equalities.{Evaluated};
+ghost use Rattle.equalities.specs.Steps.{Empty, Founded, Prepares, Gathers};
+
+// The loops and the powers, and no snippets yet.
+fn prepare(p: &mut [u16], n: usize, b: usize, m: Machine)
+    requires { ⌜ ((P R : XPath) × (t : Tree) × Stage P R t m n (now p)) × (0 < n) × (n ≤ 4096) × (b ≤ 13) × ((BLOCKS + 64 * b) * n ≤ length (now p)) ⌝ }
+    ensures { λ _. ⌜ Prepares m n b (now (p .entry)) (now (p .exit)) ⌝ }
+{
+    find_loops(p, n, m);
+    find_powers(p, n, b, m);
+    clear_snippets(p, n, b);
+}
+
+// All snippets, and how many there are: those that the first snippets of each value yield, and then their halves.
+fn gather(p: &mut [u16], n: usize, b: usize, m: Machine) -> usize
+    requires { ⌜ ((P R : XPath) × (t : Tree) × Founded P R t m n b (now p)) × Empty n b (now p) × Sizes n b (now p) ⌝ }
+    ensures { λ r. ⌜ Gathers m n b (now (p .entry)) (now (p .exit)) r ⌝ }
+{
+    buckets(p, n);
+    add_groups(p, n, b, m, m.first);
+    halve(p, n, b);
+    count(p, n, b)
+}
+
+// The number of snippets is handed back; the answers stand in the first column.
+pub fn compare_equal(p: &mut [u16], n: usize, b: usize, m: Machine) -> usize
+    requires { ⌜ ((P R : XPath) × (t : Tree) × Stage P R t m n (now p)) × (0 < n) × (n ≤ 4096) × (n < 2 ^ b) × (b ≤ 13) × ((BLOCKS + 64 * b) * n ≤ length (now p)) ⌝ }
+    ensures { λ r. ⌜ Evaluated m n (now (p .entry)) (now (p .exit)) r ⌝ }
+{
+    prepare(p, n, b, m);
+    let r = gather(p, n, b, m);
+    settle(p, n, m);
+    r
+}

@@ -1,0 +1,9 @@
+pub mod Rest
+pub mod Gains
+pub mod Crossing
+pub mod Owning
+pub mod Ascending
+pub mod Lengths
+pub mod Yielding
+pub mod Descending
+pub mod Adding

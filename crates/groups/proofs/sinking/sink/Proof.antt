@@ -1,0 +1,50 @@
+-- `groups::sinking::sink` meets its contract.
+use Prim.Native.Nat.{_-_, _≤_}
+use mathlib.Core.Path.{_≡_, subst}
+use native.Mathlib.Omega.{arith}
+use Rattle.groups.specs.Steps.{Sank}
+use Rattle.groups.proofs.Rest.{rest-more, given-rest}
+use Rattle.groups.proofs.Descending.{sank-none, sank-step}
+use Rattle.groups.proofs.sinking.sink.Statement.{statement}
+use Rattle.groups.proofs.sinking.sink.Tie as tie
+
+abbrev Inv-loop : tie.InvT-loop
+Inv-loop p₀ n b m r first v₀ p v = (v ≤ n) × Sank m n b first r v p₀ p
+
+abbrev μ-loop : tie.MeasureT-loop
+μ-loop p₀ n b m r first v₀ p v = n - v
+
+loop-holds : tie.Need-loop-holds Inv-loop μ-loop
+loop-holds c = (omega arith, sank-none (c .before .args .p .now))
+
+sink-at-requires : tie.Need-sink-at-requires Inv-loop μ-loop
+sink-at-requires c κs = (given-rest (rest-more (omega arith) (c .before .before .loop .inv .1 .rest)) (c .before .before .before .before .pre), c .before .loop-test .taken)
+
+add-v : tie.Need-add-v Inv-loop μ-loop
+add-v c = omega arith
+
+loop-less : tie.Need-loop-less Inv-loop μ-loop
+loop-less c = omega arith
+
+loop-again : tie.Need-loop-again Inv-loop μ-loop
+loop-again c = (omega arith, sank-step (c .before .before .before .before .before .loop .inv .1) (c .before .before .sink-at .ensures))
+
+same-length : tie.Need-same-length Inv-loop μ-loop
+same-length c = c .before .loop .inv .1 .rest .long
+
+returns : tie.Need-returns Inv-loop μ-loop
+returns c = let x = c .before .before .before .args in let i = c .before .loop .inv .0 in let l = c .loop-test .left in let whole : c .before .loop .v ≡ x .n = omega arith in subst (λ v. Sank (x .m) (x .n) (x .b) (x .first) (x .r) v (x .p .now) (c .before .loop .p)) whole (c .before .loop .inv .1)
+
+pub sink-spec : {M : Type 1} → statement M
+sink-spec =
+    tie.close
+    (tie.spec
+    Inv-loop
+    μ-loop
+    loop-holds
+    sink-at-requires
+    add-v
+    loop-less
+    loop-again
+    same-length
+    returns)

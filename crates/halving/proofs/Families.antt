@@ -1,0 +1,130 @@
+-- Sets of snippets and their words, and what halving makes of a set.
+use Prim.Native.Nat.{ℕ, zero, suc, _+_, _^_, _≤_, _<_}
+use mathlib.Core.Path.{_≡_, sym, ap, _∙_, subst}
+use mathlib.Core.Bool.{true, false≢true}
+use mathlib.Core.Logic.{_↔_}
+use mathlib.Core.List.{List}
+use native.Mathlib.Omega.{arith}
+use native.Mathlib.Decide.{decLt}
+use lib.ListN.{getD}
+use Rattle.bits.specs.Sets.{bit}
+use Rattle.bits.proofs.SetLaws.{bit-none}
+use Rattle.xpath.specs.Syntax.{XPath, size}
+use Rattle.xpath.specs.Tree.{Tree, WellFormed, Down, here, deeper}
+use Rattle.xpath.proofs.Trees.{parent-of, down-le}
+use Rattle.positions.specs.Positions.{Comes}
+use Rattle.snippets.specs.Snippets.{First, Yielded}
+use Rattle.snippets.proofs.Counting.{follows-small}
+use Rattle.matrices.specs.Matrices.{Related}
+use Rattle.powers.specs.Powers.{snippetAt}
+use Rattle.powers.proofs.Ancestors.{one-above}
+use Rattle.halving.specs.Halving.{Family, Inside, Within, Sets, Marked, Topped, Halved, direct, upperHalf, lowerHalf}
+
+-- ── Whether a node lies so far above another ──
+step-up : {t : Tree} {x y m : ℕ} → Down t x y (suc m) → (0 < y) × (y < t .size) × Down t x (t .parent y) m
+step-up {t} {x} {m = m} (deeper d c) = (c .inner, c .inside, subst (λ u. Down t x u m) (sym (c .above)) d)
+
+pub dec-above : (t : Tree) (m y : ℕ) → Dec ((x : ℕ) × Down t x y m)
+dec-above t zero y = yes (y, here)
+dec-above t (suc m) y = go (decLt 0 y) (decLt y (t .size)) (dec-above t m (t .parent y))
+  where
+    go : Dec (0 < y) → Dec (y < t .size) → Dec ((x : ℕ) × Down t x (t .parent y) m) → Dec ((x : ℕ) × Down t x y (suc m))
+    go (yes a) (yes b) (yes (x, d)) = yes (x, deeper d (parent-of a b))
+    go (yes a) (yes b) (no f) = no (λ (x, d). f (x, step-up d .2))
+    go (yes a) (no f) h = no (λ (x, d). f (step-up d .1))
+    go (no f) g h = no (λ (x, d). f (step-up d .0))
+
+-- ── A set and its words ──
+module _ {t : Tree} {n b : ℕ} {p : List ℕ} where
+  -- the words are those of the snippets that they have
+  pub topped-sets : Topped t n b p → Sets t n b p (Marked t n b p)
+  topped-sets h = record {
+    same = λ k y i j a c d e. (
+      λ r. let (x, o) = h .top k y i j a c d e r in (x, o, record { inside = record { power = a; lower = c; apart = o; first = d; second = e }; marked = r }),
+      λ (x, o, m). m .marked,
+    );
+  }
+
+  module _ {S : Family} (h : Sets t n b p S) where
+    pub sets-topped : Topped t n b p
+    sets-topped = record { top = λ k y i j a c d e r. let (x, o, m) = h .same k y i j a c d e .0 r in (x, o) }
+
+    -- for the one node x that lies 2^k above y
+    pub sets-at : WellFormed t → (k x y i j : ℕ) → Inside t n b k x y i j → Related p (snippetAt n k y) i j ↔ S k x y i j
+    sets-at wf k x y i j o = (
+      λ r. let (u, d, m) = same .0 r in subst (λ z. S k z y i j) (one-above wf d (o .apart)) m,
+      λ m. same .1 (x, o .apart, m),
+    )
+      where
+        same : Related p (snippetAt n k y) i j ↔ ((x : ℕ) × Down t x y (2 ^ k) × S k x y i j)
+        same = h .same k y i j (o .power) (o .lower) (o .first) (o .second)
+
+    -- what the words have is the set, if that keeps to their bounds
+    pub sets-marked : WellFormed t → Within t n b S → (k x y i j : ℕ) → Marked t n b p k x y i j ↔ S k x y i j
+    sets-marked wf w k x y i j = (
+      λ m. sets-at wf k x y i j (m .inside) .0 (m .marked),
+      λ s. let o = w k x y i j s in record { inside = o; marked = sets-at wf k x y i j o .1 s },
+    )
+
+  -- the other way: from the words of each lower node that has an upper node, where those of the others are 0
+  pub sets-of : (S : Family) → Topped t n b p
+      → ((k x y i j : ℕ) → Inside t n b k x y i j → Related p (snippetAt n k y) i j ↔ S k x y i j) → Sets t n b p S
+  sets-of S h f = record {
+    same = λ k y i j a c d e. (
+      λ r. let (x, o) = h .top k y i j a c d e r in (x, o, f k x y i j (record { power = a; lower = c; apart = o; first = d; second = e }) .0 r),
+      λ (x, o, m). f k x y i j (record { power = a; lower = c; apart = o; first = d; second = e }) .1 m,
+    );
+  }
+
+pub topped-of : (t : Tree) (n b : ℕ) (p : List ℕ)
+    → ((k y i : ℕ) → k < b → y < n → i < 16 → ((x : ℕ) → ¬ Down t x y (2 ^ k)) → getD p (snippetAt n k y + i) 0 ≡ 0) → Topped t n b p
+topped-of t n b p zero-words = record { top = λ k y i j a c d e r. go k y i j a c d r (dec-above t (2 ^ k) y) }
+  where
+    go : (k y i j : ℕ) → k < b → y < n → i < 16 → Related p (snippetAt n k y) i j → Dec ((x : ℕ) × Down t x y (2 ^ k)) → (x : ℕ) × Down t x y (2 ^ k)
+    go k y i j a c d r (yes h) = h
+    go k y i j a c d r (no f) = absurd (false≢true (sym (bit-none j) ∙ ap (λ w. bit w j) (sym (zero-words k y i a c d (λ x o. f (x, o)))) ∙ r))
+
+-- ── Halving ──
+module _ {P R : XPath} {t : Tree} where
+  pub halved-mono : {D E : Family} → ((k x y i j : ℕ) → D k x y i j → E k x y i j) → {k x y i j : ℕ} → Halved P R t D k x y i j → Halved P R t E k x y i j
+  halved-mono f (direct d) = direct (f _ _ _ _ _ d)
+  halved-mono f (upperHalf h a c e) = upperHalf (halved-mono f h) a c e
+  halved-mono f (lowerHalf h a c e) = lowerHalf (halved-mono f h) a c e
+
+  -- the exponents go down
+  pub halved-below : {D : Family} {b : ℕ} → ((k x y i j : ℕ) → D k x y i j → k < b) → {k x y i j : ℕ} → Halved P R t D k x y i j → k < b
+  halved-below f (direct d) = f _ _ _ _ _ d
+  halved-below f (upperHalf h a c e) = let r = halved-below f h in omega arith
+  halved-below f (lowerHalf h a c e) = let r = halved-below f h in omega arith
+
+  -- where a chain comes from is a position of the two paths, or where it ends
+  comes-from : size P + size R ≤ 14 → {i v j w : ℕ} → Comes P R t i v j w → j < 16 → i < 16
+  comes-from few Comes.here l = l
+  comes-from few {i} (Comes.on {j = j} s f a m c) l = let h = follows-small P R i j f in omega arith
+
+  -- halves keep to the bounds, too
+  pub halved-within : {n b : ℕ} {D : Family} → WellFormed t → size P + size R ≤ 14 → Within t n b D → Within t n b (Halved P R t D)
+  halved-within wf few w k x y i j (direct d) = w k x y i j d
+  halved-within wf few w k x h i j (upperHalf {y = y} {q = q} g a c e) =
+      let o = halved-within wf few w (suc k) x y i q g in
+      let l = down-le t wf c in let m = o .power in let r = o .lower in
+      record { power = omega arith; lower = omega arith; apart = a; first = o .first; second = comes-from few e (o .second) }
+  halved-within wf few w k h y i j (lowerHalf {x = x} {p = p} g a c e) =
+      let o = halved-within wf few w (suc k) x y p j g in
+      let m = o .power in
+      record { power = omega arith; lower = o .lower; apart = c; first = comes-from few e (o .first); second = o .second }
+
+-- if D has just what the first snippets yield, D and its halves are all that is yielded
+module _ {P R : XPath} {t : Tree} {D : Family} where
+  pub halved-yielded : ((k x y p q : ℕ) → D k x y p q → Yielded t P R k x y p q) → {k x y p q : ℕ} → Halved P R t D k x y p q → Yielded t P R k x y p q
+  halved-yielded f (direct d) = f _ _ _ _ _ d
+  halved-yielded f (upperHalf h a c e) = Yielded.upperHalf (halved-yielded f h) a c e
+  halved-yielded f (lowerHalf h a c e) = Yielded.lowerHalf (halved-yielded f h) a c e
+
+  pub yielded-halved : ((k n l x u y p q′ q : ℕ) → First t P R x y p q n → 2 ^ k ≤ n → n < 2 ^ suc k → Down t x u (2 ^ k) → Down t u y l → Comes P R t q′ u q y → D k x u p q′)
+      → ((k n l x w y p p′ q : ℕ) → First t P R x y p q n → 2 ^ k ≤ n → n < 2 ^ suc k → Down t x w l → Down t w y (2 ^ k) → Comes P R t p′ w p x → D k w y p′ q)
+      → {k x y p q : ℕ} → Yielded t P R k x y p q → Halved P R t D k x y p q
+  yielded-halved u l (Yielded.upper f a c d e g) = direct (u _ _ _ _ _ _ _ _ _ f a c d e g)
+  yielded-halved u l (Yielded.lower f a c d e g) = direct (l _ _ _ _ _ _ _ _ _ f a c d e g)
+  yielded-halved u l (Yielded.upperHalf h a c e) = upperHalf (yielded-halved u l h) a c e
+  yielded-halved u l (Yielded.lowerHalf h a c e) = lowerHalf (yielded-halved u l h) a c e

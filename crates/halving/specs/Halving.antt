@@ -1,0 +1,83 @@
+-- A set of snippets of all powers, as it stands in the blocks: what it grows to by halving, and how many snippets it has.
+use Prim.Native.Nat.{ℕ, suc, _+_, _*_, _^_, _≤_, _<_}
+use mathlib.Core.Path.{_≡_}
+use mathlib.Core.Logic.{_≢_, _↔_}
+use mathlib.Core.List.{List}
+use lib.ListN.{length, getD}
+use Rattle.lists.specs.Lists.{Number}
+use Rattle.xpath.specs.Syntax.{XPath, size}
+use Rattle.xpath.specs.Tree.{Tree, WellFormed, Down}
+use Rattle.positions.specs.Positions.{Comes}
+use Rattle.snippets.specs.Count.{Snippet}
+use Rattle.matrices.specs.Matrices.{Related}
+use Rattle.powers.specs.Powers.{BLOCKS, snippetAt, Powers}
+
+-- S k x y i j: the snippet (x, y, i, j) of power k is in S
+abbrev pub Family : Type 1
+Family = ℕ → ℕ → ℕ → ℕ → ℕ → Type 0
+
+-- the part has room for the blocks of n nodes and all exponents below b
+pub record BlockRoom (n b : ℕ) (p : List ℕ) : Type 0 where
+  pub few : n ≤ 4096
+  pub low : b ≤ 13
+  pub room : (BLOCKS + 64 * b) * n ≤ length p
+
+-- ── A set and its words ──
+module _ (t : Tree) (n b : ℕ) where
+  -- the bounds of the words: exponents below b, nodes below n, positions below 16
+  pub record Inside (k x y i j : ℕ) : Type 0 where
+    pub power : k < b
+    pub lower : y < n
+    pub apart : Down t x y (2 ^ k)
+    pub first : i < 16
+    pub second : j < 16
+
+  -- all snippets of S keep to the bounds
+  abbrev pub Within : Family → Type 0
+  Within S = (k x y i j : ℕ) → S k x y i j → Inside k x y i j
+
+  module _ (p : List ℕ) where
+    -- the words are those of S: where no node lies 2^k above y, they have nothing
+    pub record Sets (S : Family) : Type 0 where
+      pub same : (k y i j : ℕ) → k < b → y < n → i < 16 → j < 16
+          → Related p (snippetAt n k y) i j ↔ ((x : ℕ) × Down t x y (2 ^ k) × S k x y i j)
+
+    -- the words have the snippet
+    pub record Marked (k x y i j : ℕ) : Type 0 where
+      pub inside : Inside k x y i j
+      pub marked : Related p (snippetAt n k y) i j
+
+    -- the words have nothing where no node lies 2^k above y
+    pub record Topped : Type 0 where
+      pub top : (k y i j : ℕ) → k < b → y < n → i < 16 → j < 16 → Related p (snippetAt n k y) i j → (x : ℕ) × Down t x y (2 ^ k)
+
+-- ── Halving ──
+-- D, and all that is yielded by halving: the last two rules of `Yielded`
+pub data Halved (P R : XPath) (t : Tree) (D : Family) : ℕ → ℕ → ℕ → ℕ → ℕ → Type 0 where
+  direct : {k x y p q : ℕ} → D k x y p q → Halved P R t D k x y p q
+  upperHalf : {k x h y p q′ q : ℕ} → Halved P R t D (suc k) x y p q
+      → Down t x h (2 ^ k) → Down t h y (2 ^ k) → Comes P R t q′ h q y → Halved P R t D k x h p q′
+  lowerHalf : {k x h y p p′ q : ℕ} → Halved P R t D (suc k) x y p q
+      → Down t x h (2 ^ k) → Down t h y (2 ^ k) → Comes P R t p′ h p x → Halved P R t D k h y p′ q
+
+-- p holds the powers of a tree of n nodes for two paths, and snippets of it
+pub record Prepared (P R : XPath) (t : Tree) (n b : ℕ) (p : List ℕ) : Type 0 where
+  pub formed : WellFormed t
+  pub whole : t .size ≡ n
+  pub few : size P + size R ≤ 14
+  pub powers : Powers P R t n p b
+  pub topped : Topped t n b p
+
+-- the snippets that stand in p are halved in p′, and no word but theirs may be different
+pub record Halving (n b : ℕ) (p p′ : List ℕ) : Type 0 where
+  pub long : length p′ ≡ length p
+  pub other : (l : ℕ) → ((k y i : ℕ) → k < b → y < n → i < 16 → l ≢ snippetAt n k y + i) → getD p′ l 0 ≡ getD p l 0
+  pub sets : (P R : XPath) (t : Tree) → Prepared P R t n b p → Sets t n b p′ (Halved P R t (Marked t n b p))
+
+-- ── The number of snippets ──
+abbrev pub Belongs : Family → Snippet → Type 0
+Belongs S s = S (s .power) (s .x) (s .y) (s .p) (s .q)
+
+-- p has r snippets, on whatever tree they lie
+pub record Counts (n b : ℕ) (p : List ℕ) (r : ℕ) : Type 0 where
+  pub number : (t : Tree) → WellFormed t → Topped t n b p → Number (Belongs (Marked t n b p)) r

@@ -1,0 +1,72 @@
+// One pass: the snippets of exponent k + 1 are handed down to exponent k.
+use bits::union;
+use matrices::before;
+use matrices::image;
+use powers::blocks::UP;
+use powers::blocks::block_at;
+use powers::blocks::upper;
+ghost use Prim.Native.Nat.{_+_, _≤_, _<_};
+ghost use lib.ListN.{length};
+ghost use Rattle.matrices.specs.Matrices.{Apart, Drawing};
+ghost use Rattle.halving.specs.Halving.{BlockRoom};
+ghost use Rattle.halving.specs.Passes.{Upper, Lower, With, Hands, Grown, Handed};
+
+// Within a block, between the rows that lead up and the upper node.
+pub const SNIPPETS: usize = 32;
+
+// The matrix at `to` gets the upper halves of the snippets at `source`: each second position is taken back along `down`.
+fn add_upper(p: &mut [u16], source: usize, down: usize, to: usize)
+    requires { ⌜ Apart source to × Apart down to × (source + 16 ≤ length (now p)) × (down + 16 ≤ length (now p)) × (to + 16 ≤ length (now p)) ⌝ }
+    ensures { λ _. ⌜ Drawing (With (now (p .entry)) to (Upper (now (p .entry)) source down)) to 16 (now (p .entry)) (now (p .exit)) ⌝ }
+{
+    let mut i: usize = 0;
+    while i < 16 {
+        let w = p[source + i];
+        let new = before(p, down, w);
+        p[to + i] = union(p[to + i], new);
+        i += 1;
+    }
+}
+
+// The matrix at `to` gets the lower halves of the snippets at `source`: each first position is taken on along `up`.
+fn add_lower(p: &mut [u16], source: usize, up: usize, to: usize)
+    requires { ⌜ Apart source to × Apart up to × (source + 16 ≤ length (now p)) × (up + 16 ≤ length (now p)) × (to + 16 ≤ length (now p)) ⌝ }
+    ensures { λ _. ⌜ Drawing (With (now (p .entry)) to (Lower (now (p .entry)) source up)) to 16 (now (p .entry)) (now (p .exit)) ⌝ }
+{
+    let mut i: usize = 0;
+    while i < 16 {
+        let w = p[up + i];
+        let new = image(p, source, w);
+        p[to + i] = union(p[to + i], new);
+        i += 1;
+    }
+}
+
+// The snippets with the lower node `y`, halved at the node between. Where there are none, as where no node lies 2^(k + 1) above `y`, none are handed down.
+fn hand_down(p: &mut [u16], n: usize, k: usize, y: usize)
+    requires { ⌜ (y < n) × BlockRoom n (k + 2) (now p) ⌝ }
+    ensures { λ _. ⌜ Grown n k (Hands n k (now (p .entry)) y) (now (p .entry)) (now (p .exit)) ⌝ }
+{
+    let next = k + 1;
+    let h = upper(p, n, k, y);
+    if n <= h {
+        return;
+    }
+    let source = block_at(n, next, y) + SNIPPETS;
+    let low = block_at(n, k, y);
+    let high = block_at(n, k, h);
+    add_upper(p, source, low, high + SNIPPETS);
+    add_lower(p, source, high + UP, low + SNIPPETS);
+}
+
+// All snippets of exponent k + 1.
+pub fn pass(p: &mut [u16], n: usize, k: usize)
+    requires { ⌜ BlockRoom n (k + 2) (now p) ⌝ }
+    ensures { λ _. ⌜ Grown n k (Handed n k (now (p .entry)) n) (now (p .entry)) (now (p .exit)) ⌝ }
+{
+    let mut y = 0;
+    while y < n {
+        hand_down(p, n, k, y);
+        y += 1;
+    }
+}
