@@ -8,8 +8,7 @@ use mathlib.Core.List.{List, _++_}
 use lib.ListN.{length, getD}
 use Rattle.limits.specs.Limits.{scratchWords}
 use Rattle.bits.specs.Sets.{bit, and}
-use Rattle.xpath.specs.Syntax.{Op, Test, compare, compareTo, XPath, empty, stay}
-use Rattle.xpath.specs.Tree.{Tree, WellFormed}
+use Rattle.xpath.specs.Syntax.{Test, XPath, stay}
 use Rattle.xpath.specs.Meaning.{Holds}
 use Rattle.library.specs.Library.{Node}
 use Rattle.library.specs.Binary.{treeOf}
@@ -20,15 +19,14 @@ use Rattle.columns.specs.Columns.{held}
 use Rattle.numbering.specs.Tests.{testsOf, pathTests, test}
 use Rattle.numbering.specs.Numbering.{Brackets}
 use Rattle.walks.specs.declared.Machine.{Machine}
-use Rattle.walks.specs.Walks.{Meets, Hits}
-use Rattle.walks.specs.Meaning.{IsStep, IsMachine, Drawn, Judges}
-use Rattle.walks.proofs.Comparing.{meets-holds, hits-holds}
+use Rattle.loops.specs.Loops.{Stage}
+use Rattle.walks.specs.Meaning.{IsStep, IsMachine}
 use Rattle.plain.specs.Plain.{Answered}
-use Rattle.drawing.specs.Drawing.{Within, Copied, Stayed, Judged}
+use Rattle.drawing.specs.Drawing.{Within, Copied, Stayed}
 use Rattle.driver.specs.Tasks.{Scene, Task, Tells, Apart, Answers}
 use Rattle.driver.proofs.Frames.{apart-then, within-apart, held-apart}
 use Rattle.driver.proofs.Parts.{part, back, back-apart, back-word}
-use Rattle.driver.proofs.Drawn.{drawn, judges}
+use Rattle.driver.proofs.Drawn.{drawn}
 
 and-true : (a b : Bool) → (and a b ≡ true) ↔ ((a ≡ true) × (b ≡ true))
 and-true true b = (λ e. (refl, e), λ h. h .1)
@@ -66,17 +64,15 @@ within-none n c d t = record { long = refl; front = λ i h. refl; behind = λ i 
 answer-iff : {n : ℕ} {A : ℕ → Type 0} {p p′ : List ℕ} → Answered n A p p′ → (v : ℕ) → v < n → (word p′ n 0 v ≡ 1) ↔ A v
 answer-iff a v l = ⊎-elim (λ x. (λ e. x .0, λ y. x .1)) (λ x. (λ e. let z = x .1 in absurd (omega arith), λ y. absurd (x .0 y))) (a .answers v l)
 
--- what comes back of a part in which A is answered
+-- what comes back of a part in which the test is answered
 module _ {ns : List Node} {n : ℕ} {U : Test} {t t′ p′ : List ℕ} (pos : 0 < n) (room : scratchWords n ≤ length t′) (apart : Apart n t t′) where
-  pub answered : {A : ℕ → Type 0} (a : Answered n A (part n t′ pos room) p′) → ((v : ℕ) → v < n → A v ↔ Holds (treeOf ns) U v)
-      → Answers ns n U t (back n t′ pos room p′ (a .long))
-  answered a f = record {
+  pub answered : (a : Answered n (Holds (treeOf ns) U) (part n t′ pos room) p′) → Answers ns n U t (back n t′ pos room p′ (a .long))
+  answered a = record {
     apart = apart-then apart (back-apart n t′ pos room p′ (a .long));
-    answers = λ v l. let g = answer-iff a v l in let w = back-word n t′ pos room p′ (a .long) v l in
-        (λ e. f v l .0 (g .0 (sym w ∙ e)), λ x. w ∙ g .1 (f v l .1 x));
+    answers = λ v l. let g = answer-iff a v l in let w = back-word n t′ pos room p′ (a .long) v l in (λ e. g .0 (sym w ∙ e), λ x. w ∙ g .1 x);
   }
 
--- ── A comparison of two paths, and one with a constant ──
+-- ── What is drawn for a comparison ──
 module _ {s rule : List ℕ} {ns : List Node} {T : Test} {n at k : ℕ} {t : List ℕ} (task : Task s rule ns T n at k t) where
   pub some-nodes : 0 < n
   some-nodes = subst (λ m. 0 < m) (task .scene .size) (task .scene .library .legal .some)
@@ -85,28 +81,14 @@ module _ {s rule : List ℕ} {ns : List Node} {T : Test} {n at k : ℕ} {t : Lis
       (among : (e : ℕ) → e < length (pathTests P ++ pathTests R) → (suc k + e < length (testsOf T)) × (test (testsOf T) (suc k + e) ≡ test (pathTests P ++ pathTests R) e))
       (machine : IsMachine P R m) (brackets : Brackets P R (suc k) numbers)
       (copied : Copied n t t₁) (stayed : Stayed n (m .brackets) numbers t₁ t₂) where
-    drawn-apart : Apart n t t₂
+    pub drawn-apart : Apart n t t₂
     drawn-apart = apart-then (within-apart some-nodes (omega arith) (omega arith) (copied .within)) (within-apart some-nodes (omega arith) (omega arith) (stayed .within))
 
-    pub drawn-long : length t₂ ≡ length t
-    drawn-long = drawn-apart .long
-
-    pub drawn-part : {t₃ : List ℕ} (room : scratchWords n ≤ length t₃) → Within n 23 24 t₂ t₃ → Drawn P R (treeOf ns) n (part n t₃ some-nodes room)
-    drawn-part room within =
-        drawn (task .scene) some-nodes room copied stayed within P R
-        (brackets-hold {ns = ns} {k = k} T P R (task .inner) among (within-apart some-nodes (omega arith) (omega arith) (copied .within)) machine brackets)
-
-    pub paths-answered : {p′ : List ℕ} (o : Op) (room : scratchWords n ≤ length t₂)
-        (a : Answered n (Meets m n (part n t₂ some-nodes room) o) (part n t₂ some-nodes room) p′)
-        → Answers ns n (compare o P R) t (back n t₂ some-nodes room p′ (a .long))
-    paths-answered o room a =
-        answered some-nodes room drawn-apart a
-        (λ v l. meets-holds (tree-formed (task .scene .library .legal)) machine (drawn-part room (within-none n 23 24 t₂)) o v l)
-
-    pub constant-answered : {t₃ p′ : List ℕ} (o : Op) (c : List ℕ) → R ≡ empty → (room : scratchWords n ≤ length t₃) → Judged ns n o c t₂ t₃
-        → (a : Answered n (Hits m n (part n t₃ some-nodes room)) (part n t₃ some-nodes room) p′)
-        → Answers ns n (compareTo o P c) t (back n t₃ some-nodes room p′ (a .long))
-    constant-answered {t₃} o c e room judged a =
-        answered some-nodes room (apart-then drawn-apart (within-apart some-nodes (omega arith) (omega arith) (judged .within))) a
-        (λ v l. hits-holds (tree-formed (task .scene .library .legal)) (subst (λ Q. IsMachine P Q m) e machine)
-        (subst (λ Q. Drawn P Q (treeOf ns) n (part n t₃ some-nodes room)) e (drawn-part room (judged .within))) o c (judges some-nodes room judged) v l)
+    -- the comparison stands in its part, also where the hits of a constant are drawn behind it
+    pub drawn-stage : {t₃ : List ℕ} (room : scratchWords n ≤ length t₃) → Within n 23 24 t₂ t₃ → Stage P R (treeOf ns) m n (part n t₃ some-nodes room)
+    drawn-stage room within = record {
+      formed = tree-formed (task .scene .library .legal);
+      machine = machine;
+      drawn = drawn (task .scene) some-nodes room copied stayed within P R
+          (brackets-hold {ns = ns} {k = k} T P R (task .inner) among (within-apart some-nodes (omega arith) (omega arith) (copied .within)) machine brackets);
+    }

@@ -1,27 +1,36 @@
 -- The middle of the scratch, lent to the evaluator of a comparison: what it asks of it, and what it leaves. The end is told by the function that counts the words.
 use Prim.Native.Nat.{ℕ, suc, _+_, _-_, _*_, _≤_, _<_}
+use native.Mathlib.Nat.{mul-comm, add-mul}
 use native.Mathlib.Omega.{arith}
 use mathlib.Core.Path.{_≡_, refl, sym, ap, _∙_, subst}
 use mathlib.Core.List.{List, _++_}
 use lib.ListN.{length, take, drop}
 use lib.Seq.{slice}
+use Rattle.lists.specs.Text.{binaryDigits}
 use Rattle.limits.specs.Limits.{scratchWords}
 use Rattle.xpath.specs.Syntax.{Op, Test, compare, compareTo, XPath, empty}
+use Rattle.xpath.specs.Tree.{Tree}
+use Rattle.xpath.specs.Meaning.{Holds}
 use Rattle.library.specs.Library.{Node}
+use Rattle.library.specs.Binary.{treeOf}
 use Rattle.links.specs.Table.{COLUMNS}
+use Rattle.parts.specs.Kinds.{operator}
 use Rattle.parts.specs.declared.kinds.Operator.{Operator}
 use Rattle.numbering.specs.Tests.{testsOf, test}
 use Rattle.numbering.specs.Numbering.{NumbersTwo, NumbersOne}
 use Rattle.machines.specs.Machines.{Machined, MachinedAlone}
 use Rattle.walks.specs.declared.Machine.{Machine}
-use Rattle.walks.specs.Part.{Space}
-use Rattle.walks.specs.Walks.{Meets, Hits}
-use Rattle.plain.specs.Plain.{Answered, Small}
+use Rattle.walks.specs.Meaning.{Judges}
+use Rattle.loops.specs.Loops.{Stage}
+use Rattle.plain.specs.Plain.{Answered}
+use Rattle.evaluators.specs.Evaluators.{PartRoom, Staged, Adds, Compared, Hit}
+use Rattle.evaluators.specs.declared.Evaluator.{Evaluator}
 use Rattle.drawing.specs.Drawing.{Copied, Stayed, Judged}
-use Rattle.driver.specs.Tasks.{Scene, Task, Paths, Constant, Answers}
-use Rattle.driver.proofs.Frames.{scratch-room, scene-same}
+use Rattle.driver.specs.Tasks.{Scene, Task, Paths, Constant, Apart, Answers, Compares}
+use Rattle.driver.proofs.Frames.{scratch-room, scene-same, apart-then, within-apart}
 use Rattle.driver.proofs.Parts.{part, part-long}
-use Rattle.driver.proofs.Answers.{some-nodes, within-none, drawn-part, drawn-long, paths-answered, constant-answered}
+use Rattle.driver.proofs.Answers.{some-nodes, within-none, drawn-apart, drawn-stage, answered}
+use Rattle.driver.proofs.Drawn.{judges}
 use Rattle.driver.proofs.Asked.{is-machine, has-brackets, among, is-machine-alone, has-brackets-alone, among-alone}
 
 -- the words of a scratch of n nodes from behind the table up to b
@@ -36,10 +45,12 @@ module _ {s rule : List ℕ} {ns : List Node} {T : Test} {n at k : ℕ} {t : Lis
   pub few-nodes : n ≤ 4096
   few-nodes = subst (λ m. m ≤ 4096) (task .scene .size) (task .scene .library .legal .few)
 
-  pub part-space : (t′ : List ℕ) (room : scratchWords n ≤ length t′) → Space n (part n t′ (some-nodes task) room)
-  part-space t′ room =
-      let l = part-long n t′ (some-nodes task) room in let r = scratch-room n (some-nodes task) in
-      record { some = some-nodes task; few = few-nodes; room = omega arith }
+  -- the part is as long as an evaluator asks
+  pub part-room : (t′ : List ℕ) (room : scratchWords n ≤ length t′) → PartRoom n (part n t′ (some-nodes task) room)
+  unfolding scratchWords
+  part-room t′ room =
+      let l = part-long n t′ (some-nodes task) room in let c = mul-comm n (64 * binaryDigits n + 128) in let d = add-mul (64 * binaryDigits n) 128 n in let e = add-mul 112 (64 * binaryDigits n) n in
+      omega arith
 
   -- the table has room for what is drawn
   pub draw-room : (t′ : List ℕ) → length t′ ≡ length t → 24 * n ≤ length t′
@@ -55,40 +66,65 @@ module _ {s rule : List ℕ} {ns : List Node} {T : Test} {n at k : ℕ} {t : Lis
     {m : Machine} {numbers t₁ t₂ : List ℕ} {b : ℕ}
     (machined : Machined rule (at + 1) behind m) (numbered : NumbersTwo rule (at + 1) behind (k + 1) numbers)
     (copied : Copied n t t₁) (stayed : Stayed n (m .brackets) numbers t₁ t₂) (ends : b ≡ scratchWords n) where
-  paths-long : length t₂ ≡ length t
-  paths-long = drawn-long (h .task) (h .first) (h .second) (among h) (is-machine h machined) (has-brackets h numbered) copied stayed
+  paths-apart : Apart n t t₂
+  paths-apart = drawn-apart (h .task) (h .first) (h .second) (among h) (is-machine h machined) (has-brackets h numbered) copied stayed
 
   paths-room : scratchWords n ≤ length t₂
-  paths-room = let r = h .task .scene .room in let e = paths-long in omega arith
+  paths-room = let r = h .task .scene .room in let e = paths-apart .long in omega arith
 
-  pub paths-asked : Space n (middle n b t₂) × Small n (middle n b t₂) × (m .second < 16)
-  paths-asked =
-      let drawn = drawn-part (h .task) (h .first) (h .second) (among h) (is-machine h machined) (has-brackets h numbered) copied stayed paths-room (within-none n 23 24 t₂) in
-      let e = is-machine h machined .start in let l = is-machine h machined .few in
-      subst (λ c. Space n (middle n c t₂) × Small n (middle n c t₂) × (m .second < 16)) (sym ends) (part-space (h .task) t₂ paths-room, drawn .small, omega arith)
+  pub paths-stage : Stage (h .first) (h .second) (treeOf ns) m n (middle n b t₂)
+  paths-stage =
+      subst (λ c. Stage (h .first) (h .second) (treeOf ns) m n (middle n c t₂)) (sym ends)
+      (drawn-stage (h .task) (h .first) (h .second) (among h) (is-machine h machined) (has-brackets h numbered) copied stayed paths-room (within-none n 23 24 t₂))
 
-  pub paths-done : {p : List ℕ} → Answered n (Meets m n (middle n b t₂) (h .sign)) (middle n b t₂) p → Answers ns n (test (testsOf T) k) t (returned n b t₂ p)
+  pub paths-asked : Staged m n (middle n b t₂) × PartRoom n (middle n b t₂)
+  paths-asked = ((h .first, h .second, treeOf ns, paths-stage), subst (λ c. PartRoom n (middle n c t₂)) (sym ends) (part-room (h .task) t₂ paths-room))
+
+  paths-done : {p : List ℕ} → Answered n (Holds (treeOf ns) (compare (h .sign) (h .first) (h .second))) (middle n b t₂) p
+      → Answers ns n (test (testsOf T) k) t (returned n b t₂ p)
   paths-done {p} =
-      subst (λ U. Answered n (Meets m n (middle n b t₂) (h .sign)) (middle n b t₂) p → Answers ns n U t (returned n b t₂ p)) (sym (h .is))
-      (subst (λ c. Answered n (Meets m n (middle n c t₂) (h .sign)) (middle n c t₂) p → Answers ns n (compare (h .sign) (h .first) (h .second)) t (returned n c t₂ p)) (sym ends)
-      (paths-answered (h .task) (h .first) (h .second) (among h) (is-machine h machined) (has-brackets h numbered) copied stayed (h .sign) paths-room))
+      subst (λ U. Answered n (Holds (treeOf ns) (compare (h .sign) (h .first) (h .second))) (middle n b t₂) p → Answers ns n U t (returned n b t₂ p)) (sym (h .is))
+      (subst (λ c. Answered n (Holds (treeOf ns) (compare (h .sign) (h .first) (h .second))) (middle n c t₂) p → Answers ns n (compare (h .sign) (h .first) (h .second)) t (returned n c t₂ p)) (sym ends)
+      (answered (some-nodes (h .task)) paths-room paths-apart))
+
+  -- what the evaluator tells of any comparison on any tree is told of this one
+  pub paths-compared : {e : Evaluator} {p : List ℕ} {r : ℕ}
+      → ((P R : XPath) (t′ : Tree) (q : Op) → Stage P R t′ m n (middle n b t₂) → o ≡ operator q → Compared e t′ q P R n (middle n b t₂) p r)
+      → Compares e ns n (test (testsOf T) k) t (returned n b t₂ p) r
+  paths-compared {e} {p} {r} f =
+      let x = f (h .first) (h .second) (treeOf ns) (h .sign) paths-stage (h .told) in
+      record { answers = paths-done (x .answered); adds = subst (λ U. Adds e (treeOf ns) U r) (sym (h .is)) (x .adds) }
 
 -- ── A path and a constant ──
 module _ {s rule : List ℕ} {ns : List Node} {T : Test} {n at k : ℕ} {t : List ℕ} {start stop : ℕ} {o : Operator} (h : Constant s rule ns T n at k t start stop o)
     {m : Machine} {numbers t₁ t₂ t₃ : List ℕ} {b : ℕ}
     (machined : MachinedAlone rule (at + 1) m) (numbered : NumbersOne rule (at + 1) (k + 1) numbers)
     (copied : Copied n t t₁) (stayed : Stayed n (m .brackets) numbers t₁ t₂) (judged : Judged ns n (h .sign) (slice start stop rule) t₂ t₃) (ends : b ≡ scratchWords n) where
-  constant-long : length t₃ ≡ length t
-  constant-long = judged .within .long ∙ drawn-long (h .task) (h .first) empty (among-alone h) (is-machine-alone h machined) (has-brackets-alone h numbered) copied stayed
+  constant-apart : Apart n t t₃
+  constant-apart =
+      apart-then (drawn-apart (h .task) (h .first) empty (among-alone h) (is-machine-alone h machined) (has-brackets-alone h numbered) copied stayed)
+      (within-apart (some-nodes (h .task)) (omega arith) (omega arith) (judged .within))
 
   constant-room : scratchWords n ≤ length t₃
-  constant-room = let r = h .task .scene .room in let e = constant-long in omega arith
+  constant-room = let r = h .task .scene .room in let e = constant-apart .long in omega arith
 
-  pub constant-asked : Space n (middle n b t₃)
-  constant-asked = subst (λ c. Space n (middle n c t₃)) (sym ends) (part-space (h .task) t₃ constant-room)
+  pub constant-stage : Stage (h .first) empty (treeOf ns) m n (middle n b t₃)
+  constant-stage =
+      subst (λ c. Stage (h .first) empty (treeOf ns) m n (middle n c t₃)) (sym ends)
+      (drawn-stage (h .task) (h .first) empty (among-alone h) (is-machine-alone h machined) (has-brackets-alone h numbered) copied stayed constant-room (judged .within))
 
-  pub constant-done : {p : List ℕ} → Answered n (Hits m n (middle n b t₃)) (middle n b t₃) p → Answers ns n (test (testsOf T) k) t (returned n b t₃ p)
+  pub constant-judges : Judges (h .sign) (slice start stop rule) (treeOf ns) n (middle n b t₃)
+  constant-judges = subst (λ c. Judges (h .sign) (slice start stop rule) (treeOf ns) n (middle n c t₃)) (sym ends) (judges (some-nodes (h .task)) constant-room judged)
+
+  pub constant-asked : Staged m n (middle n b t₃) × PartRoom n (middle n b t₃)
+  constant-asked = ((h .first, empty, treeOf ns, constant-stage), subst (λ c. PartRoom n (middle n c t₃)) (sym ends) (part-room (h .task) t₃ constant-room))
+
+  constant-done : {p : List ℕ} → Answered n (Holds (treeOf ns) (compareTo (h .sign) (h .first) (slice start stop rule))) (middle n b t₃) p
+      → Answers ns n (test (testsOf T) k) t (returned n b t₃ p)
   constant-done {p} =
-      subst (λ U. Answered n (Hits m n (middle n b t₃)) (middle n b t₃) p → Answers ns n U t (returned n b t₃ p)) (sym (h .is))
-      (subst (λ c. Answered n (Hits m n (middle n c t₃)) (middle n c t₃) p → Answers ns n (compareTo (h .sign) (h .first) (slice start stop rule)) t (returned n c t₃ p)) (sym ends)
-      (constant-answered (h .task) (h .first) empty (among-alone h) (is-machine-alone h machined) (has-brackets-alone h numbered) copied stayed (h .sign) (slice start stop rule) refl constant-room judged))
+      subst (λ U. Answered n (Holds (treeOf ns) (compareTo (h .sign) (h .first) (slice start stop rule))) (middle n b t₃) p → Answers ns n U t (returned n b t₃ p)) (sym (h .is))
+      (subst (λ c. Answered n (Holds (treeOf ns) (compareTo (h .sign) (h .first) (slice start stop rule))) (middle n c t₃) p → Answers ns n (compareTo (h .sign) (h .first) (slice start stop rule)) t (returned n c t₃ p)) (sym ends)
+      (answered (some-nodes (h .task)) constant-room constant-apart))
+
+  pub constant-compared : {p : List ℕ} → Hit m n (middle n b t₃) p → Answers ns n (test (testsOf T) k) t (returned n b t₃ p)
+  constant-compared f = constant-done (f (h .first) (treeOf ns) (h .sign) (slice start stop rule) constant-stage constant-judges)

@@ -7,3 +7,4 @@ pub mod Arms
 pub mod Asked
 pub mod Operands
 pub mod Lending
+pub mod Totals

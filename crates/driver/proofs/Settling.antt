@@ -63,9 +63,6 @@ settling-step {ns} {n} {k} {t₀} {t} {t′} T few p d = record {
   behind = λ i h. d .behind i h ∙ p .behind i h;
 }
 
-pub settling-before : {ns : List Node} {n k : ℕ} {t₀ t : List ℕ} (T : Test) → 0 < k → Settling ns n k T t₀ t → Settling ns n (suc (k - 1)) T t₀ t
-settling-before {ns} {n} {k} {t₀} {t} T h p = let e : k ≡ suc (k - 1) = omega arith in subst (λ j. Settling ns n j T t₀ t) e p
-
 -- the test before is due
 pub task : {s rule : List ℕ} {ns : List Node} {n k : ℕ} {t₀ t offsets : List ℕ} {count : ℕ} (T : Test) → Scene s ns n t₀ → Accepts rule T → Listed rule T offsets count
     → k < count → Settling ns n (suc k) T t₀ t → Task s rule ns T n (getD offsets k 0) k t

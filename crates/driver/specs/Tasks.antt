@@ -8,7 +8,9 @@ use lib.ListN.{length, getD}
 use lib.Seq.{slice}
 use Rattle.limits.specs.Limits.{scratchWords}
 use Rattle.xpath.specs.Syntax.{Op, Test, named, not, and, or, compare, compareTo, XPath}
+use Rattle.xpath.specs.Tree.{Tree}
 use Rattle.xpath.specs.Meaning.{Holds}
+use Rattle.snippets.specs.Count.{Counted}
 use Rattle.library.specs.Library.{Node}
 use Rattle.library.specs.Binary.{treeOf}
 use Rattle.library.specs.Verdict as Document
@@ -23,6 +25,10 @@ use Rattle.parts.specs.declared.kinds.TestKind.{TestKind}
 use Rattle.parts.specs.declared.kinds.TestKind.the-variants.{Named, Not, And, Or, Comparison}
 use Rattle.columns.specs.Columns.{TESTS, held}
 use Rattle.numbering.specs.Tests.{testsOf, test}
+use Rattle.numbering.specs.Owned.{owned}
+use Rattle.evaluators.specs.declared.Evaluator.{Evaluator}
+use Rattle.evaluators.specs.Evaluators.{Adds}
+use Rattle.evaluators.specs.declared.Evaluator.the-variants.{Plain, Snippets}
 
 -- the scratch holds the tree of the accepted document and the ranks of its values
 pub record Scene (s : List ℕ) (ns : List Node) (n : ℕ) (t : List ℕ) : Type 0 where
@@ -97,9 +103,28 @@ pub record Decided (ns : List Node) (n k : ℕ) (T : Test) (t t′ : List ℕ) :
   pub front : (i : ℕ) → i < TESTS * n → getD t′ i 0 ≡ getD t i 0
   pub behind : (i : ℕ) → scratchWords n ≤ i → getD t′ i 0 ≡ getD t i 0
 
+-- answered or settled by an evaluator, and the snippets of the test
+pub record Compares (e : Evaluator) (ns : List Node) (n : ℕ) (T : Test) (t t′ : List ℕ) (r : ℕ) : Type 0 where
+  pub answers : Answers ns n T t t′
+  pub adds : Adds e (treeOf ns) T r
+
+pub record Settles (e : Evaluator) (ns : List Node) (n k : ℕ) (T : Test) (t t′ : List ℕ) (r : ℕ) : Type 0 where
+  pub decided : Decided ns n k T t t′
+  pub adds : Adds e (treeOf ns) T r
+
 -- all tests from k on are settled
 pub record Settling (ns : List Node) (n k : ℕ) (T : Test) (t t′ : List ℕ) : Type 0 where
   pub long : length t′ ≡ length t
   pub tells : (i : ℕ) → k ≤ i → i < length (testsOf T) → Tells ns n i (test (testsOf T) i) t′
   pub front : (i : ℕ) → i < TESTS * n → getD t′ i 0 ≡ getD t i 0
   pub behind : (i : ℕ) → scratchWords n ≤ i → getD t′ i 0 ≡ getD t i 0
+
+-- the snippets of a list of tests, added
+abbrev pub Total : Evaluator → Tree → List Test → ℕ → Type 0
+Total Plain t Ts r = r ≡ 0
+Total Snippets t Ts r = Counted t (owned Ts) r
+
+-- all tests of the rule are settled, and their snippets are added
+pub record Evaluates (e : Evaluator) (ns : List Node) (n : ℕ) (T : Test) (t t′ : List ℕ) (r : ℕ) : Type 0 where
+  pub settling : Settling ns n 0 T t t′
+  pub total : Total e (treeOf ns) (testsOf T) r

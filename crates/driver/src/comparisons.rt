@@ -2,6 +2,9 @@
 use drawing::draw;
 use drawing::draw_hits;
 use drawing::draw_tests;
+use evaluators::Evaluator;
+use evaluators::compare_constant;
+use evaluators::compare_paths;
 use limits::Scratch;
 use links::table::Table;
 use machines::machine_of;
@@ -11,18 +14,17 @@ use numbering::bracket_tests_of_one;
 use parts::kinds::Operator;
 use parts::parted;
 use parts::skip_test;
-use plain::compare_constant;
-use plain::compare_paths;
 use rule::tokens::stands;
 ghost use mathlib.Core.List.{List};
 ghost use Rattle.xpath.specs.Syntax.{Test};
 ghost use Rattle.library.specs.Library as Library;
 ghost use Rattle.parts.specs.declared.kinds.TestKind.the-variants.{Comparison};
 ghost use Rattle.numbering.specs.Tests.{testsOf, test};
-ghost use Rattle.driver.specs.Tasks.{Task, Shape, Paths, Constant, Answers};
+ghost use Rattle.driver.specs.Tasks.{Task, Shape, Paths, Constant, Answers, Compares};
 
 // Two paths, the first right behind the comparison's bracket. Their evaluator gets the middle of the scratch.
 fn between_paths(
+    e: Evaluator,
     s: &[u8],
     rule: &[u8],
     t: &mut [u16],
@@ -31,20 +33,21 @@ fn between_paths(
     k: usize,
     behind: usize,
     o: Operator,
-)
+) -> usize
     requires { ⌜ ((ns : List Library.Node) × (T : Test) × Paths (now s) (now rule) ns T n at k (now t) behind o) ⌝ }
-    ensures { λ _. ⌜ ((ns : List Library.Node) (T : Test) → Paths (now (s .entry)) (now (rule .entry)) ns T n at k (now (t .entry)) behind o → Answers ns n (test (testsOf T) k) (now (t .entry)) (now (t .exit))) ⌝ }
+    ensures { λ r. ⌜ ((ns : List Library.Node) (T : Test) → Paths (now (s .entry)) (now (rule .entry)) ns T n at k (now (t .entry)) behind o → Compares e ns n (test (testsOf T) k) (now (t .entry)) (now (t .exit)) r) ⌝ }
 {
     let m = machine_of(rule, at + 1, behind);
     let numbers = bracket_tests(rule, at + 1, behind, k + 1);
     draw(t, n);
     draw_tests(t, n, m.brackets, numbers);
     let end = Scratch::needed(n);
-    compare_paths(&mut t[Table::COLUMNS * n..end], n, m, o);
+    compare_paths(e, &mut t[Table::COLUMNS * n..end], n, m, o)
 }
 
 // A path and the constant that stands from one offset up to another.
 fn with_constant(
+    e: Evaluator,
     s: &[u8],
     rule: &[u8],
     t: &mut [u16],
@@ -64,20 +67,28 @@ fn with_constant(
     draw_tests(t, n, m.brackets, numbers);
     draw_hits(s, rule, t, n, from, to, o);
     let end = Scratch::needed(n);
-    compare_constant(&mut t[Table::COLUMNS * n..end], n, m);
+    compare_constant(e, &mut t[Table::COLUMNS * n..end], n, m);
 }
 
-// The comparison that stands at an offset: its answers are left in the first column of its part.
-pub fn compare(s: &[u8], rule: &[u8], t: &mut [u16], n: usize, at: usize, k: usize)
+// The comparison that stands at an offset: its answers are left in the first column of its part, and the number of its snippets is handed back.
+pub fn compare(
+    e: Evaluator,
+    s: &[u8],
+    rule: &[u8],
+    t: &mut [u16],
+    n: usize,
+    at: usize,
+    k: usize,
+) -> usize
     requires { ⌜ ((ns : List Library.Node) × (T : Test) × Task (now s) (now rule) ns T n at k (now t) × Shape Comparison (test (testsOf T) k)) ⌝ }
-    ensures { λ _. ⌜ ((ns : List Library.Node) (T : Test) → Task (now (s .entry)) (now (rule .entry)) ns T n at k (now (t .entry)) → Shape Comparison (test (testsOf T) k) → Answers ns n (test (testsOf T) k) (now (t .entry)) (now (t .exit))) ⌝ }
+    ensures { λ r. ⌜ ((ns : List Library.Node) (T : Test) → Task (now (s .entry)) (now (rule .entry)) ns T n at k (now (t .entry)) → Shape Comparison (test (testsOf T) k) → Compares e ns n (test (testsOf T) k) (now (t .entry)) (now (t .exit)) r) ⌝ }
 {
     let c = parted(rule, at);
     let o = c.operator;
     if stands(rule, c.second, b'"') {
         let end = skip_test(rule, at);
-        with_constant(s, rule, t, n, at, k, c.second + 1, end - 2, o);
-    } else {
-        between_paths(s, rule, t, n, at, k, c.second, o);
+        with_constant(e, s, rule, t, n, at, k, c.second + 1, end - 2, o);
+        return 0;
     }
+    between_paths(e, s, rule, t, n, at, k, c.second, o)
 }

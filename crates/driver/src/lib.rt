@@ -8,6 +8,7 @@ use columns::passes::deny;
 use columns::passes::either;
 use columns::passes::take;
 use comparisons::compare;
+use evaluators::Evaluator;
 use numbering::second_test;
 use numbering::tests_of;
 use parts::kinds::TestKind;
@@ -19,54 +20,76 @@ ghost use Rattle.library.specs.Library as Library;
 ghost use Rattle.grammar.specs.Verdict as Rule;
 ghost use Rattle.parts.specs.declared.kinds.TestKind.the-variants.{Comparison};
 ghost use Rattle.numbering.specs.Tests.{testsOf, test};
-ghost use Rattle.driver.specs.Tasks.{Scene, Task, Shape, Decided, Settling};
+ghost use Rattle.driver.specs.Tasks.{Scene, Task, Shape, Settles, Evaluates};
 
-// The comparison that stands at an offset is test `k`.
-fn comparison(s: &[u8], rule: &[u8], t: &mut [u16], n: usize, at: usize, k: usize)
+// The comparison that stands at an offset is test `k`. The number of its snippets is handed back.
+fn comparison(
+    e: Evaluator,
+    s: &[u8],
+    rule: &[u8],
+    t: &mut [u16],
+    n: usize,
+    at: usize,
+    k: usize,
+) -> usize
     requires { ⌜ ((ns : List Library.Node) × (T : Test) × Task (now s) (now rule) ns T n at k (now t) × Shape Comparison (test (testsOf T) k)) ⌝ }
-    ensures { λ _. ⌜ ((ns : List Library.Node) (T : Test) → Task (now (s .entry)) (now (rule .entry)) ns T n at k (now (t .entry)) → Shape Comparison (test (testsOf T) k) → Decided ns n k (test (testsOf T) k) (now (t .entry)) (now (t .exit))) ⌝ }
+    ensures { λ r. ⌜ ((ns : List Library.Node) (T : Test) → Task (now (s .entry)) (now (rule .entry)) ns T n at k (now (t .entry)) → Shape Comparison (test (testsOf T) k) → Settles e ns n k (test (testsOf T) k) (now (t .entry)) (now (t .exit)) r) ⌝ }
 {
-    compare(s, rule, t, n, at, k);
+    let snippets = compare(e, s, rule, t, n, at, k);
     take(t, n, k);
+    snippets
 }
 
-// Test `k`, which stands at an offset, where the tests inside it are settled.
-fn settle(s: &[u8], rule: &[u8], t: &mut [u16], n: usize, at: usize, k: usize)
+// Test `k`, which stands at an offset, where the tests inside it are settled. The number of its snippets is handed back.
+fn settle(
+    e: Evaluator,
+    s: &[u8],
+    rule: &[u8],
+    t: &mut [u16],
+    n: usize,
+    at: usize,
+    k: usize,
+) -> usize
     requires { ⌜ ((ns : List Library.Node) × (T : Test) × Task (now s) (now rule) ns T n at k (now t)) ⌝ }
-    ensures { λ _. ⌜ ((ns : List Library.Node) (T : Test) → Task (now (s .entry)) (now (rule .entry)) ns T n at k (now (t .entry)) → Decided ns n k (test (testsOf T) k) (now (t .entry)) (now (t .exit))) ⌝ }
+    ensures { λ r. ⌜ ((ns : List Library.Node) (T : Test) → Task (now (s .entry)) (now (rule .entry)) ns T n at k (now (t .entry)) → Settles e ns n k (test (testsOf T) k) (now (t .entry)) (now (t .exit)) r) ⌝ }
 {
     let kind = test_kind(rule, at);
     match kind {
         TestKind::Named => {
             let end = skip_test(rule, at);
             named(s, rule, t, n, k, at + 1, end);
+            0
         }
         TestKind::Not => {
             deny(t, n, k, k + 1);
+            0
         }
         TestKind::And => {
             let b = second_test(rule, at, k);
             both(t, n, k, k + 1, b);
+            0
         }
         TestKind::Or => {
             let b = second_test(rule, at, k);
             either(t, n, k, k + 1, b);
+            0
         }
-        TestKind::Comparison => {
-            comparison(s, rule, t, n, at, k);
-        }
+        TestKind::Comparison => comparison(e, s, rule, t, n, at, k),
     }
 }
 
-// Where the rule and each test in it hold: bit 0 is that of the rule.
-pub fn settle_rule(s: &[u8], rule: &[u8], t: &mut [u16], n: usize)
+// Where the rule and each test in it hold: bit 0 is that of the rule. The number of snippets of all its equalities is handed back.
+pub fn settle_rule(e: Evaluator, s: &[u8], rule: &[u8], t: &mut [u16], n: usize) -> usize
     requires { ⌜ ((ns : List Library.Node) × (T : Test) × Scene (now s) ns n (now t) × Rule.Accepts (now rule) T) ⌝ }
-    ensures { λ _. ⌜ ((ns : List Library.Node) (T : Test) → Scene (now (s .entry)) ns n (now (t .entry)) → Rule.Accepts (now (rule .entry)) T → Settling ns n 0 T (now (t .entry)) (now (t .exit))) ⌝ }
+    ensures { λ r. ⌜ ((ns : List Library.Node) (T : Test) → Scene (now (s .entry)) ns n (now (t .entry)) → Rule.Accepts (now (rule .entry)) T → Evaluates e ns n T (now (t .entry)) (now (t .exit)) r) ⌝ }
 {
     let mut offsets = [0; 64];
     let mut k = tests_of(rule, &mut offsets);
+    let mut snippets = 0;
     while 0 < k {
         k -= 1;
-        settle(s, rule, t, n, offsets[k], k);
+        let own = settle(e, s, rule, t, n, offsets[k], k);
+        snippets = own + snippets;
     }
+    snippets
 }

@@ -17,11 +17,11 @@ use Rattle.grammar.specs.Verdict.{RuleGround}
 use Rattle.grammar.specs.Verdict as Rule
 use Rattle.grammar.proofs.Judged.{rule-judged}
 use Rattle.selection.specs.Buffers.{Ground, Accepted}
-use Rattle.selection.specs.Evaluation.{PlainEvaluation}
+use Rattle.evaluators.specs.declared.Evaluator.{Evaluator}
 use Rattle.selection.proofs.Judged.{by-document, by-rule, short-scratch, few-marks, judged, accepted-unrefused, one-library}
 use Rattle.selection.proofs.Agreement.{number-positive}
 use Rattle.evaluation.specs.Judging.{Judges}
-use Rattle.evaluation.specs.Outcomes.{refusedBy, selecting, Selection}
+use Rattle.evaluation.specs.Outcomes.{refusedBy, selecting, Selection, Evaluated}
 
 -- ── What the two checks say by their number ──
 document-accepted : {s : List ℕ} {n p nodes : ℕ} → Document.Checked s n p nodes → n ≡ 0 → (ns : List Node) × Document.Accepts s ns × (nodes ≡ length ns)
@@ -104,24 +104,24 @@ module _ {document rule : List ℕ} {words marks : ℕ} where
     where
       go : ((r : Refusal) × First (Ground document rule words marks) r) ⊎ ((ns : List Node) × (T : Test) × Accepted document rule words marks ns T)
           → (ns : List Node) × (T : Test) × Accepted document rule words marks ns T × (length ns ≡ nodes)
-      go (inl (r, f)) = let e = j .refused r f .0 in let h = number-positive r in absurd (omega arith)
+      go (inl (r, f)) = let q = j .refused r f .0 in let h = number-positive r in absurd (omega arith)
       go (inr (ns, T, a)) = (ns, T, a, sym (j .accepted ns T a .2))
 
 -- ── The two sides of the contract ──
 module _ {document rule scratch marks : List ℕ} {n p nodes : ℕ} (j : Judges document rule (length scratch) (length marks) n p nodes) where
-  pub plain-refused : n ≢ 0 → PlainEvaluation document rule scratch marks (refusedBy n p) scratch marks
-  plain-refused z = record {
-    refused = λ r f. let (e, g, _) = j .refused r f in record {
-      outcome = λ i. record { number = e i; place = g i; selected = 0; snippets = 0 };
+  pub call-refused : (e : Evaluator) → n ≢ 0 → Evaluated e document rule scratch marks (refusedBy n p) scratch marks
+  call-refused e z = record {
+    refused = λ r f. let (h, g, _) = j .refused r f in record {
+      outcome = λ i. record { number = h i; place = g i; selected = 0; snippets = 0 };
       sameScratch = refl;
       sameMarks = refl;
     };
     accepted = λ ns T a. absurd (z (j .accepted ns T a .0));
   }
 
-  pub plain-accepted : n ≡ 0 → (k : ℕ) (scratch′ marks′ : List ℕ) → Selection document rule scratch marks k scratch′ marks′
-      → PlainEvaluation document rule scratch marks (selecting k) scratch′ marks′
-  plain-accepted z k scratch′ marks′ s = record {
-    refused = λ r f. let e = j .refused r f .0 in let h = number-positive r in absurd (omega arith);
+  pub call-accepted : (e : Evaluator) → n ≡ 0 → (k c : ℕ) (scratch′ marks′ : List ℕ) → Selection e document rule scratch marks k c scratch′ marks′
+      → Evaluated e document rule scratch marks (selecting k c) scratch′ marks′
+  call-accepted e z k c scratch′ marks′ s = record {
+    refused = λ r f. let q = j .refused r f .0 in let h = number-positive r in absurd (omega arith);
     accepted = s;
   }

@@ -11,10 +11,12 @@ use Rattle.lists.specs.Lists.{Number}
 use Rattle.limits.specs.Limits.{documentNodes, scratchWords}
 use Rattle.xpath.specs.Syntax.{Test}
 use Rattle.library.specs.Library.{Node}
+use Rattle.library.specs.Binary.{treeOf}
+use Rattle.library.proofs.Binary.{tree-formed}
 use Rattle.library.specs.Verdict as Document
 use Rattle.grammar.specs.Verdict as Rule
 use Rattle.selection.specs.Buffers.{Accepted}
-use Rattle.selection.specs.Evaluation.{Selects, Selected, NoSnippets}
+use Rattle.selection.specs.Evaluation.{Selects, Selected}
 use Rattle.selection.proofs.Judged.{one-library}
 use Rattle.links.specs.Table.{COLUMNS, Room, Kept}
 use Rattle.links.specs.Links.{Linked, Built}
@@ -22,10 +24,14 @@ use Rattle.links.proofs.Cells.{kept-then}
 use Rattle.ranks.specs.Ranks.{Tabled, Written, one}
 use Rattle.columns.specs.Columns.{held}
 use Rattle.marking.specs.Marking.{Told, Marked}
+use Rattle.numbering.specs.Tests.{testsOf}
 use Rattle.numbering.proofs.Counts.{tests-some}
+use Rattle.numbering.proofs.Counted.{counted-rule}
 use Rattle.driver.proofs.Frames.{scratch-room}
-use Rattle.driver.specs.Tasks.{Scene, Tells, Settling}
-use Rattle.evaluation.specs.Outcomes.{selecting}
+use Rattle.evaluators.specs.declared.Evaluator.{Evaluator}
+use Rattle.evaluators.specs.declared.Evaluator.the-variants.{Plain, Snippets}
+use Rattle.driver.specs.Tasks.{Scene, Tells, Settling, Total, Evaluates}
+use Rattle.evaluation.specs.Outcomes.{selecting, countOf}
 
 -- ── Laws of what the steps keep and count ──
 kept-drop : {m : ℕ} {t t′ : List ℕ} → Kept m t t′ → drop m t′ ≡ drop m t
@@ -86,15 +92,20 @@ module _ (t marks : List ℕ) {document rule : List ℕ} {ns : List Node} {T : T
           let h = enough in let e = behind-table .long in
           record { library = a .library; size = size; linked = ranked .linked; ranked = ranked .ranked; room = omega arith }
 
-      module _ {t₃ : List ℕ} (settle : (ms : List Node) (U : Test) → Scene document ms n t₂ → Rule.Accepts rule U → Settling ms n 0 U t₂ t₃) where
+      module _ {e : Evaluator} {t₃ : List ℕ} {c : ℕ} (settle : (ms : List Node) (U : Test) → Scene document ms n t₂ → Rule.Accepts rule U → Evaluates e ms n U t₂ t₃ c) where
         settled : Settling ns n 0 T t₂ t₃
-        settled = settle ns T scene (a .test)
+        settled = settle ns T scene (a .test) .settling
 
         behind : Kept (scratchWords n) t t₃
         behind = kept-then behind-table (record { long = settled .long; behind = settled .behind })
 
         pub settled-room : Room n t₃
         settled-room = let h = room in let e = behind .long in omega arith
+
+        -- the snippets of all tests are those of the rule
+        total-count : (f : Evaluator) (r : ℕ) → Total f (treeOf ns) (testsOf T) r → countOf f (treeOf ns) T r
+        total-count Plain r h = h
+        total-count Snippets r h = counted-rule (a .test) (treeOf ns) (tree-formed (a .library .legal)) r h
 
         -- test 0 is the rule
         tells : Tells ns n 0 T t₃
@@ -111,12 +122,12 @@ module _ (t marks : List ℕ) {document rule : List ℕ} {ns : List Node} {T : T
           settled-words = let h = enough in let e = behind .long in omega arith
 
           pub selected : {k : ℕ} {marks′ t₄ : List ℕ} → Marked n t₃ marks marks′ k → (take m t₄ ≡ replicate m 0) × (drop m t₄ ≡ drop m t₃)
-              → Selected NoSnippets ns T t marks (selecting k) t₄ marks′
+              → Selected (countOf e) ns T t marks (selecting k c) t₄ marks′
           selected {k} {marks′} {t₄} marked cleared = record {
             number = refl;
             place = refl;
             selected = number-same told (marked .count);
-            snippets = refl;
+            snippets = total-count e c (settle ns T scene (a .test) .total);
             marked = λ v l. let r : v < n = omega arith in mark-told (held t₃ n 0 v) (getD marks′ v 0) (bit-told v r) (marked .marked v r);
             laterMarks = rw size (marked .later);
             asManyMarks = marked .long;

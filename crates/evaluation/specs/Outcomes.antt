@@ -3,9 +3,14 @@ use Prim.Native.Nat.{ℕ}
 use mathlib.Core.List.{List}
 use lib.ListN.{length}
 use Rattle.xpath.specs.Syntax.{Test}
+use Rattle.xpath.specs.Tree.{Tree}
 use Rattle.library.specs.Library.{Node}
 use Rattle.selection.specs.Buffers.{Accepted}
 use Rattle.selection.specs.Evaluation.{Outcome, Selected, NoSnippets}
+use Rattle.selection.specs.Evaluation as Contract
+use Rattle.snippets.specs.Count.{SnippetCount}
+use Rattle.evaluators.specs.declared.Evaluator.{Evaluator}
+use Rattle.evaluators.specs.declared.Evaluator.the-variants.{Plain, Snippets}
 use Rattle.evaluation.specs.declared.Evaluation.{Evaluation}
 
 abbrev pub outcomeOf : Evaluation → Outcome
@@ -15,12 +20,21 @@ outcomeOf e = record { number = e .number; place = e .place; selected = e .selec
 abbrev pub refusedBy : ℕ → ℕ → Outcome
 refusedBy n p = record { number = n; place = p; selected = 0; snippets = 0 }
 
--- an accepted plain call that selects so many nodes
-abbrev pub selecting : ℕ → Outcome
-selecting k = record { number = 0; place = 0; selected = k; snippets = 0 }
+-- an accepted call that selects so many nodes and has so many snippets
+abbrev pub selecting : ℕ → ℕ → Outcome
+selecting k c = record { number = 0; place = 0; selected = k; snippets = c }
+
+-- what the snippet count of an evaluation is
+abbrev pub countOf : Evaluator → Tree → Test → ℕ → Type 0
+countOf Plain t T n = NoSnippets t T n
+countOf Snippets t T n = SnippetCount t T n
 
 -- if the call is accepted, the nodes that the rule selects are marked and counted, and the scratch is cleared
-abbrev pub Selection : (document rule scratch marks : List ℕ) (count : ℕ) (scratch′ marks′ : List ℕ) → Type 0
-Selection document rule scratch marks count scratch′ marks′ =
+abbrev pub Selection : Evaluator → (document rule scratch marks : List ℕ) (count snippets : ℕ) (scratch′ marks′ : List ℕ) → Type 0
+Selection e document rule scratch marks count snippets scratch′ marks′ =
     (ns : List Node) (T : Test) → Accepted document rule (length scratch) (length marks) ns T
-    → Selected NoSnippets ns T scratch marks (selecting count) scratch′ marks′
+    → Selected (countOf e) ns T scratch marks (selecting count snippets) scratch′ marks′
+
+-- the whole contract, for either evaluator
+abbrev pub Evaluated : Evaluator → (document rule scratch marks : List ℕ) → Outcome → (scratch′ marks′ : List ℕ) → Type 0
+Evaluated e document rule scratch marks o scratch′ marks′ = Contract.Evaluation (countOf e) document rule scratch marks o scratch′ marks′

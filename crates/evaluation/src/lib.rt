@@ -1,7 +1,8 @@
-// The plain evaluation: the inputs are judged, and where they are accepted the rule is settled in the scratch and its nodes are marked.
+// The evaluations: the inputs are judged, and where they are accepted the rule is settled in the scratch and its nodes are marked.
 use answers::check_document;
 use answers::check_rule;
 use driver::settle_rule;
+use evaluators::Evaluator;
 use limits::Scratch;
 use links::build;
 use marking::clear;
@@ -13,9 +14,9 @@ ghost use lib.ListN.{length};
 ghost use Rattle.xpath.specs.Syntax.{Test};
 ghost use Rattle.library.specs.Library as Library;
 ghost use Rattle.selection.specs.Buffers.{Accepted};
-ghost use Rattle.selection.specs.Evaluation.{PlainEvaluation};
+ghost use Rattle.selection.specs.Evaluation.{PlainEvaluation, SnippetEvaluation};
 ghost use Rattle.evaluation.specs.Judging.{Judges};
-ghost use Rattle.evaluation.specs.Outcomes.{outcomeOf, Selection};
+ghost use Rattle.evaluation.specs.Outcomes.{outcomeOf, Selection, Evaluated};
 
 // Number and place of the first ground of refusal; or zeros, and the number of nodes.
 struct Judgement {
@@ -76,28 +77,42 @@ pub struct Evaluation {
     pub snippets: usize,
 }
 
-// Marks the nodes at which an accepted rule holds, and leaves zeros in the scratch. Returns how many nodes it marks.
-fn select(document: &[u8], rule: &[u8], scratch: &mut [u16], marks: &mut [u8], n: usize) -> usize
+// How many nodes are marked, and how many snippets the rule has.
+struct Picked {
+    selected: usize,
+    snippets: usize,
+}
+
+// Marks the nodes at which an accepted rule holds, and leaves zeros in the scratch.
+fn select(
+    e: Evaluator,
+    document: &[u8],
+    rule: &[u8],
+    scratch: &mut [u16],
+    marks: &mut [u8],
+    n: usize,
+) -> Picked
     requires { ⌜ ((ns : List Library.Node) × (T : Test) × Accepted (now document) (now rule) (length (now scratch)) (length (now marks)) ns T × (length ns ≡ n)) ⌝ }
-    ensures { λ r. ⌜ Selection (now (document .entry)) (now (rule .entry)) (now (scratch .entry)) (now (marks .entry)) r (now (scratch .exit)) (now (marks .exit)) ⌝ }
+    ensures { λ r. ⌜ Selection e (now (document .entry)) (now (rule .entry)) (now (scratch .entry)) (now (marks .entry)) (r .selected) (r .snippets) (now (scratch .exit)) (now (marks .exit)) ⌝ }
 {
     build(document, scratch, n);
     rank(document, scratch, n);
-    settle_rule(document, rule, scratch, n);
-    let count = mark(scratch, n, marks);
+    let snippets = settle_rule(e, document, rule, scratch, n);
+    let selected = mark(scratch, n, marks);
     let words = Scratch::needed(n);
     clear(scratch, words);
-    count
+    Picked { selected, snippets }
 }
 
 // Selects the nodes of a document at which a rule holds. A call that is refused changes no mark and no word.
-pub fn evaluate_plain(
+fn evaluate(
+    e: Evaluator,
     document: &[u8],
     rule: &[u8],
     scratch: &mut [u16],
     marks: &mut [u8],
 ) -> Evaluation
-    ensures { λ r. ⌜ PlainEvaluation (now (document .entry)) (now (rule .entry)) (now (scratch .entry)) (now (marks .entry)) (outcomeOf r) (now (scratch .exit)) (now (marks .exit)) ⌝ }
+    ensures { λ r. ⌜ Evaluated e (now (document .entry)) (now (rule .entry)) (now (scratch .entry)) (now (marks .entry)) (outcomeOf r) (now (scratch .exit)) (now (marks .exit)) ⌝ }
 {
     let j = judge(document, rule, scratch.len(), marks.len());
     if j.number != 0 {
@@ -108,11 +123,35 @@ pub fn evaluate_plain(
             snippets: 0,
         };
     }
-    let selected = select(document, rule, scratch, marks, j.nodes);
+    let picked = select(e, document, rule, scratch, marks, j.nodes);
     Evaluation {
         number: 0,
         place: 0,
-        selected,
-        snippets: 0,
+        selected: picked.selected,
+        snippets: picked.snippets,
     }
+}
+
+// The plain evaluation: paths are followed from every node.
+pub fn evaluate_plain(
+    document: &[u8],
+    rule: &[u8],
+    scratch: &mut [u16],
+    marks: &mut [u8],
+) -> Evaluation
+    ensures { λ r. ⌜ PlainEvaluation (now (document .entry)) (now (rule .entry)) (now (scratch .entry)) (now (marks .entry)) (outcomeOf r) (now (scratch .exit)) (now (marks .exit)) ⌝ }
+{
+    evaluate(Evaluator::Plain, document, rule, scratch, marks)
+}
+
+// The snippet evaluation: stretches of the tree, halved by powers of two, settle the equalities, and are counted.
+pub fn evaluate_snippets(
+    document: &[u8],
+    rule: &[u8],
+    scratch: &mut [u16],
+    marks: &mut [u8],
+) -> Evaluation
+    ensures { λ r. ⌜ SnippetEvaluation (now (document .entry)) (now (rule .entry)) (now (scratch .entry)) (now (marks .entry)) (outcomeOf r) (now (scratch .exit)) (now (marks .exit)) ⌝ }
+{
+    evaluate(Evaluator::Snippets, document, rule, scratch, marks)
 }

@@ -5,7 +5,7 @@ use evaluation::Evaluation;
 ghost use Rattle.evaluation.specs.Outcomes.{outcomeOf};
 ghost use Rattle.grammar.specs.Verdict as Grammar;
 ghost use Rattle.library.specs.Verdict.{Checked};
-ghost use Rattle.selection.specs.Evaluation.{PlainEvaluation};
+ghost use Rattle.selection.specs.Evaluation.{PlainEvaluation, SnippetEvaluation};
 
 // Judges a document by numbers 1 to 4.
 #[no_mangle]
@@ -34,4 +34,17 @@ pub extern "C" fn yurzhoad_evaluate_plain(
     ensures { λ r. ⌜ PlainEvaluation (now (document .entry)) (now (rule .entry)) (now (scratch .entry)) (now (marks .entry)) (outcomeOf r) (now (scratch .exit)) (now (marks .exit)) ⌝ }
 {
     evaluation::evaluate_plain(document, rule, scratch, marks)
+}
+
+// The same by snippets, which it counts.
+#[no_mangle]
+pub extern "C" fn yurzhoad_evaluate_snippets(
+    document: &[u8],
+    rule: &[u8],
+    scratch: &mut [u16],
+    marks: &mut [u8],
+) -> Evaluation
+    ensures { λ r. ⌜ SnippetEvaluation (now (document .entry)) (now (rule .entry)) (now (scratch .entry)) (now (marks .entry)) (outcomeOf r) (now (scratch .exit)) (now (marks .exit)) ⌝ }
+{
+    evaluation::evaluate_snippets(document, rule, scratch, marks)
 }

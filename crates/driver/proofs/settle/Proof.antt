@@ -1,10 +1,13 @@
 -- `driver::settle` meets its contract.
 use Prim.Native.Nat.{ℕ, _+_, _≤_, _<_}
 use native.Mathlib.Omega.{arith}
-use mathlib.Core.Path.{_≡_, sym, subst}
+use mathlib.Core.Path.{_≡_, sym, ap, subst}
 use lib.ListN.{length}
 use Rattle.xpath.specs.Syntax.{Test}
+use Rattle.library.specs.Binary.{treeOf}
 use Rattle.numbering.specs.Tests.{testsOf, test}
+use Rattle.numbering.specs.Owned.{own}
+use Rattle.driver.proofs.Totals.{adds-none}
 use Rattle.driver.proofs.Arms.{shaped, test-begins, number-small, room, tabled, name-spans, named-decided, not-decided, not-small, and-small, and-decided, or-small, or-decided}
 use borrow.Author.Needs.{needs}
 use Rattle.driver.proofs.settle.Statement.{statement}
@@ -89,7 +92,7 @@ returns : tie.Need-returns
 returns c ns T task =
     let x = c .before .before .before .before .before .before .before .before .before .before .before .args in
     let shape = shaped (c .before .before .before .before .before .enum-told .given .1) (test (testsOf T) (x .k)) (c .before .before .before .before .before .before .before .test-kind .ensures (test (testsOf T) (x .k)) (task .end) (task .stands)) in
-    named-decided task shape (c .before .before .before .before .skip-test .ensures (test (testsOf T) (x .k)) (task .end) (task .stands)) (c .before .before .named .ensures ns (task .scene .library) (task .scene .linked))
+    record { decided = named-decided task shape (c .before .before .before .before .skip-test .ensures (test (testsOf T) (x .k)) (task .end) (task .stands)) (c .before .before .named .ensures ns (task .scene .library) (task .scene .linked)); adds = adds-none (x .e) (treeOf ns) (test (testsOf T) (x .k)) (ap own (shape .1)) }
 
 same-length-2 : tie.Need-same-length-2
 same-length-2 c = search needs
@@ -98,7 +101,7 @@ returns-2 : tie.Need-returns-2
 returns-2 c ns T task =
     let x = c .before .before .before .before .before .before .before .before .before .before .args in
     let shape = shaped (c .before .before .before .before .enum-told2 .given .1) (test (testsOf T) (x .k)) (c .before .before .before .before .before .before .test-kind .ensures (test (testsOf T) (x .k)) (task .end) (task .stands)) in
-    not-decided task shape (c .before .before .deny .ensures)
+    record { decided = not-decided task shape (c .before .before .deny .ensures); adds = adds-none (x .e) (treeOf ns) (test (testsOf T) (x .k)) (ap own (shape .1)) }
 
 same-length-3 : tie.Need-same-length-3
 same-length-3 c = search needs
@@ -107,7 +110,7 @@ returns-3 : tie.Need-returns-3
 returns-3 c ns T task =
     let x = c .before .before .before .before .before .before .before .before .before .before .before .args in
     let shape = shaped (c .before .before .before .before .before .enum-told3 .given .1) (test (testsOf T) (x .k)) (c .before .before .before .before .before .before .before .test-kind .ensures (test (testsOf T) (x .k)) (task .end) (task .stands)) in
-    and-decided task (c .before .before .before .before .second-test .ensures) shape (c .before .before .both .ensures)
+    record { decided = and-decided task (c .before .before .before .before .second-test .ensures) shape (c .before .before .both .ensures); adds = adds-none (x .e) (treeOf ns) (test (testsOf T) (x .k)) (ap own (shape .2)) }
 
 same-length-4 : tie.Need-same-length-4
 same-length-4 c = search needs
@@ -116,7 +119,7 @@ returns-4 : tie.Need-returns-4
 returns-4 c ns T task =
     let x = c .before .before .before .before .before .before .before .before .before .before .before .args in
     let shape = shaped (c .before .before .before .before .before .enum-told4 .given .1) (test (testsOf T) (x .k)) (c .before .before .before .before .before .before .before .test-kind .ensures (test (testsOf T) (x .k)) (task .end) (task .stands)) in
-    or-decided task (c .before .before .before .before .second-test2 .ensures) shape (c .before .before .either .ensures)
+    record { decided = or-decided task (c .before .before .before .before .second-test2 .ensures) shape (c .before .before .either .ensures); adds = adds-none (x .e) (treeOf ns) (test (testsOf T) (x .k)) (ap own (shape .2)) }
 
 same-length-5 : tie.Need-same-length-5
 same-length-5 c = search needs

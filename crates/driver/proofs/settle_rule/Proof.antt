@@ -3,24 +3,25 @@ use Prim.Native.Nat.{ℕ, suc, _+_, _-_, _≤_, _<_}
 use native.Mathlib.Omega.{arith}
 use mathlib.Core.Path.{_≡_, refl, _∙_, subst}
 use mathlib.Core.List.{List}
-use lib.ListN.{length, getD}
+use lib.ListN.{length}
 use Rattle.xpath.specs.Syntax.{Test}
 use Rattle.library.specs.Library.{Node}
 use Rattle.grammar.specs.Verdict.{Accepts}
 use Rattle.numbering.specs.Numbering.{Listed}
 use Rattle.numbering.proofs.Counts.{tests-few}
-use Rattle.driver.specs.Tasks.{Scene, Settling}
-use Rattle.driver.proofs.Settling.{settling-none, settling-step, settling-before, task}
+use Rattle.driver.specs.Tasks.{Scene}
+use Rattle.driver.proofs.Settling.{task}
+use Rattle.driver.proofs.Totals.{Driven, driven-none, driven-before, driven-step, driven-small}
 use Rattle.driver.proofs.settle_rule.Statement.{statement}
 use Rattle.driver.proofs.settle_rule.Tie as tie
 
 abbrev Inv-loop : tie.InvT-loop
-Inv-loop s rule t₀ n offsets k₀ t k =
+Inv-loop e s rule t₀ n offsets k₀ snippets₀ t k snippets =
     ((T : Test) → Accepts rule T → Listed rule T offsets k₀) × (k ≤ k₀) × (length t ≡ length t₀)
-    × ((ns : List Node) (T : Test) → Scene s ns n t₀ → Accepts rule T → Settling ns n k T t₀ t)
+    × ((ns : List Node) (T : Test) → Scene s ns n t₀ → Accepts rule T → Driven e ns n k T t₀ t snippets)
 
 abbrev μ-loop : tie.MeasureT-loop
-μ-loop s rule t₀ n offsets k₀ t k = k
+μ-loop e s rule t₀ n offsets k₀ snippets₀ t k snippets = k
 
 slice-aggregate-tests-of : tie.Need-slice-aggregate-tests-of Inv-loop μ-loop
 slice-aggregate-tests-of c = refl
@@ -31,7 +32,7 @@ tests-of-requires c κs = let p = c .before .before .before .before .pre in ((p 
 loop-holds : tie.Need-loop-holds Inv-loop μ-loop
 loop-holds c =
     let x = c .before .before .before .before .before .before .args in let f = c .before .tests-of .ensures in
-    (f, omega arith, refl, λ ns T scene a. settling-none ns (x .n) (c .before .tests-of .result) T (x .t .now) (let e = f T a .all in omega arith))
+    (f, omega arith, refl, λ ns T scene a. driven-none (x .e) ns (x .n) (c .before .tests-of .result) T (x .t .now) (f T a .all))
 
 sub-k : tie.Need-sub-k Inv-loop μ-loop
 sub-k c = let h = c .loop-test .taken in omega arith
@@ -48,8 +49,16 @@ array-read-settle c =
 
 settle-requires : tie.Need-settle-requires Inv-loop μ-loop
 settle-requires c κs =
-    let p = c .before .before .before .before .before .before .before .before .before .pre in let i = c .before .before .loop .inv in let h = c .before .loop-test .taken in let k = i .1 in
-    (p .0, p .1, task (p .1) (p .2) (p .3) (i .0 (p .1) (p .3)) (omega arith) (settling-before (p .1) h (i .3 (p .0) (p .1) (p .2) (p .3))))
+    let x = c .before .before .before .before .before .before .before .before .before .args in let p = c .before .before .before .before .before .before .before .before .before .pre in let i = c .before .before .loop .inv in let h = c .before .loop-test .taken in let k = i .1 in
+    (p .0, p .1, task (p .1) (p .2) (p .3) (i .0 (p .1) (p .3)) (omega arith) (driven-before h (i .3 (p .0) (p .1) (p .2) (p .3)) .settling))
+
+add-snippets : tie.Need-add-snippets Inv-loop μ-loop
+add-snippets c =
+    let p = c .before .before .before .before .before .before .before .before .before .before .before .before .pre in
+    let i = c .before .before .before .before .before .loop .inv in let h = c .before .before .before .before .loop-test .taken in let l = i .1 in let m = i .0 (p .1) (p .3) .all in
+    let before = driven-before h (i .3 (p .0) (p .1) (p .2) (p .3)) in
+    let d = driven-step (tests-few (p .3)) (omega arith) before (c .before .before .settle .ensures (p .0) (p .1) (task (p .1) (p .2) (p .3) (i .0 (p .1) (p .3)) (omega arith) (before .settling))) in
+    let z = driven-small (p .2) (p .3) d in omega arith
 
 loop-less : tie.Need-loop-less Inv-loop μ-loop
 loop-less c = let h = c .before .before .before .before .loop-test .taken in omega arith
@@ -60,17 +69,20 @@ loop-again c =
     let d = c .before .before .settle in let x = c .before .before .before .before .before .before .before .before .before .before .before .before .args in (
       i .0,
       omega arith,
-      d .kept .1 .1 .0 ∙ i .2,
+      d .kept .1 .1 .1 .0 ∙ i .2,
       λ ns T scene a.
-          let before = settling-before T h (i .3 ns T scene a) in
-          settling-step T (tests-few a) before (d .ensures ns T (task T scene a (i .0 T a) (omega arith) before)),
+          let before = driven-before h (i .3 ns T scene a) in let m = i .0 T a .all in
+          driven-step (tests-few a) (omega arith) before (d .ensures ns T (task T scene a (i .0 T a) (omega arith) (before .settling))),
     )
 
 same-length : tie.Need-same-length Inv-loop μ-loop
 same-length c = c .before .loop .inv .2
 
 returns : tie.Need-returns Inv-loop μ-loop
-returns c = λ ns T scene a. let h = c .loop-test .left in let k = c .before .loop .k in let e : k ≡ 0 = omega arith in let x = c .before .before .before .before .before .before .before .before .args in subst (λ j. Settling ns (x .n) j T (x .t .now) (c .before .loop .t)) e (c .before .loop .inv .3 ns T scene a)
+returns c = λ ns T scene a.
+    let h = c .loop-test .left in let k = c .before .loop .k in let q : k ≡ 0 = omega arith in let x = c .before .before .before .before .before .before .before .before .args in
+    let d = subst (λ j. Driven (x .e) ns (x .n) j T (x .t .now) (c .before .loop .t) (c .before .loop .snippets)) q (c .before .loop .inv .3 ns T scene a) in
+    record { settling = d .settling; total = d .total }
 
 pub settle-rule-spec : {M : Type 1} → statement M
 settle-rule-spec =
@@ -85,6 +97,7 @@ settle-rule-spec =
     mul-settle
     array-read-settle
     settle-requires
+    add-snippets
     loop-less
     loop-again
     same-length

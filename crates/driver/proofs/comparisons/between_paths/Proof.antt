@@ -6,7 +6,7 @@ use Rattle.driver.proofs.Frames.{scratch-room}
 use Rattle.driver.proofs.Answers.{some-nodes}
 use Rattle.driver.proofs.Arms.{number-small}
 use Rattle.driver.proofs.Asked.{two-paths, two-numbered, has-brackets}
-use Rattle.driver.proofs.Lending.{few-nodes, draw-room, paths-asked, paths-done}
+use Rattle.driver.proofs.Lending.{few-nodes, draw-room, paths-asked, paths-compared}
 use borrow.Author.Needs.{needs}
 use Rattle.driver.proofs.comparisons.between_paths.Statement.{statement}
 use Rattle.driver.proofs.comparisons.between_paths.Tie as tie
@@ -61,8 +61,8 @@ same-length c = search needs
 
 returns : tie.Need-returns
 returns c ns T h =
-    paths-done h (c .before .before .before .before .before .before .before .before .before .before .before .before .before .before .machine-of .ensures) (c .before .before .before .before .before .before .before .before .before .before .before .before .before .bracket-tests .ensures) (c .before .before .before .before .before .before .before .before .before .before .before .draw .ensures) (c .before .before .before .before .before .before .before .draw-tests .ensures) (c .before .before .before .before .needed .ensures)
-    (c .before .before .compare-paths .ensures (h .sign) (h .told))
+    paths-compared h (c .before .before .before .before .before .before .before .before .before .before .before .before .before .before .machine-of .ensures) (c .before .before .before .before .before .before .before .before .before .before .before .before .before .bracket-tests .ensures) (c .before .before .before .before .before .before .before .before .before .before .before .draw .ensures) (c .before .before .before .before .before .before .before .draw-tests .ensures) (c .before .before .before .before .needed .ensures)
+    (c .before .before .compare-paths .ensures)
 
 pub between-paths-spec : {M : Type 1} → statement M
 between-paths-spec =

@@ -1,11 +1,14 @@
 -- `driver::comparisons::compare` meets its contract.
 use Prim.Native.Nat.{ℕ, _+_, _-_, _≤_}
 use native.Mathlib.Omega.{arith}
-use mathlib.Core.Path.{_≡_, sym, subst}
+use mathlib.Core.Path.{_≡_, sym, ap, subst}
 use Rattle.rule.specs.Readers.{Stood}
+use Rattle.library.specs.Binary.{treeOf}
 use Rattle.numbering.specs.Tests.{testsOf, test}
+use Rattle.numbering.specs.Owned.{own}
 use Rattle.driver.specs.Tasks.{Constant}
 use Rattle.driver.proofs.Arms.{test-begins}
+use Rattle.driver.proofs.Totals.{adds-none}
 use Rattle.driver.proofs.Operands.{second-inside, is-paths, is-constant, constant-ends}
 use borrow.Author.Needs.{needs}
 use Rattle.driver.proofs.comparisons.compare.Statement.{statement}
@@ -49,7 +52,10 @@ returns c ns T task shape =
     let x = c .before .before .before .before .before .before .before .before .before .before .before .before .args in let m = c .before .before .before .before .before .before .before .before .parted .result in
     let e = c .before .before .before .before .before .skip-test .ensures (test (testsOf T) (x .k)) (task .end) (task .stands) in
     let h = is-constant task (c .before .before .before .before .before .before .before .before .parted .ensures) shape (subst (Stood (x .rule .now) (c .before .before .before .before .before .before .before .before .parted .result .second) 34) (c .before .before .before .before .before .before .if1 .taken) (c .before .before .before .before .before .before .before .stands .ensures)) in
-    c .before .before .with-constant .ensures ns T (subst (λ j. Constant (x .s .now) (x .rule .now) ns T (x .n) (x .at) (x .k) (x .t .now) (m .second + 1) (j - 2) (m .operator)) (sym e) h)
+    record {
+      answers = c .before .before .with-constant .ensures ns T (subst (λ j. Constant (x .s .now) (x .rule .now) ns T (x .n) (x .at) (x .k) (x .t .now) (m .second + 1) (j - 2) (m .operator)) (sym e) h);
+      adds = adds-none (x .e) (treeOf ns) (test (testsOf T) (x .k)) (ap own (h .is));
+    }
 
 same-length-2 : tie.Need-same-length-2
 same-length-2 c = search needs
@@ -69,8 +75,8 @@ compare-spec =
     add-with-constant
     sub-with-constant
     with-constant-requires
-    between-paths-requires
     same-length
     returns
+    between-paths-requires
     same-length-2
     returns-2)

@@ -6,7 +6,7 @@ use Rattle.driver.proofs.Frames.{scratch-room, scene-tabled}
 use Rattle.driver.proofs.Answers.{some-nodes}
 use Rattle.driver.proofs.Arms.{number-small}
 use Rattle.driver.proofs.Asked.{one-path, one-numbered, has-brackets-alone}
-use Rattle.driver.proofs.Lending.{few-nodes, draw-room, drawn-scene, constant-asked, constant-done}
+use Rattle.driver.proofs.Lending.{few-nodes, draw-room, drawn-scene, constant-asked, constant-compared}
 use borrow.Author.Needs.{needs}
 use Rattle.driver.proofs.comparisons.with_constant.Statement.{statement}
 use Rattle.driver.proofs.comparisons.with_constant.Tie as tie
@@ -70,7 +70,7 @@ same-length c = search needs
 returns : tie.Need-returns
 returns c ns T h =
     let p = c .before .before .before .before .before .before .before .before .before .before .before .before .before .before .before .draw .ensures in let q = c .before .before .before .before .before .before .before .before .before .before .before .draw-tests .ensures in
-    constant-done h (c .before .before .before .before .before .before .before .before .before .before .before .before .before .before .before .before .before .before .machine-of-one .ensures) (c .before .before .before .before .before .before .before .before .before .before .before .before .before .before .before .before .before .bracket-tests-of-one .ensures) p q (c .before .before .before .before .before .before .before .draw-hits .ensures ns (h .sign) (h .task .scene .library) (drawn-scene (h .task) p q .linked) (h .told)) (c .before .before .before .before .needed .ensures) (c .before .before .compare-constant .ensures)
+    constant-compared h (c .before .before .before .before .before .before .before .before .before .before .before .before .before .before .before .before .before .before .machine-of-one .ensures) (c .before .before .before .before .before .before .before .before .before .before .before .before .before .before .before .before .before .bracket-tests-of-one .ensures) p q (c .before .before .before .before .before .before .before .draw-hits .ensures ns (h .sign) (h .task .scene .library) (drawn-scene (h .task) p q .linked) (h .told)) (c .before .before .before .before .needed .ensures) (c .before .before .compare-constant .ensures)
 
 pub with-constant-spec : {M : Type 1} → statement M
 with-constant-spec =

@@ -1,0 +1,39 @@
+-- What the driver may expect of an evaluator of a comparison, whichever it is.
+use Prim.Native.Nat.{ℕ, _+_, _*_, _≤_}
+use mathlib.Core.Path.{_≡_}
+use mathlib.Core.List.{List}
+use lib.ListN.{length}
+use Rattle.lists.specs.Text.{binaryDigits}
+use Rattle.xpath.specs.Syntax.{Op, Test, XPath, empty, compare, compareTo}
+use Rattle.xpath.specs.Tree.{Tree}
+use Rattle.xpath.specs.Meaning.{Holds}
+use Rattle.snippets.specs.Count.{Counted}
+use Rattle.numbering.specs.Owned.{own}
+use Rattle.walks.specs.declared.Machine.{Machine}
+use Rattle.walks.specs.Meaning.{Judges}
+use Rattle.loops.specs.Loops.{Stage}
+use Rattle.plain.specs.Plain.{Answered}
+use Rattle.evaluators.specs.declared.Evaluator.{Evaluator}
+use Rattle.evaluators.specs.declared.Evaluator.the-variants.{Plain, Snippets}
+
+-- a comparison's part is all that 01 gives behind the tree's own 16 words a node
+abbrev pub PartRoom : ℕ → List ℕ → Type 0
+PartRoom n p = (112 + 64 * binaryDigits n) * n ≤ length p
+
+-- some comparison on some tree stands in the part
+abbrev pub Staged : Machine → ℕ → List ℕ → Type 0
+Staged m n p = (P R : XPath) × (t : Tree) × Stage P R t m n p
+
+-- the snippets of a test: the plain evaluation has none, and the snippet evaluation those of an equality between two paths
+abbrev pub Adds : Evaluator → Tree → Test → ℕ → Type 0
+Adds Plain t T r = r ≡ 0
+Adds Snippets t T r = Counted t (own T) r
+
+-- answered as the definition says
+pub record Compared (e : Evaluator) (t : Tree) (o : Op) (P R : XPath) (n : ℕ) (p p′ : List ℕ) (r : ℕ) : Type 0 where
+  pub answered : Answered n (Holds t (compare o P R)) p p′
+  pub adds : Adds e t (compare o P R) r
+
+-- the same with a constant; the second path is then the empty one
+abbrev pub Hit : Machine → ℕ → List ℕ → List ℕ → Type 0
+Hit m n p p′ = (P : XPath) (t : Tree) (o : Op) (c : List ℕ) → Stage P empty t m n p → Judges o c t n p → Answered n (Holds t (compareTo o P c)) p p′

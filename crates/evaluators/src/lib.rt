@@ -1,0 +1,69 @@
+// The two evaluators of a comparison behind one name: the driver does not know which of them runs.
+use equalities::compare_equal;
+use limits::Document;
+use parts::kinds::Operator;
+use walks::Machine;
+ghost use mathlib.Core.Path.{_≡_};
+ghost use Rattle.xpath.specs.Syntax.{XPath, Op};
+ghost use Rattle.xpath.specs.Tree.{Tree};
+ghost use Rattle.parts.specs.Kinds.{operator};
+ghost use Rattle.loops.specs.Loops.{Stage};
+ghost use Rattle.evaluators.specs.Evaluators.{PartRoom, Staged, Compared, Hit};
+ghost use Rattle.evaluators.specs.declared.Evaluator.the-variants.{Plain, Snippets};
+
+pub enum Evaluator {
+    Plain,
+    Snippets,
+}
+
+// By walks from every node. There are no snippets.
+fn by_walks(p: &mut [u16], n: usize, m: Machine, o: Operator) -> usize
+    requires { ⌜ Staged m n (now p) × PartRoom n (now p) ⌝ }
+    ensures { λ r. ⌜ ((P R : XPath) (t : Tree) (q : Op) → Stage P R t m n (now (p .entry)) → o ≡ operator q → Compared Plain t q P R n (now (p .entry)) (now (p .exit)) r) ⌝ }
+{
+    plain::compare_paths(p, n, m, o);
+    0
+}
+
+// An equality by its snippets, and any other sign backwards from the ends.
+fn by_snippets(p: &mut [u16], n: usize, m: Machine, o: Operator) -> usize
+    requires { ⌜ Staged m n (now p) × PartRoom n (now p) ⌝ }
+    ensures { λ r. ⌜ ((P R : XPath) (t : Tree) (q : Op) → Stage P R t m n (now (p .entry)) → o ≡ operator q → Compared Snippets t q P R n (now (p .entry)) (now (p .exit)) r) ⌝ }
+{
+    match o {
+        Operator::Equal => {
+            let b = Document::digits(n);
+            compare_equal(p, n, b, m)
+        }
+        _ => {
+            backward::compare_order(p, n, m, o);
+            0
+        }
+    }
+}
+
+// The comparison of two paths at every node. The number of its snippets is handed back.
+pub fn compare_paths(e: Evaluator, p: &mut [u16], n: usize, m: Machine, o: Operator) -> usize
+    requires { ⌜ Staged m n (now p) × PartRoom n (now p) ⌝ }
+    ensures { λ r. ⌜ ((P R : XPath) (t : Tree) (q : Op) → Stage P R t m n (now (p .entry)) → o ≡ operator q → Compared e t q P R n (now (p .entry)) (now (p .exit)) r) ⌝ }
+{
+    match e {
+        Evaluator::Plain => by_walks(p, n, m, o),
+        Evaluator::Snippets => by_snippets(p, n, m, o),
+    }
+}
+
+// The comparison of the first path with a constant.
+pub fn compare_constant(e: Evaluator, p: &mut [u16], n: usize, m: Machine)
+    requires { ⌜ Staged m n (now p) × PartRoom n (now p) ⌝ }
+    ensures { λ _. ⌜ Hit m n (now (p .entry)) (now (p .exit)) ⌝ }
+{
+    match e {
+        Evaluator::Plain => {
+            plain::compare_constant(p, n, m);
+        }
+        Evaluator::Snippets => {
+            backward::compare_constant(p, n, m);
+        }
+    }
+}

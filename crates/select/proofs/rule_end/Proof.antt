@@ -1,0 +1,48 @@
+-- `select::rule_end` meets its contract.
+use Prim.Native.Nat.{_-_}
+use lib.ListN.{length}
+use native.Mathlib.Omega.{arith}
+use Rattle.select.proofs.Lines.{OneLine, one-line-none, one-line-step, one-line-found, one-line-all}
+use Rattle.select.proofs.rule_end.Statement.{statement}
+use Rattle.select.proofs.rule_end.Tie as tie
+
+abbrev Inv-loop : tie.InvT-loop
+Inv-loop input i₀ i = OneLine input i
+
+abbrev μ-loop : tie.MeasureT-loop
+μ-loop input i₀ i = length input - i
+
+loop-holds : tie.Need-loop-holds Inv-loop μ-loop
+loop-holds c = one-line-none (c .args .input .now)
+
+shared-slice-read-if1 : tie.Need-shared-slice-read-if1 Inv-loop μ-loop
+shared-slice-read-if1 c = omega arith
+
+returns : tie.Need-returns Inv-loop μ-loop
+returns c = one-line-found (c .before .before .before .loop .inv) (c .if1 .taken)
+
+add-i : tie.Need-add-i Inv-loop μ-loop
+add-i c = omega arith
+
+loop-less : tie.Need-loop-less Inv-loop μ-loop
+loop-less c = omega arith
+
+loop-again : tie.Need-loop-again Inv-loop μ-loop
+loop-again c = one-line-step (c .before .before .before .loop .inv) (c .before .before .loop-test .taken) (c .if1 .left)
+
+returns-2 : tie.Need-returns-2 Inv-loop μ-loop
+returns-2 c = one-line-all (c .before .loop .inv) (c .loop-test .left)
+
+pub rule-end-spec : {M : Type 1} → statement M
+rule-end-spec =
+    tie.close
+    (tie.spec
+    Inv-loop
+    μ-loop
+    loop-holds
+    shared-slice-read-if1
+    returns
+    add-i
+    loop-less
+    loop-again
+    returns-2)
