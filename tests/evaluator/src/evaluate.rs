@@ -87,9 +87,7 @@ pub fn evaluate(
 /// `backward::holds` for a large library.
 pub type Meaning = fn(&Tree, &Test) -> Vec<bool>;
 
-/// A whole call of the plain evaluation, with the very buffers. "After an
-/// accepted evaluation those first words are 0 and later ones unchanged; marks
-/// are bytes, the first N of them 0 or 1 and later ones unchanged."
+/// A whole call of the plain evaluation, with the very buffers.
 pub fn evaluate_plain(
     document: &[u8],
     rule: &[u8],
@@ -97,17 +95,46 @@ pub fn evaluate_plain(
     marks: &mut [u8],
     meaning: Meaning,
 ) -> Outcome {
+    call(document, rule, scratch, marks, |tree, test| {
+        (meaning(tree, test), NO_SNIPPETS)
+    })
+}
+
+/// A whole call of the snippet evaluation, with the very buffers. That the
+/// snippets settle each comparison as its meaning does is asserted by the
+/// count.
+pub fn evaluate_snippets(
+    document: &[u8],
+    rule: &[u8],
+    scratch: &mut [u16],
+    marks: &mut [u8],
+) -> Outcome {
+    call(document, rule, scratch, marks, |tree, test| {
+        (meaning::holds(tree, test), count_snippets(tree, test))
+    })
+}
+
+/// "After an accepted evaluation those first words are 0 and later ones
+/// unchanged; marks are bytes, the first N of them 0 or 1 and later ones
+/// unchanged."
+fn call(
+    document: &[u8],
+    rule: &[u8],
+    scratch: &mut [u16],
+    marks: &mut [u8],
+    evaluated: impl Fn(&Tree, &Test) -> (Vec<bool>, usize),
+) -> Outcome {
     let (tree, test) = match accept(document, rule, scratch.len(), marks.len()) {
         Ok(accepted) => accepted,
         // "all buffers unchanged"
         Err(refusal) => return Outcome::refused(refusal),
     };
-    let holds = meaning(&tree, &test);
+    let (holds, snippets) = evaluated(&tree, &test);
     scratch[..needed_words(tree.size())].fill(0);
     for (mark, holds) in marks.iter_mut().zip(&holds) {
         *mark = u8::from(*holds);
     }
-    Outcome::accepted(&holds, NO_SNIPPETS)
+    Outcome::accepted(&holds, snippets)
 }
 
 /// The checks in their order: the document's, the rule's, 10, 11.
@@ -129,6 +156,12 @@ fn accept(
     Ok((Tree::of(&library), test))
 }
 
+/// "The count is at most 128 × N × B × E, where E is the number of these
+/// comparisons, each place in the rule counted."
+pub fn most_snippets(nodes: usize, test: &Test) -> usize {
+    128 * nodes * binary_digits(nodes) * equalities(test).len()
+}
+
 /// "The count that an evaluation reports is the size of these sets, added over
 /// all such comparisons."
 ///
@@ -136,12 +169,11 @@ fn accept(
 /// here, for the plain evaluation too: at every node the settling rule and the
 /// definition agree, and the counts keep their bound.
 fn count_snippets(tree: &Tree, test: &Test) -> usize {
-    let bound = 128 * tree.size() * binary_digits(tree.size());
-    let equalities = equalities(test);
     let mut total = 0;
-    for (p, r) in &equalities {
+    for (p, r) in equalities(test) {
         let settlement = settle(tree, p, r);
-        let equality = Test::Compare((*p).clone(), Sign::Equal, Operand::Path((*r).clone()));
+        let equality = Test::Compare(p.clone(), Sign::Equal, Operand::Path(r.clone()));
+        let bound = 128 * tree.size() * binary_digits(tree.size());
         assert_eq!(
             settlement.holds,
             meaning::holds(tree, &equality),
@@ -152,6 +184,6 @@ fn count_snippets(tree: &Tree, test: &Test) -> usize {
         assert!(count <= bound, "{count} snippets, at most {bound} promised");
         total += count;
     }
-    assert!(total <= bound * equalities.len());
+    assert!(total <= most_snippets(tree.size(), test));
     total
 }

@@ -1,7 +1,9 @@
 //! The two evaluations as calls: buffers, and the order of all the checks.
 
 use crate::samples::{balanced, flat, steps, X};
-use evaluator::evaluate::{evaluate, evaluate_plain, needed_words, Evaluation, Outcome};
+use evaluator::evaluate::{
+    evaluate, evaluate_plain, evaluate_snippets, needed_words, Evaluation, Outcome,
+};
 use evaluator::{backward, meaning};
 
 const KINDS: [Evaluation; 2] = [Evaluation::Plain, Evaluation::Snippets];
@@ -20,9 +22,12 @@ fn assert_refused(document: &[u8], rule: &str, words: usize, marks: usize, due: 
     }
     let (mut scratch, mut lent) = (vec![7; words], vec![9; marks]);
     let rule = rule.as_bytes();
-    let outcome = evaluate_plain(document, rule, &mut scratch, &mut lent, meaning::holds);
-    assert_eq!((outcome.number, outcome.place), due);
-    assert_eq!((outcome.selected, outcome.snippets), (0, 0));
+    let plain = evaluate_plain(document, rule, &mut scratch, &mut lent, meaning::holds);
+    let snippets = evaluate_snippets(document, rule, &mut scratch, &mut lent);
+    for outcome in [plain, snippets] {
+        assert_eq!((outcome.number, outcome.place), due);
+        assert_eq!((outcome.selected, outcome.snippets), (0, 0));
+    }
     assert_eq!((scratch, lent), (vec![7; words], vec![9; marks]));
 }
 
@@ -97,5 +102,20 @@ fn an_accepted_plain_call_leaves_the_buffers_as_written() {
             let marked = [vec![0], vec![1; nodes - 1], vec![9; longer]];
             assert_eq!(marks, marked.concat());
         }
+    }
+}
+
+#[test]
+fn an_accepted_snippet_call_leaves_the_buffers_as_written() {
+    for longer in [0, 3] {
+        let words = needed_words(5);
+        let (mut scratch, mut marks) = (vec![7; words + longer], vec![9; 5 + longer]);
+        let outcome = evaluate_snippets(X.as_bytes(), b"(r=e)", &mut scratch, &mut marks);
+        let (due, due_marks) = evaluate(X.as_bytes(), b"(r=e)", words, 5, Evaluation::Snippets);
+        assert_eq!(outcome, due);
+        assert!(outcome.snippets > 0);
+        assert_eq!(scratch, [vec![0; words], vec![7; longer]].concat());
+        let due_marks = due_marks.expect("an accepted call");
+        assert_eq!(marks, [due_marks, vec![9; longer]].concat());
     }
 }
