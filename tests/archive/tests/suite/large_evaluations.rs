@@ -2,82 +2,11 @@
 //! random. The evaluator follows paths backwards on them.
 
 use crate::evaluation_agreement::{assert_agreement, needed, Buffers, Length};
-use evaluator::document::{spell, Kind, Library, Node, NODE_LIMIT};
+use evaluator::document::{spell, Library, NODE_LIMIT};
 use evaluator::evaluate::Outcome;
 use evaluator::random::{library, rule_about, Random};
+use evaluator::samples::libraries::{catalogue, chain, ladder, level};
 use evaluator::tree::Tree;
-
-fn node(kind: Kind, depth: usize, label: &str, value: &str) -> Node {
-    Node {
-        depth,
-        kind,
-        label: label.as_bytes().to_vec(),
-        value: value.as_bytes().to_vec(),
-    }
-}
-
-fn element(depth: usize, label: &str) -> Node {
-    node(Kind::Element, depth, label, "")
-}
-
-/// The first so many nodes of a list, the root before all of them.
-fn grown(nodes: usize, behind: impl Iterator<Item = Node>) -> Library {
-    let root = std::iter::once(element(0, "lib"));
-    Library {
-        nodes: root.chain(behind).take(nodes).collect(),
-    }
-}
-
-/// Each node inside the one before it, the last a text: one long way down.
-fn chain(nodes: usize) -> Library {
-    let labels = ["lib", "drug", "name"];
-    let mut library = grown(nodes, (1..).map(|depth| element(depth, labels[depth % 3])));
-    if nodes > 1 {
-        library.nodes[nodes - 1] = node(Kind::Text, nodes - 1, "text", "v");
-    }
-    library
-}
-
-/// An element inside the other, each with a text before it: half as deep, with
-/// string values of many bytes.
-fn ladder(nodes: usize) -> Library {
-    let rung = |number: usize| {
-        let depth = 1 + number / 2;
-        match number % 2 {
-            0 => node(Kind::Text, depth, "text", VALUES[mixed(number) % 7]),
-            _ => element(depth, "drug"),
-        }
-    };
-    grown(nodes, (0..).map(rung))
-}
-
-/// Attributes of the root, then its elements, most of them with a text inside.
-fn level(nodes: usize) -> Library {
-    let value = |number: usize| VALUES[mixed(number) % 7];
-    let member = move |number: usize| match (number < nodes / 2, number % 3) {
-        (true, _) => node(Kind::Attribute, 1, "name", value(number)),
-        (false, 1) if number > nodes / 2 + 2 => node(Kind::Text, 2, "text", value(number)),
-        (false, 2) => node(Kind::Text, 1, "text", value(number)),
-        (false, _) => element(1, "drug"),
-    };
-    grown(nodes, (0..).map(member))
-}
-
-/// Attributes of the root, no two with the same value.
-fn catalogue(nodes: usize) -> Library {
-    let entry = |number: usize| {
-        let value = format!("{:04}", mixed(number));
-        node(Kind::Attribute, 1, "name", &value)
-    };
-    grown(nodes, (0..).map(entry))
-}
-
-/// Another number below 4,096 for each of them, in no simple order.
-fn mixed(number: usize) -> usize {
-    number * 2_531 % NODE_LIMIT
-}
-
-const VALUES: [&str; 7] = ["", "a", "ab", "b", "heparin", "5000", "~"];
 
 type Shape = (&'static str, fn(usize) -> Library, &'static [&'static str]);
 

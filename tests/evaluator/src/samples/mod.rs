@@ -1,7 +1,9 @@
 //! Documents and shorthands for rules that the tests share, also those of
 //! other packages.
 
+pub mod counts;
 pub mod documents;
+pub mod libraries;
 pub mod rules;
 pub mod selections;
 
