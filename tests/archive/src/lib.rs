@@ -52,6 +52,16 @@ extern "C" {
         marks: *mut u8,
         marks_length: usize,
     ) -> Evaluation;
+    fn yurzhoad_evaluate_snippets(
+        document: *const u8,
+        document_length: usize,
+        rule: *const u8,
+        rule_length: usize,
+        scratch: *mut u16,
+        scratch_length: usize,
+        marks: *mut u8,
+        marks_length: usize,
+    ) -> Evaluation;
 }
 
 /// Judges a document by numbers 1 to 4.
@@ -81,6 +91,29 @@ pub fn evaluate_plain(
     // two that are borrowed for it alone, and keeps no reference to any.
     unsafe {
         yurzhoad_evaluate_plain(
+            document.as_ptr(),
+            document.len(),
+            rule.as_ptr(),
+            rule.len(),
+            scratch.as_mut_ptr(),
+            scratch.len(),
+            marks.as_mut_ptr(),
+            marks.len(),
+        )
+    }
+}
+
+/// Evaluates a rule on a document by snippets, and counts them. Marks, refuses
+/// and leaves the buffers as the plain evaluation does.
+pub fn evaluate_snippets(
+    document: &[u8],
+    rule: &[u8],
+    scratch: &mut [u16],
+    marks: &mut [u8],
+) -> Evaluation {
+    // SAFETY: as above.
+    unsafe {
+        yurzhoad_evaluate_snippets(
             document.as_ptr(),
             document.len(),
             rule.as_ptr(),
