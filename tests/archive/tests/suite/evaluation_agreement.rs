@@ -1,15 +1,18 @@
-//! Makes the same call of the plain evaluation to the archive and to the
-//! evaluator, and reports a difference with a small input.
+//! Makes the same call of each evaluation to the archive and to the evaluator,
+//! and reports a difference with a small input.
 
 use std::fmt::{self, Display, Formatter};
 use std::time::{Duration, Instant};
 
-use archive::{needed_words, Evaluation};
-use evaluator::document;
-use evaluator::evaluate::{Meaning, Outcome};
+use archive::needed_words;
+use evaluator::evaluate::{evaluate_plain, evaluate_snippets, most_snippets};
+use evaluator::evaluate::{Evaluation, Meaning, Outcome};
 use evaluator::random::Random;
 use evaluator::shrink::{shrink_nodes, shrink_rule};
-use evaluator::{backward, meaning};
+use evaluator::{backward, document, meaning, reader};
+
+/// Every call is made to both.
+pub const EVALUATIONS: [Evaluation; 2] = [Evaluation::Plain, Evaluation::Snippets];
 
 /// How long a lent buffer is, given what the document needs.
 #[derive(Clone, Copy, Debug, PartialEq, Eq)]
@@ -91,42 +94,69 @@ struct After {
     memory: Memory,
 }
 
-/// What the archive does, with its answer as the evaluator's record.
-fn archive_after(document: &[u8], rule: &[u8], before: &Memory) -> After {
+/// An evaluation of the archive, with its answer as the evaluator's record.
+pub fn called(
+    evaluation: Evaluation,
+    document: &[u8],
+    rule: &[u8],
+    scratch: &mut [u16],
+    marks: &mut [u8],
+) -> Outcome {
+    let answer = match evaluation {
+        Evaluation::Plain => archive::evaluate_plain(document, rule, scratch, marks),
+        Evaluation::Snippets => archive::evaluate_snippets(document, rule, scratch, marks),
+    };
+    Outcome {
+        number: u32::from(answer.number),
+        place: answer.place,
+        selected: answer.selected,
+        snippets: answer.snippets,
+    }
+}
+
+fn archive_after(evaluation: Evaluation, document: &[u8], rule: &[u8], before: &Memory) -> After {
     let mut memory = before.clone();
     let (scratch, marks) = memory.lent();
-    let Evaluation {
-        number,
-        place,
-        selected,
-        snippets,
-    } = archive::evaluate_plain(document, rule, scratch, marks);
-    let outcome = Outcome {
-        number: u32::from(number),
-        place,
-        selected,
-        snippets,
-    };
+    let outcome = called(evaluation, document, rule, scratch, marks);
     After { outcome, memory }
 }
 
-/// Up to so many nodes the evaluator goes by the definition; above, relations
-/// over nodes take too long, and it follows paths backwards.
+/// Up to so many nodes the evaluator counts snippets by the definition.
+pub const COUNTED: usize = 20;
+/// Up to so many nodes it marks by the definition; above, relations over nodes
+/// take too long, and it follows paths backwards.
 const SMALL: usize = 100;
 
-fn evaluator_after(document: &[u8], rule: &[u8], before: &Memory) -> After {
-    let meaning: Meaning = match document::check(document).nodes <= SMALL {
+/// What is due. Where counting takes too long, the archive may report what it
+/// does, up to the bound.
+fn evaluator_after(
+    evaluation: Evaluation,
+    document: &[u8],
+    rule: &[u8],
+    before: &Memory,
+    reported: usize,
+) -> After {
+    let nodes = document::check(document).nodes;
+    let mut memory = before.clone();
+    let (scratch, marks) = memory.lent();
+    if evaluation == Evaluation::Snippets && nodes <= COUNTED {
+        let outcome = evaluate_snippets(document, rule, scratch, marks);
+        return After { outcome, memory };
+    }
+    let meaning: Meaning = match nodes <= SMALL {
         true => meaning::holds,
         false => backward::holds,
     };
-    let mut memory = before.clone();
-    let (scratch, marks) = memory.lent();
-    let outcome = evaluator::evaluate::evaluate_plain(document, rule, scratch, marks, meaning);
+    let mut outcome = evaluate_plain(document, rule, scratch, marks, meaning);
+    if evaluation == Evaluation::Snippets && outcome.number == 0 {
+        outcome.snippets = reported.min(most_snippets(nodes, &reader::read(rule)));
+    }
     After { outcome, memory }
 }
 
 /// One call, and what both made of it.
 struct Trial<'a> {
+    evaluation: Evaluation,
     document: &'a [u8],
     rule: &'a [u8],
     before: Memory,
@@ -135,13 +165,21 @@ struct Trial<'a> {
 }
 
 impl Trial<'_> {
-    fn of<'a>(document: &'a [u8], rule: &'a [u8], buffers: Buffers) -> Trial<'a> {
+    fn of<'a>(
+        evaluation: Evaluation,
+        document: &'a [u8],
+        rule: &'a [u8],
+        buffers: Buffers,
+    ) -> Trial<'a> {
         let before = Memory::before(document, buffers);
+        let archive = archive_after(evaluation, document, rule, &before);
+        let reported = archive.outcome.snippets;
         Trial {
+            evaluation,
             document,
             rule,
-            archive: archive_after(document, rule, &before),
-            evaluator: evaluator_after(document, rule, &before),
+            evaluator: evaluator_after(evaluation, document, rule, &before, reported),
+            archive,
             before,
         }
     }
@@ -158,30 +196,34 @@ impl Trial<'_> {
     }
 }
 
-/// Makes the call, and asserts that both do the same, with every word of
-/// scratch and every mark.
+/// Makes the call to each evaluation, and asserts that archive and evaluator do
+/// the same, with every word of scratch and every mark.
 fn agreed<'a>(
     origin: &dyn Display,
     document: &'a [u8],
     rule: &'a [u8],
     buffers: Buffers,
-) -> Trial<'a> {
-    let trial = Trial::of(document, rule, buffers);
-    if trial.differs() {
-        report(origin, &trial, buffers);
-    }
-    trial
+) -> [Trial<'a>; 2] {
+    EVALUATIONS.map(|evaluation| {
+        let trial = Trial::of(evaluation, document, rule, buffers);
+        if trial.differs() {
+            report(origin, &trial, buffers);
+        }
+        trial
+    })
 }
 
-/// Asserts that both do the same on a call, and returns what they hand back.
-/// The origin tells how the call was made: a seed or the name of a case.
+/// Asserts that both do the same on a call, and returns what the snippet
+/// evaluation hands back; the plain one has the same but the count. The origin
+/// tells how the call was made: a seed or the name of a case.
 pub fn assert_agreement(
     origin: impl Display,
     document: &[u8],
     rule: &[u8],
     buffers: Buffers,
 ) -> Outcome {
-    agreed(&origin, document, rule, buffers).archive.outcome
+    let [_, snippets] = agreed(&origin, document, rule, buffers);
+    snippets.archive.outcome
 }
 
 /// Asserts the same of an accepted call, and that it marks just these nodes.
@@ -192,16 +234,13 @@ pub fn assert_marked(
     buffers: Buffers,
     due: &[usize],
 ) {
-    let trial = agreed(&origin, document, rule, buffers);
-    let accepted = Outcome {
-        number: 0,
-        place: 0,
-        selected: due.len(),
-        snippets: 0,
-    };
-    let shown = rule.escape_ascii();
-    assert_eq!(trial.archive.outcome, accepted, "{origin}: {shown}");
-    assert_eq!(trial.marked(), due, "{origin}: {shown}");
+    for trial in agreed(&origin, document, rule, buffers) {
+        let shown = rule.escape_ascii();
+        let outcome = trial.archive.outcome;
+        assert_eq!((outcome.number, outcome.place), (0, 0), "{origin}: {shown}");
+        assert_eq!(outcome.selected, due.len(), "{origin}: {shown}");
+        assert_eq!(trial.marked(), due, "{origin}: {shown}");
+    }
 }
 
 /// Asserts the same of a refused call, with this number and place.
@@ -230,16 +269,18 @@ const PATIENCE: Duration = Duration::from_secs(20);
 fn report(origin: &dyn Display, trial: &Trial, buffers: Buffers) -> ! {
     let begun = Instant::now();
     let go_on = || begun.elapsed() < PATIENCE;
-    let differs = |document: &[u8], rule: &[u8]| Trial::of(document, rule, buffers).differs();
+    let again = |document: &[u8], rule: &[u8]| {
+        Trial::of(trial.evaluation, document, rule, buffers).differs()
+    };
     let (mut document, mut rule) = (trial.document.to_vec(), trial.rule.to_vec());
     for _ in 0..2 {
-        document = shrink_nodes(&document, |bytes| differs(bytes, &rule), go_on);
-        rule = shrink_rule(&rule, |bytes| differs(&document, bytes), go_on);
+        document = shrink_nodes(&document, |bytes| again(bytes, &rule), go_on);
+        rule = shrink_rule(&rule, |bytes| again(&document, bytes), go_on);
     }
     panic!(
         "{origin}, {buffers:?}\n{}\nShrunk to:\n{}",
         trial,
-        Trial::of(&document, &rule, buffers)
+        Trial::of(trial.evaluation, &document, &rule, buffers)
     );
 }
 
@@ -251,7 +292,12 @@ const SHOWN: usize = 2_000;
 impl Display for Trial<'_> {
     fn fmt(&self, out: &mut Formatter) -> fmt::Result {
         let shown = &self.document[..self.document.len().min(SHOWN)];
-        writeln!(out, "rule: {}", self.rule.escape_ascii())?;
+        writeln!(
+            out,
+            "{:?}, rule: {}",
+            self.evaluation,
+            self.rule.escape_ascii()
+        )?;
         writeln!(out, "document of {} bytes:", self.document.len())?;
         for line in shown.split_inclusive(|byte| *byte == b'\n') {
             writeln!(out, "{}", line.escape_ascii())?;

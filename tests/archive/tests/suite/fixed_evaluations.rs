@@ -1,9 +1,10 @@
 //! The cases of document 01 on X, its session, where a reading slips, and what
 //! each construct means; and the same inside larger buffers.
 
-use crate::evaluation_agreement::{assert_marked, needed, Buffers, Length};
-use archive::{evaluate_plain, needed_words, Evaluation};
+use crate::evaluation_agreement::{assert_marked, called, needed, Buffers, Length, EVALUATIONS};
+use archive::needed_words;
 use evaluator::document::NODE_LIMIT;
+use evaluator::evaluate::{Evaluation, Outcome};
 use evaluator::samples::selections::{CASES_ON_X, GROUPS, SESSION};
 use evaluator::samples::X;
 
@@ -33,19 +34,22 @@ fn every_fixed_selection_marks_what_is_due() {
 
 #[test]
 fn the_session_selects_node_1_whatever_the_buffers_held() {
-    for fill in [0, 1, 2, 0xFF] {
-        let mut scratch = vec![u16::from(fill) * 0x101; needed_words(5)];
-        let mut marks = [fill; 5];
-        let answer = evaluate_plain(X.as_bytes(), SESSION.as_bytes(), &mut scratch, &mut marks);
-        let due = Evaluation {
-            number: 0,
-            place: 0,
-            selected: 1,
-            snippets: 0,
-        };
-        assert_eq!(answer, due);
-        assert_eq!(marks, [0, 1, 0, 0, 0]);
-        assert!(scratch.iter().all(|word| *word == 0));
+    for (evaluation, snippets) in [(Evaluation::Plain, 0), (Evaluation::Snippets, 19)] {
+        for fill in [0, 1, 2, 0xFF] {
+            let mut scratch = vec![u16::from(fill) * 0x101; needed_words(5)];
+            let mut marks = [fill; 5];
+            let (document, rule) = (X.as_bytes(), SESSION.as_bytes());
+            let outcome = called(evaluation, document, rule, &mut scratch, &mut marks);
+            let due = Outcome {
+                number: 0,
+                place: 0,
+                selected: 1,
+                snippets,
+            };
+            assert_eq!(outcome, due);
+            assert_eq!(marks, [0, 1, 0, 0, 0]);
+            assert!(scratch.iter().all(|word| *word == 0));
+        }
     }
 }
 
@@ -55,15 +59,18 @@ fn one_rule_after_the_other_in_the_same_buffers() {
     let mut scratch = vec![0xABCD; needed_words(5) + 3];
     let mut marks = [7; 8];
     for (rule, marked) in CASES_ON_X {
-        let answer = evaluate_plain(X.as_bytes(), rule.as_bytes(), &mut scratch, &mut marks);
-        assert_eq!((answer.number, answer.selected), (0, marked.len()));
-        for (node, mark) in marks[..5].iter().enumerate() {
-            assert_eq!(*mark == 1, marked.contains(&node), "{rule} at {node}");
+        for evaluation in EVALUATIONS {
+            let (document, bytes) = (X.as_bytes(), rule.as_bytes());
+            let outcome = called(evaluation, document, bytes, &mut scratch, &mut marks);
+            assert_eq!((outcome.number, outcome.selected), (0, marked.len()));
+            for (node, mark) in marks[..5].iter().enumerate() {
+                assert_eq!(*mark == 1, marked.contains(&node), "{rule} at {node}");
+            }
+            assert_eq!(marks[5..], [7; 3]);
+            let (cleared, later) = scratch.split_at(needed_words(5));
+            assert!(cleared.iter().all(|word| *word == 0));
+            assert_eq!(later, [0xABCD; 3]);
         }
-        assert_eq!(marks[5..], [7; 3]);
-        let (cleared, later) = scratch.split_at(needed_words(5));
-        assert!(cleared.iter().all(|word| *word == 0));
-        assert_eq!(later, [0xABCD; 3]);
     }
 }
 

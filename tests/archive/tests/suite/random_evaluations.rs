@@ -3,12 +3,12 @@
 
 use std::collections::{BTreeMap, BTreeSet};
 
-use crate::evaluation_agreement::{assert_agreement, Buffers, Length};
+use crate::evaluation_agreement::{assert_agreement, Buffers, Length, COUNTED};
 use crate::rules_seen::Seen;
 use evaluator::document::{spell, Kind, Library};
 use evaluator::evaluate::{needed_words, Outcome};
 use evaluator::random::{any_library, library, rule, rule_about, Random};
-use evaluator::rule::{parts, Operand, Path, Piece, Test};
+use evaluator::rule::{equalities, parts, Operand, Path, Piece, Test};
 use evaluator::tree::Tree;
 
 /// So many pairs of a document and a rule.
@@ -106,6 +106,7 @@ impl Exercise {
             self.rules.add(&pair.rule.spell());
             self.nodes.insert(pair.tree.size());
             self.add_marks(pair.tree.size(), outcome.selected);
+            self.add_snippets(pair, outcome.snippets);
             self.add_tree(pair);
             self.add_rule(pair);
         }
@@ -115,6 +116,19 @@ impl Exercise {
         self.count("none marked", selected == 0);
         self.count("some marked", selected > 0 && selected < nodes);
         self.count("all marked", selected == nodes);
+    }
+
+    /// Of the pairs whose snippets are counted by the definition.
+    fn add_snippets(&mut self, pair: &Pair, snippets: usize) {
+        let nodes = pair.tree.size();
+        let counted = nodes <= COUNTED;
+        let equalities = equalities(&pair.rule).len();
+        self.count("counted", counted && equalities > 0);
+        self.count("counted, none", counted && equalities > 0 && snippets == 0);
+        self.count("counted, some", counted && snippets > 0);
+        self.count("counted, many", counted && snippets > 8 * nodes);
+        let added = counted && equalities > 1 && snippets > 0;
+        self.count("counted, added over several", added);
     }
 
     /// Deep and wide are meant in the binary tree: left children and right
