@@ -1,0 +1,104 @@
+//! Counts of snippets: those of document 01, those worked out by hand, and on
+//! long rows and chains those that a formula gives.
+
+use std::collections::BTreeSet;
+
+use crate::evaluation_agreement::{assert_agreement, called, needed, COUNTED};
+use archive::needed_words;
+use evaluator::document::{self, spell, NODE_LIMIT};
+use evaluator::evaluate::{most_snippets, Evaluation, Outcome};
+use evaluator::reader;
+use evaluator::samples::counts::{row, EVERYWHERE, GROUPS, PAIRS};
+use evaluator::samples::libraries::chain;
+
+fn accepted(origin: &str, outcome: Outcome) -> usize {
+    assert_eq!(outcome.number, 0, "{origin}");
+    outcome.snippets
+}
+
+/// What the archive counts, whatever the nodes; the evaluator is not asked.
+fn count(origin: &str, document: &[u8], rule: &str) -> usize {
+    let nodes = document::check(document).nodes;
+    let (mut scratch, mut marks) = (vec![1; needed_words(nodes)], vec![2; nodes]);
+    let (rule, evaluation) = (rule.as_bytes(), Evaluation::Snippets);
+    let outcome = called(evaluation, document, rule, &mut scratch, &mut marks);
+    accepted(origin, outcome)
+}
+
+#[test]
+fn every_fixed_count_is_due() {
+    for (name, cases) in GROUPS {
+        for case in cases() {
+            let outcome = assert_agreement(name, &case.document, case.rule.as_bytes(), needed(1));
+            assert_eq!(
+                accepted(name, outcome),
+                case.snippets,
+                "{name}: {}",
+                case.rule
+            );
+        }
+    }
+}
+
+/// So many stretches are yielded by two nodes so many edges apart: of the
+/// largest power one from each end, of each smaller power both halves.
+fn stretches_between(length: usize) -> usize {
+    let power = length.ilog2();
+    let mut begins = BTreeSet::from([0, length - (1 << power)]);
+    let mut count = begins.len();
+    for half in (0..power).map(|k| 1 << k).rev() {
+        begins = begins
+            .iter()
+            .flat_map(|begin| [*begin, begin + half])
+            .collect();
+        count += begins.len();
+    }
+    count
+}
+
+#[test]
+fn two_equal_values_at_the_ends_of_a_row() {
+    let lengths = (1..70).chain((6..12).flat_map(|k| [(1 << k) - 1, 1 << k, (1 << k) + 1]));
+    for length in lengths.chain([NODE_LIMIT - 2]) {
+        let mut values: Vec<String> = (0..=length).map(|number| format!("v{number}")).collect();
+        values[length] = values[0].clone();
+        let values: Vec<&str> = values.iter().map(String::as_str).collect();
+        let origin = format!("{length} edges");
+        let due = PAIRS * stretches_between(length);
+        assert_eq!(count(&origin, &row(&values), EVERYWHERE), due, "{origin}");
+    }
+}
+
+#[test]
+fn one_value_all_along_a_chain() {
+    // All elements have the value of the one text, and each stretch one edge.
+    for nodes in (1..70).chain([255, 256, 257, 1_023, 1_024, NODE_LIMIT]) {
+        let (origin, document) = (format!("{nodes} nodes"), spell(&chain(nodes)));
+        let due = PAIRS * (nodes - 1);
+        assert_eq!(count(&origin, &document, "(*+lL=*+lL)"), due, "{origin}");
+    }
+}
+
+#[test]
+fn no_rule_counts_more_than_its_bound() {
+    // The most steps, all of them last and leading everywhere: 8 positions of
+    // each path at both ends of every stretch, one long row of many values.
+    let many = "*+l+r+L+R+l+rR";
+    let rule = format!("({many}={many})");
+    let values: Vec<String> = (0..1_000)
+        .map(|number| format!("v{}", number % 37))
+        .collect();
+    for nodes in [2, COUNTED, 100, 1_000] {
+        let values: Vec<&str> = values[1..nodes].iter().map(String::as_str).collect();
+        let document = row(&values);
+        let outcome = assert_agreement("the most", &document, rule.as_bytes(), needed(2));
+        let most = most_snippets(nodes, &reader::read(rule.as_bytes()));
+        assert!(outcome.snippets <= most, "{} of {most}", outcome.snippets);
+        // Of the positions that the bound allows for, all but few are there.
+        assert!(
+            nodes < 100 || outcome.snippets > most / 4,
+            "{} of {most}",
+            outcome.snippets
+        );
+    }
+}
