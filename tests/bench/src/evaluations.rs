@@ -1,13 +1,14 @@
-//! The plain evaluation beside the same algorithm in straightforward Rust.
+//! Both evaluations beside each other, and each beside the same algorithm in
+//! straightforward Rust.
 
 use std::cell::RefCell;
 use std::hint::black_box;
 use std::time::Duration;
 
 use crate::libraries::{LibraryShape, LIBRARY_SHAPES};
-use crate::plain;
+use crate::straightforward::{plain, snippets, Answer};
 use crate::timing::{time_for, Subject, Times};
-use archive::{evaluate_plain, needed_words};
+use archive::{evaluate_plain, evaluate_snippets, needed_words, Evaluation};
 use evaluator::document::spell;
 use evaluator::samples::selections::SESSION;
 
@@ -15,107 +16,191 @@ use evaluator::samples::selections::SESSION;
 const SIZES: [usize; 3] = [256, 1_024, 4_096];
 
 /// What a rule does, and the rule.
-const RULES: [(&str, &str); 4] = [
+const RULES: [(&str, &str); 5] = [
     ("the session's", SESSION),
     ("wandering both ways", "(.*+l+r+LR[:name]=.*+rRl)"),
     (
         "nested equalities",
         "(.*+LR[(.l[:name]=..+lr*+lrl)]=.*+lr[(.l[:name]=..+LR*+LRl)])",
     ),
+    ("order of two paths", "(.*+lr[:text]<.*+LR[(e>\"50\")])"),
     ("order with a constant", "(.*+lr[:text]>\"50\")"),
 ];
 
 /// So long one rule is timed on one shape, all sizes together; longer if calls
 /// are slow, which are made three times in any case.
-const BUDGET: Duration = Duration::from_secs(4);
+const BUDGET: Duration = Duration::from_secs(6);
+
+/// An evaluation in the archive, and in straightforward Rust.
+struct Versions {
+    name: &'static str,
+    proved: fn(&[u8], &[u8], &mut [u16], &mut [u8]) -> Evaluation,
+    rust: fn(&[u8], &[u8], &mut [u8]) -> Answer,
+}
+
+const EVALUATIONS: [Versions; 2] = [
+    Versions {
+        name: "plain",
+        proved: evaluate_plain,
+        rust: plain::evaluate,
+    },
+    Versions {
+        name: "snippets",
+        proved: evaluate_snippets,
+        rust: snippets::evaluate,
+    },
+];
 
 pub fn print() {
     for shape in LIBRARY_SHAPES {
         let documents = SIZES.map(|nodes| spell(&(shape.library)(nodes)));
         for (name, rule) in RULES {
-            compare(&shape, &documents, name, rule);
+            compare(&shape, &documents, name, rule.as_bytes());
         }
     }
 }
 
-/// Prints both versions at each size, and how they grow.
-fn compare(shape: &LibraryShape, documents: &[Vec<u8>; 3], name: &str, rule: &str) {
+/// The times of one size: proved and Rust, for each evaluation.
+type Row<'a> = &'a [Times];
+
+/// Prints both evaluations in both versions at each size, and how they grow.
+fn compare(shape: &LibraryShape, documents: &[Vec<u8>; 3], name: &str, rule: &[u8]) {
     let mut subjects = Vec::new();
-    let mut selected = Vec::new();
+    let mut answers = Vec::new();
     for (document, nodes) in documents.iter().zip(SIZES) {
-        let bytes = rule.as_bytes();
-        selected.push(assert_same_marks(document, bytes, nodes));
-        subjects.push(proved(document, bytes, nodes));
-        subjects.push(straightforward(document, bytes, nodes));
+        answers.push(assert_same_answers(document, rule, nodes));
+        for versions in &EVALUATIONS {
+            subjects.push(proved(versions, document, rule, nodes));
+            subjects.push(straightforward(versions, document, rule, nodes));
+        }
     }
     let times = time_for(&subjects, BUDGET);
-    let runs = times[0].runs;
-    println!("\n{}, {name}: {rule}, {runs} runs", shape.name);
-    for (at, pair) in times.chunks(2).enumerate() {
-        print_line(SIZES[at], selected[at], &pair[0], &pair[1]);
+    let (runs, shown) = (times[0].runs, rule.escape_ascii());
+    println!("\n{}, {name}: {shown}, {runs} runs", shape.name);
+    let rows: Vec<Row> = times.chunks(2 * EVALUATIONS.len()).collect();
+    for (at, row) in rows.iter().enumerate() {
+        let Answer { selected, snippets } = answers[at];
+        println!(
+            "  {} nodes, {selected} marked, {snippets} snippets",
+            SIZES[at]
+        );
+        print_row(row);
     }
-    println!(
-        "  from {} to {} nodes{:>12.1} ({:.1}) times{:>15.1} ({:.1}) times",
-        SIZES[1],
-        SIZES[2],
-        times[4].median / times[2].median,
-        times[4].fastest / times[2].fastest,
-        times[5].median / times[3].median,
-        times[5].fastest / times[3].fastest,
-    );
+    for pair in [[0, 1], [1, 2]] {
+        print_growth(pair.map(|at| SIZES[at]), pair.map(|at| rows[at]));
+    }
 }
 
-/// Both mark the same nodes; returns how many.
-fn assert_same_marks(document: &[u8], rule: &[u8], nodes: usize) -> usize {
+/// Both evaluations mark the same nodes; returns how many, and the snippets.
+fn assert_same_answers(document: &[u8], rule: &[u8], nodes: usize) -> Answer {
+    let evaluated = |versions| assert_same_versions(versions, document, rule, nodes);
+    let [(_, plain), (answer, marks)] = EVALUATIONS.each_ref().map(evaluated);
+    let differing = (0..nodes).find(|v| plain[*v] != marks[*v]);
+    assert_eq!(differing, None, "{}", rule.escape_ascii());
+    answer
+}
+
+/// Both versions of an evaluation mark the same nodes and count the same.
+fn assert_same_versions(
+    versions: &Versions,
+    document: &[u8],
+    rule: &[u8],
+    nodes: usize,
+) -> (Answer, Vec<u8>) {
     let mut scratch = vec![u16::MAX; needed_words(nodes)];
     let (mut marks, mut other) = (vec![2; nodes], vec![2; nodes]);
-    let answer = evaluate_plain(document, rule, &mut scratch, &mut marks);
-    assert_eq!(answer.number, 0, "only an accepted call is evaluated");
-    let selected = plain::evaluate(document, rule, &mut other);
+    let proved = (versions.proved)(document, rule, &mut scratch, &mut marks);
+    assert_eq!(proved.number, 0, "only an accepted call is evaluated");
+    let answer = (versions.rust)(document, rule, &mut other);
+    let shown = rule.escape_ascii();
     let differing = (0..nodes).find(|v| marks[*v] != other[*v]);
-    assert_eq!(differing, None, "{}", rule.escape_ascii());
-    assert_eq!(answer.selected, selected);
-    selected
+    assert_eq!(differing, None, "{}: {shown}", versions.name);
+    assert_eq!(
+        proved.selected, answer.selected,
+        "{}: {shown}",
+        versions.name
+    );
+    assert_eq!(
+        proved.snippets, answer.snippets,
+        "{}: {shown}",
+        versions.name
+    );
+    (answer, marks)
 }
 
 /// A call of the proved function, with buffers that were lent before.
-fn proved<'a>(document: &'a [u8], rule: &'a [u8], nodes: usize) -> Subject<'a> {
+fn proved<'a>(
+    versions: &'a Versions,
+    document: &'a [u8],
+    rule: &'a [u8],
+    nodes: usize,
+) -> Subject<'a> {
     let buffers = RefCell::new((vec![0; needed_words(nodes)], vec![0; nodes]));
     let call = move || {
         let (scratch, marks) = &mut *buffers.borrow_mut();
-        evaluate_plain(black_box(document), black_box(rule), scratch, marks).selected
+        (versions.proved)(black_box(document), black_box(rule), scratch, marks).selected
     };
     Subject {
-        name: "proved",
+        name: versions.name,
         bytes: document.len(),
         call: Box::new(call),
     }
 }
 
-fn straightforward<'a>(document: &'a [u8], rule: &'a [u8], nodes: usize) -> Subject<'a> {
+fn straightforward<'a>(
+    versions: &'a Versions,
+    document: &'a [u8],
+    rule: &'a [u8],
+    nodes: usize,
+) -> Subject<'a> {
     let marks = RefCell::new(vec![0; nodes]);
     let call = move || {
-        plain::evaluate(
-            black_box(document),
-            black_box(rule),
-            &mut marks.borrow_mut(),
-        )
+        let marks = &mut marks.borrow_mut();
+        (versions.rust)(black_box(document), black_box(rule), marks).selected
     };
     Subject {
-        name: "Rust",
+        name: versions.name,
         bytes: document.len(),
         call: Box::new(call),
     }
 }
 
-fn print_line(nodes: usize, selected: usize, proved: &Times, rust: &Times) {
+/// How many times as long the one takes as the other.
+fn ratio(one: &Times, other: &Times) -> String {
+    let (median, fastest) = (one.median / other.median, one.fastest / other.fastest);
+    format!("{median:.2} ({fastest:.2})")
+}
+
+/// A line for each evaluation, and one for how they stand to each other.
+fn print_row(row: Row) {
+    for (versions, pair) in EVALUATIONS.iter().zip(row.chunks(2)) {
+        println!(
+            "    {:10}proved{:11.3} ({:.3}) ms, Rust{:11.3} ({:.3}) ms, proved takes {} times as long",
+            versions.name,
+            pair[0].median * 1e3,
+            pair[0].fastest * 1e3,
+            pair[1].median * 1e3,
+            pair[1].fastest * 1e3,
+            ratio(&pair[0], &pair[1]),
+        );
+    }
     println!(
-        "  {nodes:5} nodes, {selected:4} marked, proved{:11.3} ({:.3}) ms, Rust{:11.3} ({:.3}) ms, proved takes {:.2} ({:.2}) times as long",
-        proved.median * 1e3,
-        proved.fastest * 1e3,
-        rust.median * 1e3,
-        rust.fastest * 1e3,
-        proved.median / rust.median,
-        proved.fastest / rust.fastest,
+        "    plain takes {} times as long as snippets, in Rust {}",
+        ratio(&row[0], &row[2]),
+        ratio(&row[1], &row[3]),
     );
+}
+
+/// How many times as long each takes on the larger document.
+fn print_growth([small, large]: [usize; 2], [before, after]: [Row; 2]) {
+    print!("  from {small} to {large} nodes:");
+    for (versions, at) in EVALUATIONS.iter().zip([0, 2]) {
+        print!(
+            " {} proved {}, Rust {} times;",
+            versions.name,
+            ratio(&after[at], &before[at]),
+            ratio(&after[at + 1], &before[at + 1]),
+        );
+    }
+    println!();
 }

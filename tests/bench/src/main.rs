@@ -1,4 +1,4 @@
-//! Times the proved checks of documents and rules, and the plain evaluation.
+//! Times the proved checks of documents and rules, and both evaluations.
 //!
 //! Run it in this workspace, after `rt staticlib exports` in the repository's
 //! root, on a machine that does nothing else:
@@ -19,11 +19,11 @@
 mod documents;
 mod evaluations;
 mod libraries;
-mod plain;
 mod rule_shapes;
 mod rules;
 mod scan;
 mod shapes;
+mod straightforward;
 mod timing;
 
 /// What can be timed, by name.

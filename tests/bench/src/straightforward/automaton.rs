@@ -6,6 +6,8 @@ pub struct Automaton {
     /// For each position those that follow it.
     pub follow: [u16; 16],
     pub last: u16,
+    /// The positions of the first path and of the second.
+    pub paths: [u16; 2],
     /// The start of the second path; that of the first is 0.
     pub second: usize,
     /// The positions of each kind of step.
@@ -33,6 +35,7 @@ impl Automaton {
         let mut automaton = Automaton {
             follow: [0; 16],
             last: 0,
+            paths: [0; 2],
             second: 0,
             left: 0,
             right: 0,
@@ -43,10 +46,24 @@ impl Automaton {
         let mut steps = 0;
         let ends = automaton.add(p, &mut steps, settle);
         automaton.begin(0, ends);
+        let of_first = (2_u32 << steps) - 1;
         let ends = automaton.add(r, &mut steps, settle);
         automaton.second = steps + 1;
         automaton.begin(steps + 1, ends);
+        let all = (4_u32 << steps) - 1;
+        automaton.paths = [of_first as u16, (all - of_first) as u16];
         automaton
+    }
+
+    /// For each node the positions of brackets whose test holds there.
+    pub fn stays(&self, nodes: usize) -> Vec<u16> {
+        let mut stays = vec![0; nodes];
+        for (position, holds) in &self.brackets {
+            for (stay, holds) in stays.iter_mut().zip(holds) {
+                *stay |= if *holds { *position } else { 0 };
+            }
+        }
+        stays
     }
 
     fn begin(&mut self, start: usize, ends: Ends) {

@@ -56,6 +56,11 @@ impl Library<'_> {
         self.labels.len()
     }
 
+    /// Of a node that has a parent, whether it is the left child.
+    pub fn is_left(&self, node: usize) -> bool {
+        usize::from(self.left[usize::from(self.parent[node])]) == node
+    }
+
     /// A node deeper than the one before it is its left child; any other is
     /// the right child of the last node before it that has its depth.
     fn link(&mut self, entries: &[Entry]) {

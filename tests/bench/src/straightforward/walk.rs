@@ -18,16 +18,10 @@ pub struct Walk<'a> {
 
 impl Walk<'_> {
     pub fn new<'a>(library: &'a Library, automaton: &'a Automaton) -> Walk<'a> {
-        let mut stays = vec![0; library.size()];
-        for (position, holds) in &automaton.brackets {
-            for (stay, holds) in stays.iter_mut().zip(holds) {
-                *stay |= if *holds { *position } else { 0 };
-            }
-        }
         Walk {
             library,
             automaton,
-            stays,
+            stays: automaton.stays(library.size()),
             seen: vec![0; library.size()],
             touched: Vec::new(),
             open: Vec::new(),

@@ -1,0 +1,150 @@
+//! The two evaluations in straightforward Rust, to hold the proved ones
+//! against: the same algorithms without a proof.
+//!
+//! A set of positions at a node is one word of 16 bits, and values are compared
+//! by their ranks. Document and rule are taken as accepted and not checked, and
+//! memory is allocated as needed, where the proved functions have their scratch.
+
+mod automaton;
+mod library;
+pub mod plain;
+pub mod snippets;
+mod walk;
+
+use automaton::Automaton;
+use evaluator::meaning::compare;
+use evaluator::reader;
+use evaluator::rule::{Operand, Path, Sign, Test};
+use library::Library;
+
+/// The counts that an evaluation returns.
+#[derive(Clone, Copy, Debug, PartialEq, Eq)]
+pub struct Answer {
+    pub selected: usize,
+    pub snippets: usize,
+}
+
+/// How comparisons are evaluated, at all nodes at once.
+trait Comparing {
+    /// Between the two paths of an automaton.
+    fn paths(&self, library: &Library, automaton: &Automaton, sign: Sign) -> Vec<bool>;
+    /// Whether the first path leads to a node that is a hit.
+    fn hits(&self, library: &Library, automaton: &Automaton, hits: &[bool]) -> Vec<bool>;
+}
+
+/// Marks the nodes that the rule selects, and returns how many they are.
+fn mark(document: &[u8], rule: &[u8], marks: &mut [u8], comparing: &dyn Comparing) -> usize {
+    let library = Library::read(document);
+    let column = holds(&library, &reader::read(rule), comparing);
+    for (mark, holds) in marks.iter_mut().zip(&column) {
+        *mark = u8::from(*holds);
+    }
+    column.iter().filter(|holds| **holds).count()
+}
+
+/// For each node whether the test holds there.
+fn holds(library: &Library, test: &Test, comparing: &dyn Comparing) -> Vec<bool> {
+    let inner = |test: &Test| holds(library, test, comparing);
+    let two = |a: &Test, b: &Test| inner(a).into_iter().zip(inner(b));
+    // The tests in the brackets of the paths are settled first.
+    let automaton = |p: &Path, r: &Path| Automaton::of(p, r, &inner);
+    match test {
+        Test::Name(name) => library.labels.iter().map(|label| label == name).collect(),
+        Test::Not(a) => inner(a).iter().map(|holds| !holds).collect(),
+        Test::And(a, b) => two(a, b).map(|(a, b)| a && b).collect(),
+        Test::Or(a, b) => two(a, b).map(|(a, b)| a || b).collect(),
+        Test::Compare(p, sign, Operand::Path(r)) => {
+            comparing.paths(library, &automaton(p, r), *sign)
+        }
+        Test::Compare(p, sign, Operand::Constant(c)) => {
+            let hit = |value: &Vec<u8>| compare(*sign, value.as_slice(), c);
+            let hits: Vec<bool> = library.values.iter().map(hit).collect();
+            comparing.hits(library, &automaton(p, &Path::Empty), &hits)
+        }
+    }
+}
+
+/// The least and the greatest of some ranks.
+type Range = (u16, u16);
+
+/// Whether some rank of the one and some of the other are in the relation.
+fn in_relation(sign: Sign, first: Option<Range>, second: Option<Range>) -> bool {
+    let (Some((low, high)), Some((other_low, other_high))) = (first, second) else {
+        return false;
+    };
+    match sign {
+        Sign::Less | Sign::LessOrEqual => compare(sign, &low, &other_high),
+        Sign::Greater | Sign::GreaterOrEqual => compare(sign, &high, &other_low),
+        Sign::Unequal => low != other_high || high != other_low,
+        Sign::Equal => unreachable!("their range does not tell"),
+    }
+}
+
+#[cfg(test)]
+mod tests {
+    use super::{plain, snippets, Answer};
+    use evaluator::document::spell;
+    use evaluator::evaluate::{evaluate, needed_words, Evaluation};
+    use evaluator::random::{library, rule_about, Random};
+    use evaluator::samples::selections::GROUPS;
+    use evaluator::tree::Tree;
+    use evaluator::{document, meaning};
+
+    /// Both versions, with the numbers of the marked nodes.
+    fn both(document: &[u8], rule: &[u8]) -> [(Answer, Vec<usize>); 2] {
+        [plain::evaluate, snippets::evaluate].map(|evaluate| {
+            let nodes = document::check(document).nodes;
+            let mut marks = vec![2; nodes];
+            let answer = evaluate(document, rule, &mut marks);
+            let marked: Vec<usize> = (0..nodes).filter(|v| marks[*v] == 1).collect();
+            assert_eq!(marked.len(), answer.selected);
+            (answer, marked)
+        })
+    }
+
+    #[test]
+    fn every_fixed_selection_is_marked() {
+        for (name, cases) in GROUPS {
+            for case in cases() {
+                for (_, marked) in both(&case.document, case.rule.as_bytes()) {
+                    assert_eq!(marked, case.marked, "{name}: {}", case.rule);
+                }
+            }
+        }
+    }
+
+    #[test]
+    fn random_pairs_are_marked_as_the_evaluator_marks_them() {
+        for seed in 0..2_000 {
+            let random = &mut Random::new(seed);
+            let nodes = 1 + random.below(20);
+            let library = library(random, nodes);
+            let tree = Tree::of(&library);
+            let size = 2 + random.below(20);
+            let rule = rule_about(random, size, &tree.values);
+            let holds = meaning::holds(&tree, &rule);
+            let due: Vec<usize> = (0..nodes).filter(|v| holds[*v]).collect();
+            for (_, marked) in both(&spell(&library), &rule.spell()) {
+                assert_eq!(marked, due, "seed {seed}: {}", rule.spell().escape_ascii());
+            }
+        }
+    }
+
+    #[test]
+    fn snippets_are_counted_as_the_evaluator_counts_them() {
+        let mut with_snippets = 0;
+        for seed in 0..1_000 {
+            let random = &mut Random::new(seed);
+            let nodes = 1 + random.below(20);
+            let library = spell(&library(random, nodes));
+            let rule = evaluator::random::rule(random, 12).spell();
+            let words = needed_words(nodes);
+            let (due, _) = evaluate(&library, &rule, words, nodes, Evaluation::Snippets);
+            let [(plain, _), (snippets, _)] = both(&library, &rule);
+            assert_eq!(plain.snippets, 0);
+            assert_eq!(snippets.snippets, due.snippets, "seed {seed}");
+            with_snippets += usize::from(due.snippets > 0);
+        }
+        assert!(with_snippets > 300, "{with_snippets}");
+    }
+}
