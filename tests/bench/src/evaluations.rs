@@ -31,11 +31,16 @@ const RULES: [(&str, &str); 5] = [
 /// are slow, which are made three times in any case.
 const BUDGET: Duration = Duration::from_secs(6);
 
+/// Document, rule, scratch, marks.
+type Proved = fn(&[u8], &[u8], &mut [u16], &mut [u8]) -> Evaluation;
+/// Document, rule, marks.
+type Rust = fn(&[u8], &[u8], &mut [u8]) -> Answer;
+
 /// An evaluation in the archive, and in straightforward Rust.
 struct Versions {
     name: &'static str,
-    proved: fn(&[u8], &[u8], &mut [u16], &mut [u8]) -> Evaluation,
-    rust: fn(&[u8], &[u8], &mut [u8]) -> Answer,
+    proved: Proved,
+    rust: Rust,
 }
 
 const EVALUATIONS: [Versions; 2] = [
@@ -203,4 +208,40 @@ fn print_growth([small, large]: [usize; 2], [before, after]: [Row; 2]) {
         );
     }
     println!();
+}
+
+#[cfg(test)]
+mod tests {
+    use super::{assert_same_answers, spell, LIBRARY_SHAPES, RULES};
+    use evaluator::random::{library, rule_about, Random};
+    use evaluator::tree::Tree;
+
+    #[test]
+    fn what_is_timed_answers_alike() {
+        for shape in LIBRARY_SHAPES {
+            for nodes in [64, 300, 1_000] {
+                let document = spell(&(shape.library)(nodes));
+                for (_, rule) in RULES {
+                    assert_same_answers(&document, rule.as_bytes(), nodes);
+                }
+            }
+        }
+    }
+
+    /// Counts of snippets too, on trees that are too large for the evaluator.
+    #[test]
+    fn random_trees_are_answered_alike() {
+        let mut counted = 0;
+        for seed in 3_000_000..3_001_000 {
+            let random = &mut Random::new(seed);
+            let most = *random.pick(&[40, 100, 300, 1_500]);
+            let nodes = 1 + random.below(most);
+            let library = library(random, nodes);
+            let tree = Tree::of(&library);
+            let rule = rule_about(random, 12, &tree.values).spell();
+            let answer = assert_same_answers(&spell(&library), &rule, nodes);
+            counted += usize::from(answer.snippets > 0);
+        }
+        assert!(counted > 300, "{counted} had snippets");
+    }
 }

@@ -7,15 +7,15 @@ use super::stretches::Stretches;
 /// A skeleton's nodes, rising.
 pub struct Skeleton<'a> {
     stretches: &'a Stretches<'a>,
-    pub joints: Vec<Joint>,
+    joints: Vec<Joint>,
 }
 
-pub struct Joint {
-    pub node: usize,
+struct Joint {
+    node: usize,
     /// The number of the joint above, which is smaller; the first has none.
     parent: usize,
     /// The number of edges to it.
-    pub length: usize,
+    length: usize,
     is_left: bool,
     /// The positions that end here if the node has the value, and those that
     /// end from the left child on and from the right child on.
@@ -77,7 +77,7 @@ impl Skeleton<'_> {
             node,
             parent: parent.unwrap_or(0),
             length: stretches.depths[node] - stretches.depths[x],
-            is_left: left <= node && left < stretches.ends.len() && node < stretches.ends[left],
+            is_left: left <= node && node < stretches.ends[left],
             own: if has_value { ending } else { 0 },
             sides: [0; 2],
             outside: 0,

@@ -3,7 +3,6 @@
 use super::matrix::{add, before, behind, both_before, members, Matrix};
 use super::skeletons::{Firsts, Skeleton};
 use super::stretches::Stretches;
-use crate::straightforward::library::NONE;
 
 pub struct Yields<'a> {
     stretches: &'a Stretches<'a>,
@@ -121,7 +120,7 @@ impl Yields<'_> {
         let mut pairs: Vec<Matrix> = loops.iter().map(ending).collect();
         for y in 1..pairs.len() {
             let snippets = &self.pairs[0][y];
-            if *snippets == [0; 16] || powers[0].above[y] == NONE {
+            if *snippets == [0; 16] {
                 continue;
             }
             let x = self.stretches.parent(y);
