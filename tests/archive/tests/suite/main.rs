@@ -17,6 +17,7 @@ mod fixed_rules;
 mod large_documents;
 mod large_evaluations;
 mod plain_beside_snippets;
+mod program_runs;
 mod random_documents;
 mod random_evaluations;
 mod random_rules;
