@@ -1,5 +1,5 @@
 // The driver over a rule's tests, inner ones first: test after test is settled, from the last to the first.
-// Which evaluation it is shows in one place alone, where `comparisons` calls the evaluator of a comparison.
+// Which evaluation it is goes along as an argument, and shows only where `evaluators` answers a comparison.
 mod comparisons;
 
 use columns::labels::named;
