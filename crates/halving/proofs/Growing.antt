@@ -14,12 +14,12 @@ use Rattle.halving.proofs.Adding.{bit-same, upper-same, lower-same}
 use Rattle.halving.proofs.Blocks.{down-apart, up-apart, upper-apart, power-apart}
 
 module _ (n k : ℕ) where
-  pub grown-none : (N : ℕ → ℕ → ℕ → Type 0) (p : List ℕ) → ((z i j : ℕ) → z < n → ¬ N z i j) → Grown n k N p p
-  grown-none N p none = record { long = refl; other = λ l e. refl; rows = λ z i j h a b. (λ r. inl r, λ c. back z i j h c) }
+  pub grown-none : (N : ℕ → ℕ → ℕ → Type 0) (p : List ℕ) → ((z i j : ℕ) → z < n → i < 16 → ¬ N z i j) → Grown n k N p p
+  grown-none N p none = record { long = refl; other = λ l e. refl; rows = λ z i j h a b. (λ r. inl r, λ c. back z i j h a c) }
     where
-      back : (z i j : ℕ) → z < n → Related p (snippetAt n k z) i j ⊎ N z i j → Related p (snippetAt n k z) i j
-      back z i j h (inl r) = r
-      back z i j h (inr m) = absurd (none z i j h m)
+      back : (z i j : ℕ) → z < n → i < 16 → Related p (snippetAt n k z) i j ⊎ N z i j → Related p (snippetAt n k z) i j
+      back z i j h a (inl r) = r
+      back z i j h a (inr m) = absurd (none z i j h a m)
 
   module _ {N M : ℕ → ℕ → ℕ → Type 0} where
     pub grown-iff : {p q : List ℕ} → ((z i j : ℕ) → z < n → i < 16 → j < 16 → N z i j ↔ M z i j) → Grown n k N p q → Grown n k M p q
@@ -98,9 +98,17 @@ module _ (n k : ℕ) where
   pub hands-none : (p : List ℕ) (y : ℕ) → n ≤ middle n k p y → Grown n k (Hands n k p y) p p
   hands-none p y h = grown-none (Hands n k p y) p none
     where
-      none : (z i j : ℕ) → z < n → ¬ Hands n k p y z i j
-      none z i j l (upper e r) = omega arith
-      none z i j l (lower m e r) = omega arith
+      none : (z i j : ℕ) → z < n → i < 16 → ¬ Hands n k p y z i j
+      none z i j l a (upper e r) = omega arith
+      none z i j l a (lower m e r) = omega arith
+
+  -- a node without snippets
+  pub hands-nothing : (p : List ℕ) (y : ℕ) → ((i j : ℕ) → i < 16 → ¬ Related p (snippetAt n (suc k) y) i j) → Grown n k (Hands n k p y) p p
+  hands-nothing p y empty = grown-none (Hands n k p y) p none
+    where
+      none : (z i j : ℕ) → z < n → i < 16 → ¬ Hands n k p y z i j
+      none z i j l a (upper e (c, x, r, b)) = empty i c a r
+      none z i j l a (lower m e (c, x, r, b)) = empty c j x b
 
   abbrev Either : (p q : List ℕ) (y h z i j : ℕ) → Type 0
   Either p q y h z i j = ((h ≡ z) × Upper p (snippetAt n (suc k) y) (downAt n k y) i j) ⊎ ((y ≡ z) × Lower q (snippetAt n (suc k) y) (upAt n k h) i j)
@@ -140,7 +148,7 @@ module _ (n k : ℕ) where
       o = omega arith
 
   pub handed-none : (p : List ℕ) → Grown n k (Handed n k p 0) p p
-  handed-none p = grown-none (Handed n k p 0) p (λ z i j l (y, h, c). let e : ⊥ = omega arith in e)
+  handed-none p = grown-none (Handed n k p 0) p (λ z i j l a (y, h, c). let e : ⊥ = omega arith in e)
 
   pub handed-step : {p q r : List ℕ} (m : ℕ) → Grown n k (Handed n k p m) p q → Grown n k (Hands n k q m) q r → Grown n k (Handed n k p (m + 1)) p r
   handed-step {p} {q} m g h = grown-iff (λ z i j l a b. (to z i j a b, from z i j a b)) (grown-then g h)

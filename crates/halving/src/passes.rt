@@ -2,6 +2,7 @@
 use bits::union;
 use matrices::before;
 use matrices::image;
+use matrices::is_empty;
 use powers::blocks::UP;
 use powers::blocks::block_at;
 use powers::blocks::upper;
@@ -42,8 +43,8 @@ fn add_lower(p: &mut [u16], source: usize, up: usize, to: usize)
     }
 }
 
-// The snippets with the lower node `y`, halved at the node between. Where there are none, as where no node lies 2^(k + 1) above `y`, none are handed down.
-fn hand_down(p: &mut [u16], n: usize, k: usize, y: usize)
+// The snippets with the lower node `y`, halved at the node between. Where no node lies 2^k above `y`, there are none.
+fn split(p: &mut [u16], n: usize, k: usize, y: usize)
     requires { ⌜ (y < n) × BlockRoom n (k + 2) (now p) ⌝ }
     ensures { λ _. ⌜ Grown n k (Hands n k (now (p .entry)) y) (now (p .entry)) (now (p .exit)) ⌝ }
 {
@@ -57,6 +58,18 @@ fn hand_down(p: &mut [u16], n: usize, k: usize, y: usize)
     let high = block_at(n, k, h);
     add_upper(p, source, low, high + SNIPPETS);
     add_lower(p, source, high + UP, low + SNIPPETS);
+}
+
+// The same, at once where there are no snippets: that is so for most nodes.
+fn hand_down(p: &mut [u16], n: usize, k: usize, y: usize)
+    requires { ⌜ (y < n) × BlockRoom n (k + 2) (now p) ⌝ }
+    ensures { λ _. ⌜ Grown n k (Hands n k (now (p .entry)) y) (now (p .entry)) (now (p .exit)) ⌝ }
+{
+    let source = block_at(n, k + 1, y) + SNIPPETS;
+    if is_empty(p, source) {
+        return;
+    }
+    split(p, n, k, y);
 }
 
 // All snippets of exponent k + 1.

@@ -5,3 +5,4 @@ pub mod Chains
 pub mod Drawing
 pub mod Warshall
 pub mod Pairs
+pub mod Emptiness

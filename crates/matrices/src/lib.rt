@@ -76,6 +76,20 @@ pub fn compose(p: &mut [u16], a: usize, b: usize, c: usize)
     }
 }
 
+// Whether no two positions are related. No row ends the loop, so that the machine reads many rows at once.
+pub fn is_empty(p: &[u16], at: usize) -> bool
+    requires { ⌜ at + 16 ≤ length (now p) ⌝ }
+    ensures { λ r. ⌜ (r ≡ true → (i j : ℕ) → i < 16 → ¬ Related (now (p .entry)) at i j) ⌝ }
+{
+    let mut all = 0;
+    let mut i: usize = 0;
+    while i < 16 {
+        all = union(all, p[at + i]);
+        i += 1;
+    }
+    all == 0
+}
+
 // The number of pairs.
 pub fn size(p: &[u16], at: usize) -> usize
     requires { ⌜ at + 16 ≤ length (now p) ⌝ }

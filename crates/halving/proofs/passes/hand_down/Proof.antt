@@ -1,23 +1,16 @@
 -- `halving::passes::hand_down` meets its contract.
-use mathlib.Core.Path.{sym}
+use Prim.Native.Nat.{ℕ, suc, _+_, _<_}
+use mathlib.Core.Path.{_≡_, subst}
 use native.Mathlib.Omega.{arith}
-use Rattle.halving.proofs.Blocks.{upper-places, lower-places}
-use Rattle.halving.proofs.Growing.{hands-none, hands-placed}
+use Rattle.matrices.specs.Matrices.{Related}
+use Rattle.powers.specs.Powers.{snippetAt}
+use Rattle.halving.proofs.Growing.{hands-nothing}
 use borrow.Author.Needs.{needs}
 use Rattle.halving.proofs.passes.hand_down.Statement.{statement}
 use Rattle.halving.proofs.passes.hand_down.Tie as tie
 
-add-next : tie.Need-add-next
-add-next c = search needs
-
-upper-requires : tie.Need-upper-requires
-upper-requires c κs = search needs
-
-same-length : tie.Need-same-length
-same-length c = search needs
-
-returns : tie.Need-returns
-returns c = let x = c .before .before .before .before .args in hands-none (x .n) (x .k) (x .p .now) (x .y) (omega (arith, c .before .upper .ensures .0))
+add-block-at : tie.Need-add-block-at
+add-block-at c = search needs
 
 block-at-requires : tie.Need-block-at-requires
 block-at-requires c κs = search needs
@@ -25,69 +18,38 @@ block-at-requires c κs = search needs
 add-source : tie.Need-add-source
 add-source c = search needs
 
-block-at-requires-2 : tie.Need-block-at-requires-2
-block-at-requires-2 c κs = search needs
+is-empty-requires : tie.Need-is-empty-requires
+is-empty-requires c κs = search needs
 
-block-at-requires-3 : tie.Need-block-at-requires-3
-block-at-requires-3 c κs = search needs
+same-length : tie.Need-same-length
+same-length c = search needs
 
-add-add-upper : tie.Need-add-add-upper
-add-add-upper c = search needs
+returns : tie.Need-returns
+returns c =
+    let x = c .before .before .before .before .before in
+    let e : c .before .before .before .block-at .result + 32 ≡ snippetAt (x .args .n) (suc (x .args .k)) (x .args .y) = omega (arith, c .before .before .before .block-at .ensures) in
+    hands-nothing (x .args .n) (x .args .k) (x .args .p .now) (x .args .y)
+    (subst (λ a. (i j : ℕ) → i < 16 → ¬ Related (x .args .p .now) a i j) e (c .before .is-empty .ensures (c .if1 .taken)))
 
-add-upper-requires : tie.Need-add-upper-requires
-add-upper-requires c κs =
-    let x = c .before .before .before .before .before .before .before .before in
-    let h = c .before .before .before .before .before .upper .result in
-    let source = c .before .before .before .block-at in
-    let low = c .before .before .block-at2 in
-    let high = c .before .block-at3 in
-    upper-places (x .args .n) (x .args .k) (x .args .y) h (source .result) (low .result) (high .result) _ (source .ensures) (low .ensures) (high .ensures) (x .pre .0) (omega arith) (x .pre .1 .room)
-
-add-add-lower : tie.Need-add-add-lower
-add-add-lower c = search needs
-
-add-add-lower-2 : tie.Need-add-add-lower-2
-add-add-lower-2 c = search needs
-
-add-lower-requires : tie.Need-add-lower-requires
-add-lower-requires c κs =
-    let x = c .before .before .before .before .before .before .before .before .before .before .before .before in
-    let h = c .before .before .before .before .before .before .before .before .before .upper .result in
-    let source = c .before .before .before .before .before .before .before .block-at in
-    let low = c .before .before .before .before .before .before .block-at2 in
-    let high = c .before .before .before .before .before .block-at3 in
-    lower-places (x .args .n) (x .args .k) (x .args .y) h (source .result) (low .result) (high .result) _ (source .ensures) (low .ensures) (high .ensures) (x .pre .0) (omega arith)
-    (omega (arith, x .pre .1 .room, c .before .before .before .add-upper .ensures .long))
+split-requires : tie.Need-split-requires
+split-requires c κs = search needs
 
 same-length-2 : tie.Need-same-length-2
 same-length-2 c = search needs
 
 returns-2 : tie.Need-returns-2
-returns-2 c =
-    let x = c .before .before .before .before .before .before .before .before .before .before .before .before .before .before .before in
-    let h = c .before .before .before .before .before .before .before .before .before .before .before .before .upper .result in
-    let source = c .before .before .before .before .before .before .before .before .before .before .block-at in
-    let low = c .before .before .before .before .before .before .before .before .before .block-at2 in
-    let high = c .before .before .before .before .before .before .before .before .block-at3 in
-    hands-placed (x .args .n) (x .args .k) (x .args .y) h (source .result) (low .result) (high .result) (source .ensures) (low .ensures) (high .ensures) (x .pre .0) (omega arith)
-    (sym (c .before .before .before .before .before .before .before .before .before .before .before .before .upper .ensures .0)) (c .before .before .before .before .before .before .add-upper .ensures) (c .before .before .add-lower .ensures)
+returns-2 c = search needs
 
 pub hand-down-spec : {M : Type 1} → statement M
 hand-down-spec =
     tie.close
     (tie.spec
-    add-next
-    upper-requires
-    same-length
-    returns
+    add-block-at
     block-at-requires
     add-source
-    block-at-requires-2
-    block-at-requires-3
-    add-add-upper
-    add-upper-requires
-    add-add-lower
-    add-add-lower-2
-    add-lower-requires
+    is-empty-requires
+    same-length
+    returns
+    split-requires
     same-length-2
     returns-2)
