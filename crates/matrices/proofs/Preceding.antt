@@ -1,6 +1,6 @@
 -- The loop of `before`: the positions below i that are related to a member of w.
 use Prim.Native.Nat.{ℕ, _+_, _<_}
-use mathlib.Core.Path.{_≡_, sym, _∙_, subst}
+use mathlib.Core.Path.{_≡_, sym, ap, _∙_, subst}
 use mathlib.Core.Bool.{true, false≢true}
 use mathlib.Core.Logic.{_⊎_, inl, inr, _↔_}
 use mathlib.Core.List.{List}
@@ -18,6 +18,11 @@ pub record Preceding (p : List ℕ) (at w i r : ℕ) : Type 0 where
 
 pub preceding-none : (p : List ℕ) (at w : ℕ) → Preceding p at w 0 0
 preceding-none p at w = record { found = λ k e. absurd (false≢true (sym (bit-none k) ∙ e)); all = λ k h. absurd (let f : ⊥ = omega arith in f) }
+
+-- nothing is related to a member of the empty set
+pub preceding-nothing : (p : List ℕ) (at w : ℕ) → w ≡ 0 → (k : ℕ) → k < 16 → (bit 0 k ≡ true) ↔ Before p at w k
+preceding-nothing p at w e k h =
+    (λ b. absurd (false≢true (sym (bit-none k) ∙ b)), λ (j, l, b, x). absurd (false≢true (sym (bit-none j) ∙ ap (λ z. bit z j) (sym e) ∙ b)))
 
 module _ {p : List ℕ} {at w i r : ℕ} (c : Preceding p at w i r) where
   pub preceding-in : {r′ : ℕ} → Before p at w i → ((k : ℕ) → bit r′ k ≡ or (is k i) (bit r k)) → Preceding p at w (i + 1) r′

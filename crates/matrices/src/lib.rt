@@ -34,11 +34,14 @@ pub fn image(p: &[u16], at: usize, w: u16) -> u16
     r
 }
 
-// What is related to a member of `w`.
+// What is related to a member of `w`. Nothing is related to a member of the empty set, which is a frequent one.
 pub fn before(p: &[u16], at: usize, w: u16) -> u16
     requires { ⌜ at + 16 ≤ length (now p) ⌝ }
     ensures { λ r. ⌜ ((i : ℕ) → i < 16 → (bit r i ≡ true) ↔ Before (now (p .entry)) at w i) ⌝ }
 {
+    if w == 0 {
+        return 0;
+    }
     let mut r = 0;
     let mut i: usize = 0;
     while i < 16 {

@@ -4,7 +4,7 @@ use mathlib.Core.Bool.{false≢true}
 use mathlib.Core.Logic.{⊎-elim}
 use Prim.Native.Nat.{ℕ, _≤_, _+_, _-_}
 use native.Mathlib.Omega.{arith}
-use Rattle.matrices.proofs.Preceding.{Preceding, preceding-none, preceding-in, preceding-out, preceding-all}
+use Rattle.matrices.proofs.Preceding.{Preceding, preceding-none, preceding-nothing, preceding-in, preceding-out, preceding-all}
 use Rattle.matrices.proofs.before.Statement.{statement}
 use Rattle.matrices.proofs.before.Tie as tie
 
@@ -13,6 +13,9 @@ Inv-loop p at w r₀ i₀ r i = (i ≤ 16) × Preceding p at w i r
 
 abbrev μ-loop : tie.MeasureT-loop
 μ-loop p at w r₀ i₀ r i = 16 - i
+
+returns : tie.Need-returns Inv-loop μ-loop
+returns c = let x = c .before .before .args in preceding-nothing (x .p .now) (x .at) (x .w) (c .if1 .taken)
 
 loop-holds : tie.Need-loop-holds Inv-loop μ-loop
 loop-holds c = (omega arith, preceding-none _ _ _)
@@ -44,18 +47,18 @@ loop-less c = omega arith
 loop-again : tie.Need-loop-again Inv-loop μ-loop
 loop-again c =
     let l = c .before .before .before .before .loop .inv in
-    let n = c .before .before .before .before .before .before .args in
+    let n = c .before .before .before .before .before .before .before .args in
     let i = c .before .before .before .before .loop .i in
     let t = c .before .touches .ensures in (
       omega arith,
       ⊎-elim
           (λ x. subst (λ (r : ℕ). Preceding (n .p .now) (n .at) (n .w) (i + 1) r) (sym (x .2)) (preceding-in (l .1) (t .0 (x .0 .taken)) (x .1 .ensures)))
           (λ x. subst (λ (r : ℕ). Preceding (n .p .now) (n .at) (n .w) (i + 1) r) (sym (x .1)) (preceding-out (l .1) (λ b. false≢true (sym (x .0 .left) ∙ t .1 b))))
-          (c .if1 .came),
+          (c .if2 .came),
     )
 
-returns : tie.Need-returns Inv-loop μ-loop
-returns c = preceding-all (c .before .loop .inv .1) (omega arith)
+returns-2 : tie.Need-returns-2 Inv-loop μ-loop
+returns-2 c = preceding-all (c .before .loop .inv .1) (omega arith)
 
 pub before-spec : {M : Type 1} → statement M
 before-spec =
@@ -63,6 +66,7 @@ before-spec =
     (tie.spec
     Inv-loop
     μ-loop
+    returns
     loop-holds
     add-touches
     mul-touches
@@ -73,4 +77,4 @@ before-spec =
     add-i
     loop-less
     loop-again
-    returns)
+    returns-2)
