@@ -1,19 +1,21 @@
 -- The loop that marks the nodes of a bucket and all above them.
-use Prim.Native.Nat.{ℕ, suc, _-_, _≤_, _<_}
+use Prim.Native.Nat.{ℕ, suc, _-_, _/_, _%_, _≤_, _<_}
 use mathlib.Core.Path.{_≡_, sym, ap, _∙_, subst}
-use mathlib.Core.Logic.{_⊎_, inl, inr, Dec·and}
+use mathlib.Core.Logic.{_≢_, _⊎_, inl, inr, _↔_, Dec·and}
+use mathlib.Core.Bool.{true, false, true≢false}
 use mathlib.Core.List.{List}
 use native.Mathlib.Decide.{ℕ-discrete, decLt, decLe}
 use native.Mathlib.Omega.{arith}
 use Rattle.lists.proofs.Search.{least}
-use Rattle.xpath.specs.Tree.{Tree, Down, Under}
-use Rattle.xpath.proofs.Trees.{child-after}
-use Rattle.snippets.proofs.Marks.{Marked}
+use Rattle.xpath.specs.Tree.{Tree, Child, Down, Under}
+use Rattle.xpath.proofs.Trees.{one-parent, child-after}
+use Rattle.snippets.specs.Snippets.{Has, Skeleton}
+use Rattle.snippets.proofs.Marks.{Marked, BothMarked, skeleton-iff, skeleton-inside}
 use Rattle.links.specs.Table.{RANK, word}
 use Rattle.links.specs.Links.{Points}
 use Rattle.skeletons.specs.Shape.{Shape, Within}
-use Rattle.skeletons.specs.Skeletons.{FIRST, NEXT, MARKED, Least, Buckets, Ranks, Marks, Group, Grouped}
-use Rattle.skeletons.specs.Steps.{Filled, IsMarked, Closed, Raised}
+use Rattle.skeletons.specs.Skeletons.{FIRST, NEXT, MARKED, IsMarked, IsNoted, Least, Buckets, Ranks, Group, Grouped}
+use Rattle.skeletons.specs.Steps.{Filled, Fork, Closed, Joined}
 use Rattle.skeletons.proofs.Within.{within-none, within-then, before-within}
 use Rattle.skeletons.proofs.Shape.{shape-within, ranks-within, parent-of}
 
@@ -47,20 +49,20 @@ next-behind {n} {w} {x} {p} few i b e = go (b .next w i)
     go (inr (k, f)) = omega arith
 
 -- ── The loop ──
--- w is the least node of rank r from some node on, and those before are marked, with all above them
+-- w is the least node of rank r from some node on, and those before are marked, with all above them, and their blocks are noted
 pub record Grouping (n r w : ℕ) (p₀ p : List ℕ) : Type 0 where
   pub within : Within n MARKED (suc MARKED) p₀ p
   pub closed : Closed n p
   pub from : ℕ
   pub here : Points (Least n p₀ from r) w
-  pub done : (u : ℕ) → u < from → u < n → word p₀ n RANK u ≡ r → IsMarked p n u
+  pub done : (u : ℕ) → u < from → u < n → word p₀ n RANK u ≡ r → IsMarked p n u × IsNoted p n u
   pub sound : (t : Tree) → Shape t n p₀ → (u : ℕ) → u < n → IsMarked p n u → (x : ℕ) × (x < n) × (word p₀ n RANK x ≡ r) × Under t u x
 
 pub grouping-none : {n r w : ℕ} {p p₀ : List ℕ} → r < n → Filled n MARKED 0 n p p₀ → Buckets n p₀ → w ≡ word p₀ n FIRST r → Grouping n r w p₀ p₀
 grouping-none {n} {r} {p₀ = p₀} l f b e =
     record {
       within = within-none n MARKED (suc MARKED) p₀;
-      closed = record { marks = λ u i. inr (f .filled u i); up = λ u i a. absurd (bare u i a) };
+      closed = record { up = λ u i a. absurd (bare u i a); forked = λ x a b l k. absurd (bare a (k .one .0) (k .one .1)) };
       from = 0;
       here = subst (λ x. Points (Least n p₀ 0 r) x) (sym e) (b .first r l);
       done = λ u i. absurd (omega arith);
@@ -70,8 +72,9 @@ grouping-none {n} {r} {p₀ = p₀} l f b e =
     bare : (u : ℕ) → u < n → ¬ IsMarked p₀ n u
     bare u i a = let e = f .filled u i in omega arith
 
-pub grouping-step : {n r w x : ℕ} {p₀ p p′ : List ℕ} → n ≤ 4096 → Buckets n p₀ → Grouping n r w p₀ p → w < n → Raised n w p p′ → x ≡ word p₀ n NEXT w → Grouping n r x p₀ p′
-grouping-step {n} {r} {w} {x} {p₀} {p} {p′} few b g i h e =
+pub grouping-step : {n r w x : ℕ} {p₀ p p′ : List ℕ} → n ≤ 4096 → Buckets n p₀ → Grouping n r w p₀ p → w < n → Joined n w p p′ → x ≡ word p₀ n NEXT w → Grouping n r x p₀ p′
+grouping-step {n} {r} {w} {x} {p₀} {p} {p′} few b g i j e =
+    let h = j .raised in
     record {
       within = within-then (g .within) (h .within);
       closed = h .closed;
@@ -84,9 +87,9 @@ grouping-step {n} {r} {w} {x} {p₀} {p} {p′} few b g i h e =
     now : Least n p₀ (g .from) r w
     now = least-node few i (g .here)
 
-    done : (u : ℕ) → u < suc w → u < n → word p₀ n RANK u ≡ r → Dec (u ≡ w) → IsMarked p′ n u
-    done u a c k (yes j) = ap (λ (y : ℕ). word p′ n MARKED y) j ∙ h .here
-    done u a c k (no f) = h .grows u c (g .done u (early (decLt u (g .from))) c k)
+    done : (u : ℕ) → u < suc w → u < n → word p₀ n RANK u ≡ r → Dec (u ≡ w) → IsMarked p′ n u × IsNoted p′ n u
+    done u a c k (yes o) = subst (λ (y : ℕ). IsMarked p′ n y × IsNoted p′ n y) (sym o) (j .raised .here, j .noted)
+    done u a c k (no f) = let (m, o) = g .done u (early (decLt u (g .from))) c k in (j .raised .grows u c m, j .raised .notes u c o)
       where
         early : Dec (u < g .from) → u < g .from
         early (yes y) = y
@@ -106,7 +109,7 @@ marked-above {t} {n} {p} s c (Down.deeper {y = y} {z = z} d k) i a =
 
 pub grouping-all : {n r w : ℕ} {p p₀ p′ : List ℕ} → Filled n MARKED 0 n p p₀ → Grouping n r w p₀ p′ → n ≤ w → Grouped n r p p′
 grouping-all {n} {r} {w} {p} {p₀} {p′} f g end =
-    record { within = whole; group = λ t d s k. record { shape = shape-within (omega arith) whole s; ranks = ranks-within t (omega arith) whole k; marks = marks t d s k } }
+    record { within = whole; group = λ t d s k. record { shape = shape-within (omega arith) whole s; ranks = ranks-within t (omega arith) whole k; marks = marks t d s k; noted = noted t d s k } }
   where
     whole : Within n MARKED (suc MARKED) p p′
     whole = within-then (f .within) (g .within)
@@ -114,28 +117,47 @@ grouping-all {n} {r} {w} {p} {p₀} {p′} f g end =
     rank : (u : ℕ) → u < n → word p₀ n RANK u ≡ word p n RANK u
     rank u i = before-within (f .within) RANK u (omega arith) i
 
-    all : (u : ℕ) → u < n → word p₀ n RANK u ≡ r → IsMarked p′ n u
+    all : (u : ℕ) → u < n → word p₀ n RANK u ≡ r → IsMarked p′ n u × IsNoted p′ n u
     all u i k = go (decLt u (g .from))
       where
-        go : Dec (u < g .from) → IsMarked p′ n u
+        go : Dec (u < g .from) → IsMarked p′ n u × IsNoted p′ n u
         go (yes l) = g .done u l i k
         go (no l) = absurd (least-none end (g .here) u (omega arith) i k)
 
-    marks : (t : Tree) (d : List ℕ) → Shape t n p → Ranks t d n r p → Marks t d n p′
-    marks t d s k v i = go (g .closed .marks v i)
+    marks : (t : Tree) (d : List ℕ) → Shape t n p → Ranks t d n r p → (v : ℕ) → v < n → Marked t d v ↔ IsMarked p′ n v
+    marks t d s k v i = (from, λ a. to (g .sound t (shape-within (omega arith) (f .within) s) v i a))
       where
-        yes-marked : (x : ℕ) × (x < n) × (word p₀ n RANK x ≡ r) × Under t v x → Marked t d v
-        yes-marked (x, l, e, u) = let z = s .size in (x, record { inside = omega arith; value = k x l .0 (sym (rank x l) ∙ e) }, u)
+        to : (x : ℕ) × (x < n) × (word p₀ n RANK x ≡ r) × Under t v x → Marked t d v
+        to (x, l, e, u) = let z = s .size in (x, record { inside = omega arith; value = k x l .0 (sym (rank x l) ∙ e) }, u)
 
-        not-marked : word p′ n MARKED v ≡ 0 → ¬ Marked t d v
-        not-marked z (x, h, (m, u)) =
+        from : Marked t d v → IsMarked p′ n v
+        from (x, h, (m, u)) =
             let l : x < n = (let e = s .size in let j = h .inside in omega arith) in
-            let a = marked-above (shape-within (omega arith) whole s) (g .closed) u l (all x l (rank x l ∙ k x l .1 (h .value))) in
-            omega arith
+            marked-above (shape-within (omega arith) whole s) (g .closed) u l (all x l (rank x l ∙ k x l .1 (h .value)) .0)
 
-        go : IsMarked p′ n v ⊎ (word p′ n MARKED v ≡ 0) → (Marked t d v × (word p′ n MARKED v ≡ 1)) ⊎ ((¬ Marked t d v) × (word p′ n MARKED v ≡ 0))
-        go (inl a) = inl (yes-marked (g .sound t (shape-within (omega arith) (f .within) s) v i a), a)
-        go (inr z) = inr (not-marked z, z)
+    noted : (t : Tree) (d : List ℕ) → Shape t n p → Ranks t d n r p → (v : ℕ) → Skeleton t d v → IsNoted p′ n v
+    noted t d s k v h = go (skeleton-iff t d (s .formed) v .0 h)
+      where
+        node : {u : ℕ} → u < t .size → u < n
+        node l = let e = s .size in omega arith
+
+        here : Shape t n p′
+        here = shape-within (omega arith) whole s
+
+        -- the two children are marked and have one parent
+        met : (a b : ℕ) → Child t true v a → Child t false v b → Marked t d a → Marked t d b → IsNoted p′ n v
+        met a b c e x y =
+            g .closed .forked v a b (node (skeleton-inside t d (s .formed) v h)) (record {
+              one = (node (c .inside), marks t d s k a (node (c .inside)) .0 x);
+              two = (node (e .inside), marks t d s k b (node (e .inside)) .0 y);
+              apart = λ i. true≢false (one-parent c (subst (λ (z : ℕ). Child t false v z) (sym i) e) .1);
+              over = parent-of here c;
+              also = parent-of here e;
+            })
+
+        go : Has t d v ⊎ BothMarked t d v → IsNoted p′ n v
+        go (inl x) = all v (node (x .inside)) (rank v (node (x .inside)) ∙ k v (node (x .inside)) .1 (x .value)) .1
+        go (inr (a, b, c, e, x, y)) = met a b c e x y
 
 -- a group stays where later columns change
 pub group-within : {t : Tree} {v : List ℕ} {n r c d : ℕ} {p p′ : List ℕ} → MARKED < c → Within n c d p p′ → Group t v n r p → Group t v n r p′
@@ -143,5 +165,6 @@ group-within {t} {v} {n} {p = p} {p′ = p′} l w g =
     record {
       shape = shape-within (omega arith) w (g .shape);
       ranks = ranks-within t (omega arith) w (g .ranks);
-      marks = λ u i. subst (λ x. (Marked t v u × (x ≡ 1)) ⊎ ((¬ Marked t v u) × (x ≡ 0))) (sym (before-within w MARKED u l i)) (g .marks u i);
+      marks = λ u i. subst (λ (x : ℕ). Marked t v u ↔ (x % 2 ≡ 1)) (sym (before-within w MARKED u l i)) (g .marks u i);
+      noted = λ u k. let i = skeleton-inside t v (g .shape .formed) u k in let e = g .shape .size in subst (λ (x : ℕ). x / 2 ≡ 1) (sym (before-within w MARKED (u / 16) l (omega arith))) (g .noted u k);
     }

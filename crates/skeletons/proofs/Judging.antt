@@ -1,5 +1,5 @@
 -- The marks tell the skeleton.
-use Prim.Native.Nat.{ℕ, _<_}
+use Prim.Native.Nat.{ℕ, _/_, _<_}
 use mathlib.Core.Path.{_≡_, sym, subst}
 use mathlib.Core.Logic.{_⊎_, inl, inr, _↔_}
 use mathlib.Core.Bool.{Bool, true, false}
@@ -9,25 +9,18 @@ use Rattle.xpath.specs.Tree.{Tree, Child}
 use Rattle.snippets.specs.Snippets.{Has, Skeleton}
 use Rattle.snippets.proofs.Marks.{Marked, BothMarked, skeleton-iff}
 use Rattle.links.specs.Table.{LEFT, RIGHT, RANK, column, word}
-use Rattle.skeletons.specs.Skeletons.{MARKED, Group}
-use Rattle.skeletons.specs.Steps.{IsMarked, MarkedNode}
+use Rattle.skeletons.specs.Skeletons.{MARKED, IsMarked, IsNoted, Group}
+use Rattle.skeletons.specs.Steps.{MarkedNode}
 use Rattle.skeletons.proofs.Shape.{child-word, word-child}
 
 module _ {t : Tree} {d : List ℕ} {n r : ℕ} {p : List ℕ} (g : Group t d n r p) where
-  pub marked-word : (x : ℕ) → x < n → Marked t d x ↔ IsMarked p n x
-  marked-word x l = go (g .marks x l)
-    where
-      go : (Marked t d x × (word p n MARKED x ≡ 1)) ⊎ ((¬ Marked t d x) × (word p n MARKED x ≡ 0)) → Marked t d x ↔ IsMarked p n x
-      go (inl (m, e)) = (λ k. e, λ k. m)
-      go (inr (f, e)) = (λ k. absurd (f k), λ k. absurd (omega arith))
-
   has-word : (v : ℕ) → v < n → Has t d v ↔ (word p n RANK v ≡ r)
   has-word v l = let e = g .shape .size in (λ h. g .ranks v l .1 (h .value), λ k. record { inside = omega arith; value = g .ranks v l .0 k })
 
   chosen : (side : Bool) (v a : ℕ) → v < n → Child t side v a → Marked t d a → MarkedNode p n (word p n (column side) v)
   chosen side v a l c m =
       let e = g .shape .size in let i = c .inside in let k : a < n = omega arith in
-      subst (λ x. MarkedNode p n x) (sym (child-word (g .shape) side l c)) (k, marked-word a k .0 m)
+      subst (λ x. MarkedNode p n x) (sym (child-word (g .shape) side l c)) (k, g .marks a k .0 m)
 
   both-words : (v : ℕ) → v < n → BothMarked t d v ↔ (MarkedNode p n (word p n LEFT v) × MarkedNode p n (word p n RIGHT v))
   both-words v l = (
@@ -37,8 +30,8 @@ module _ {t : Tree} {d : List ℕ} {n r : ℕ} {p : List ℕ} (g : Group t d n r
       word p n RIGHT v,
       word-child (g .shape) true v l (h .0),
       word-child (g .shape) false v l (k .0),
-      marked-word (word p n LEFT v) (h .0) .1 (h .1),
-      marked-word (word p n RIGHT v) (k .0) .1 (k .1),
+      g .marks (word p n LEFT v) (h .0) .1 (h .1),
+      g .marks (word p n RIGHT v) (k .0) .1 (k .1),
     ),
   )
 
@@ -61,3 +54,7 @@ module _ {t : Tree} {d : List ℕ} {n r : ℕ} {p : List ℕ} (g : Group t d n r
       to : (word p n RANK v ≡ r) ⊎ (MarkedNode p n (word p n LEFT v) × MarkedNode p n (word p n RIGHT v)) → MarkedNode p n a × MarkedNode p n b
       to (inl h) = absurd (f h)
       to (inr (h, i)) = (subst (λ x. MarkedNode p n x) (sym e) h, subst (λ x. MarkedNode p n x) (sym k) i)
+
+-- a block that is not noted has no node of the skeleton
+pub empty-block : {t : Tree} {d : List ℕ} {n r : ℕ} {p : List ℕ} (u v : ℕ) → ¬ IsNoted p n v → u / 16 ≡ v / 16 → Group t d n r p → ¬ Skeleton t d u
+empty-block {n = n} {p = p} u v f e g k = f (subst (λ (x : ℕ). word p n MARKED x / 2 ≡ 1) e (g .noted u k))

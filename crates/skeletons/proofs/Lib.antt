@@ -2,6 +2,7 @@ pub mod Within
 pub mod Shape
 pub mod Filling
 pub mod Bucketing
+pub mod Noting
 pub mod Raising
 pub mod Grouping
 pub mod Judging

@@ -1,5 +1,5 @@
 -- The groups of nodes of equal value, and the skeleton of one of them, in columns of a comparison's part.
-use Prim.Native.Nat.{ℕ, suc, _≤_, _<_}
+use Prim.Native.Nat.{ℕ, suc, _/_, _%_, _≤_, _<_}
 use mathlib.Core.Path.{_≡_}
 use mathlib.Core.Logic.{_⊎_, _↔_}
 use mathlib.Core.Bool.{Bool}
@@ -20,7 +20,7 @@ FIRST = 9
 abbrev pub NEXT : ℕ
 NEXT = 10
 
--- 1 for a node that has a node of the group at or below it
+-- two things in one word: an odd one for a node that has a node of the group at or below it, and 2 or 3 for a block of 16 nodes that is noted
 abbrev pub MARKED : ℕ
 MARKED = 11
 
@@ -48,17 +48,22 @@ abbrev pub Ranks : Tree → List ℕ → ℕ → ℕ → List ℕ → Type 0
 Ranks t d n r p = (w : ℕ) → w < n → (word p n RANK w ≡ r) ↔ (t .value w ≡ d)
 
 -- ── The skeleton of d ──
--- 1 or 0 in the column
-abbrev pub Marks : Tree → List ℕ → ℕ → List ℕ → Type 0
-Marks t d n p = (v : ℕ) → v < n → (Marked t d v × (word p n MARKED v ≡ 1)) ⊎ ((¬ Marked t d v) × (word p n MARKED v ≡ 0))
+-- v is marked
+abbrev pub IsMarked : List ℕ → ℕ → ℕ → Type 0
+IsMarked p n v = word p n MARKED v % 2 ≡ 1
 
--- the nodes of rank r are those that have the value d, and the marks are theirs
+-- v's block is noted
+abbrev pub IsNoted : List ℕ → ℕ → ℕ → Type 0
+IsNoted p n v = word p n MARKED (v / 16) / 2 ≡ 1
+
+-- the nodes of rank r are those that have the value d, the marks are theirs, and the blocks of their skeleton are noted
 pub record Group (t : Tree) (d : List ℕ) (n r : ℕ) (p : List ℕ) : Type 0 where
   pub shape : Shape t n p
   pub ranks : Ranks t d n r p
-  pub marks : Marks t d n p
+  pub marks : (v : ℕ) → v < n → Marked t d v ↔ IsMarked p n v
+  pub noted : (v : ℕ) → Skeleton t d v → IsNoted p n v
 
--- the marks of the nodes of rank r are written, and all other columns are as before
+-- the marks of the nodes of rank r are written, and the blocks of their skeleton are noted; all other columns are as before
 pub record Grouped (n r : ℕ) (p p′ : List ℕ) : Type 0 where
   pub within : Within n MARKED (suc MARKED) p p′
   pub group : (t : Tree) (d : List ℕ) → Shape t n p → Ranks t d n r p → Group t d n r p′

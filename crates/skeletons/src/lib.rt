@@ -1,4 +1,5 @@
 // The groups of nodes of equal value, and the skeleton of a group: its nodes with the closest common ancestors of every two of them. All of it stands in columns of a comparison's part.
+pub mod blocks;
 pub mod buckets;
 mod fill;
 pub mod marks;
@@ -14,7 +15,7 @@ impl Column {
     // The next node of equal rank.
     pub const NEXT: usize = 10;
 
-    // 1 for a node that has a node of the group at or below it.
+    // Two things in one word. An odd word at a node: it has a node of the group at or below it. 2 or 3 at a block of 16 nodes, which is told by its number: it can have skeleton nodes.
     pub const MARKED: usize = 11;
 }
 

@@ -1,5 +1,6 @@
 // The marks of a group: a node is marked if it is in the group or has a node of the group below it.
 use crate::Column;
+use crate::blocks::note;
 use crate::fill::fill;
 use links::table::get;
 use links::table::parent;
@@ -9,21 +10,40 @@ ghost use Rattle.xpath.specs.Tree.{Tree};
 ghost use Rattle.links.specs.Table.{Room};
 ghost use Rattle.skeletons.specs.Shape.{Shape};
 ghost use Rattle.skeletons.specs.Skeletons.{Buckets, Grouped};
-ghost use Rattle.skeletons.specs.Steps.{Closed, Raised};
+ghost use Rattle.skeletons.specs.Steps.{Marking, Closed, Raised, Joined};
 
-// Node `w` and all above it. What is above a marked node is marked already, so the way up ends there, and no node is marked twice for a group.
+// Node `v` alone; the note in the same word stays.
+fn mark(p: &mut [u16], n: usize, v: usize)
+    requires { ⌜ Room n (now p) × (v < n) ⌝ }
+    ensures { λ _. ⌜ Marking n v (now (p .entry)) (now (p .exit)) ⌝ }
+{
+    let word = get(p, n, Column::MARKED, v);
+    put(p, n, Column::MARKED, v, word / 2 * 2 + 1);
+}
+
+// Node `w` and all above it. What is above a marked node is marked already, so the way up ends there, and no node is marked twice for a group. Only where it ends can two marked children meet, so that node's block is noted.
 fn mark_up(p: &mut [u16], n: usize, w: usize)
     requires { ⌜ ((t : Tree) × Shape t n (now p)) × Room n (now p) × (w < n) × Closed n (now p) ⌝ }
     ensures { λ _. ⌜ Raised n w (now (p .entry)) (now (p .exit)) ⌝ }
 {
     let mut v = w;
     while v < n {
-        if get(p, n, Column::MARKED, v) == 1 {
+        if get(p, n, Column::MARKED, v) % 2 == 1 {
+            note(p, n, v);
             return;
         }
-        put(p, n, Column::MARKED, v, 1);
+        mark(p, n, v);
         v = parent(p, n, v);
     }
+}
+
+// A node of the group, whose block is noted.
+fn mark_member(p: &mut [u16], n: usize, w: usize)
+    requires { ⌜ ((t : Tree) × Shape t n (now p)) × Room n (now p) × (w < n) × Closed n (now p) ⌝ }
+    ensures { λ _. ⌜ Joined n w (now (p .entry)) (now (p .exit)) ⌝ }
+{
+    note(p, n, w);
+    mark_up(p, n, w);
 }
 
 // The marks of the nodes of rank `r`.
@@ -34,7 +54,7 @@ pub fn mark_group(p: &mut [u16], n: usize, r: usize)
     fill(p, n, Column::MARKED, 0);
     let mut w = get(p, n, Column::FIRST, r);
     while w < n {
-        mark_up(p, n, w);
+        mark_member(p, n, w);
         w = get(p, n, Column::NEXT, w);
     }
 }

@@ -24,7 +24,7 @@ fn is_marked(p: &[u16], n: usize, v: usize) -> bool
     ensures { λ r. ⌜ (r ≡ true) ↔ MarkedNode (now (p .entry)) n v ⌝ }
 {
     if v < n {
-        return get(p, n, Column::MARKED, v) == 1;
+        return get(p, n, Column::MARKED, v) % 2 == 1;
     }
     false
 }

@@ -28,14 +28,14 @@ loop-holds c =
     let p = c .before .before .before .before .before .before .before .pre in let f = c .before .before .before .before .fill .ensures in
     grouping-none (p .3) f (buckets-within (omega arith) (f .within) (p .2)) (c .get .ensures .0)
 
-mark-up-requires : tie.Need-mark-up-requires Inv-loop μ-loop
-mark-up-requires c κs =
+mark-member-requires : tie.Need-mark-member-requires Inv-loop μ-loop
+mark-member-requires c κs =
     let p = c .before .before .before .before .before .before .before .before .before .before .pre in let g = c .before .before .loop .inv in let w = within-then (c .before .before .before .before .before .before .before .fill .ensures .within) (g .within) in
     ((p .0 .0, shape-within (omega arith) w (p .0 .1)), room-within w (p .1), c .before .loop-test .taken, g .closed)
 
 get-requires-2 : tie.Need-get-requires-2 Inv-loop μ-loop
 get-requires-2 c κs =
-    let w = within-then (c .before .before .before .before .before .before .before .before .before .before .before .fill .ensures .within) (within-then (c .before .before .before .before .before .before .loop .inv .within) (c .before .before .before .mark-up .ensures .within)) in
+    let w = within-then (c .before .before .before .before .before .before .before .before .before .before .before .fill .ensures .within) (within-then (c .before .before .before .before .before .before .loop .inv .within) (c .before .before .before .mark-member .ensures .raised .within)) in
     (omega arith, c .before .before .before .before .before .loop-test .taken, room-within w (c .before .before .before .before .before .before .before .before .before .before .before .before .before .before .pre .1))
 
 -- the buckets were written before
@@ -44,13 +44,13 @@ filed c = buckets-within (omega arith) (c .before .before .before .before .befor
 
 next : (c : tie.After-get2 Inv-loop μ-loop) → c .get2 .result ≡ word (c .before .before .before .before .before .before .before .before .before .before .before .before .fill .last .0) (c .before .before .before .before .before .before .before .before .before .before .before .before .before .before .before .args .n) NEXT (c .before .before .before .before .before .before .before .loop .w)
 next c =
-    c .get2 .ensures .0 ∙ before-within (within-then (c .before .before .before .before .before .before .before .loop .inv .within) (c .before .before .before .before .mark-up .ensures .within)) NEXT (c .before .before .before .before .before .before .before .loop .w) (omega arith) (c .before .before .before .before .before .before .loop-test .taken)
+    c .get2 .ensures .0 ∙ before-within (within-then (c .before .before .before .before .before .before .before .loop .inv .within) (c .before .before .before .before .mark-member .ensures .raised .within)) NEXT (c .before .before .before .before .before .before .before .loop .w) (omega arith) (c .before .before .before .before .before .before .loop-test .taken)
 
 loop-less : tie.Need-loop-less Inv-loop μ-loop
 loop-less c = next-behind (c .before .before .before .before .before .before .before .before .before .before .before .before .before .before .before .pre .0 .1 .few) (c .before .before .before .before .before .before .loop-test .taken) (filed c) (next c)
 
 loop-again : tie.Need-loop-again Inv-loop μ-loop
-loop-again c = grouping-step (c .before .before .before .before .before .before .before .before .before .before .before .before .before .before .before .pre .0 .1 .few) (filed c) (c .before .before .before .before .before .before .before .loop .inv) (c .before .before .before .before .before .before .loop-test .taken) (c .before .before .before .before .mark-up .ensures) (next c)
+loop-again c = grouping-step (c .before .before .before .before .before .before .before .before .before .before .before .before .before .before .before .pre .0 .1 .few) (filed c) (c .before .before .before .before .before .before .before .loop .inv) (c .before .before .before .before .before .before .loop-test .taken) (c .before .before .before .before .mark-member .ensures) (next c)
 
 same-length : tie.Need-same-length Inv-loop μ-loop
 same-length c = c .before .loop .inv .within .long ∙ c .before .before .before .before .before .before .fill .ensures .within .long
@@ -67,7 +67,7 @@ mark-group-spec =
     fill-requires
     get-requires
     loop-holds
-    mark-up-requires
+    mark-member-requires
     get-requires-2
     loop-less
     loop-again

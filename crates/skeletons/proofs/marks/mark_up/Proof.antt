@@ -1,10 +1,10 @@
 -- `skeletons::marks::mark_up` meets its contract.
-use Prim.Native.Nat.{_<_}
-use mathlib.Core.Path.{sym, _∙_, subst}
+use Prim.Native.Nat.{ℕ, _%_, _<_}
+use mathlib.Core.Path.{sym, ap, _∙_, subst}
 use native.Mathlib.Omega.{arith}
 use Rattle.links.specs.Table.{PARENT}
 use Rattle.skeletons.proofs.Within.{before-within, room-within}
-use Rattle.skeletons.proofs.Raising.{Raising, raising-none, raising-step, raising-all, height, height-less}
+use Rattle.skeletons.proofs.Raising.{Raising, raising-none, raising-step, raising-note, raising-all, height, height-less}
 use Rattle.skeletons.proofs.marks.mark_up.Statement.{statement}
 use Rattle.skeletons.proofs.marks.mark_up.Tie as tie
 
@@ -20,20 +20,27 @@ loop-holds c = let p = c .before .pre in raising-none (p .2) (p .3)
 get-requires : tie.Need-get-requires Inv-loop μ-loop
 get-requires c κs = (omega arith, c .before .loop-test .taken, room-within (c .before .before .loop .inv .within) (c .before .before .before .before .pre .1))
 
+note-requires : tie.Need-note-requires Inv-loop μ-loop
+note-requires c κs = (room-within (c .before .before .before .before .before .loop .inv .within) (c .before .before .before .before .before .before .before .pre .1), c .before .before .before .before .loop-test .taken)
+
 same-length : tie.Need-same-length Inv-loop μ-loop
-same-length c = c .before .before .before .before .loop .inv .within .long
+same-length c = c .before .before .note .ensures .within .long ∙ c .before .before .before .before .before .before .before .before .loop .inv .within .long
 
 returns : tie.Need-returns Inv-loop μ-loop
-returns c = raising-all (c .before .before .before .before .loop .inv) (λ l. sym (c .before .get .ensures .0) ∙ c .if1 .taken)
+returns c =
+    let h = c .before .before .note .ensures in let l = c .before .before .before .before .before .before .before .loop-test .taken in
+    raising-all (raising-note (c .before .before .before .before .before .before .before .before .loop .inv) h) (λ _. (h .marks (c .before .before .before .before .before .before .before .before .loop .v) l ∙ sym (ap (λ (k : ℕ). k % 2) (c .before .before .before .before .before .get .ensures .0)) ∙ c .before .before .before .before .if1 .taken, h .here))
 
-put-requires : tie.Need-put-requires Inv-loop μ-loop
-put-requires c κs = (omega arith, c .before .before .before .before .loop-test .taken, room-within (c .before .before .before .before .before .loop .inv .within) (c .before .before .before .before .before .before .before .pre .1), omega arith)
+mark-requires : tie.Need-mark-requires Inv-loop μ-loop
+mark-requires c κs = (room-within (c .before .before .before .before .before .loop .inv .within) (c .before .before .before .before .before .before .before .pre .1), c .before .before .before .before .loop-test .taken)
 
 parent-requires : tie.Need-parent-requires Inv-loop μ-loop
-parent-requires c κs = let l = c .before .before .before .put .ensures .long in let r = room-within (c .before .before .before .before .before .before .before .before .before .loop .inv .within) (c .before .before .before .before .before .before .before .before .before .before .before .pre .1) in (c .before .before .before .before .before .before .before .before .loop-test .taken, omega arith)
+parent-requires c κs = (c .before .before .before .before .before .before .before .before .loop-test .taken, room-within (c .before .before .before .mark .ensures .within) (room-within (c .before .before .before .before .before .before .before .before .before .loop .inv .within) (c .before .before .before .before .before .before .before .before .before .before .before .pre .1)))
 
 loop-again : tie.Need-loop-again Inv-loop μ-loop
-loop-again c = raising-step (c .before .before .before .before .before .before .before .before .before .before .loop .inv) (c .before .before .before .before .before .before .before .before .before .loop-test .taken) (c .before .before .before .before .put .ensures) (c .parent .ensures .0)
+loop-again c =
+    raising-step (c .before .before .before .before .before .before .before .before .before .before .before .before .pre .0 .1) (c .before .before .before .before .before .before .before .before .before .before .loop .inv) (c .before .before .before .before .before .before .before .before .before .loop-test .taken)
+    (λ m. c .before .before .before .before .before .before .if1 .left (ap (λ (k : ℕ). k % 2) (c .before .before .before .before .before .before .before .get .ensures .0) ∙ m)) (c .before .before .before .before .mark .ensures) (c .parent .ensures .0)
 
 loop-less : tie.Need-loop-less Inv-loop μ-loop
 loop-less c =
@@ -55,9 +62,10 @@ mark-up-spec =
     μ-loop
     loop-holds
     get-requires
+    note-requires
     same-length
     returns
-    put-requires
+    mark-requires
     parent-requires
     loop-less
     loop-again
