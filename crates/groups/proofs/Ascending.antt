@@ -1,11 +1,11 @@
 -- From below: the sets of the skeleton nodes, each told by those of the next skeleton nodes below it.
-use Prim.Native.Nat.{ℕ, suc, _+_, _≤_, _<_}
+use Prim.Native.Nat.{ℕ, zero, suc, _+_, _-_, _/_, _≤_, _<_}
 use mathlib.Core.Path.{_≡_, refl, sym, ap, _∙_, subst}
 use mathlib.Core.Logic.{_≢_, _⊎_, inl, inr}
 use mathlib.Core.Bool.{Bool, true, false, false≢true}
 use mathlib.Core.List.{List, [], _∷_}
 use native.Mathlib.Nat.{eq-or-lt-of-le}
-use native.Mathlib.Decide.{ℕ-discrete}
+use native.Mathlib.Decide.{ℕ-discrete, decLt}
 use native.Mathlib.Omega.{arith}
 use Rattle.bits.specs.Sets.{bit, or}
 use Rattle.bits.proofs.SetLaws.{bit-none}
@@ -26,8 +26,9 @@ use Rattle.loops.specs.Loops.{Stage}
 use Rattle.powers.specs.Powers.{Lifts}
 use Rattle.powers.specs.Ladder.{Ladder, Stretch}
 use Rattle.skeletons.specs.Shape.{Within}
-use Rattle.skeletons.specs.Skeletons.{Group, Arrives, Ascent}
+use Rattle.skeletons.specs.Skeletons.{MARKED, IsNoted, Group, Arrives, Ascent}
 use Rattle.skeletons.proofs.Within.{within-none, within-then, within-more, within-put, before-within}
+use Rattle.skeletons.proofs.Judging.{empty-block}
 use Rattle.groups.specs.Groups.{IN, LEFTIN, RIGHTIN, ABOVE, inward, Exactly, Setting, Given, Rest, Sides, Risen}
 use Rattle.groups.specs.Steps.{Placed, Cleared, Handed, Rises, Rose}
 use Rattle.groups.proofs.Rest.{rest-more, rest-within, sizes-rest, setting-rest, ladder-of}
@@ -64,10 +65,10 @@ module _ (P R : XPath) (t : Tree) (d : List ℕ) (wf : WellFormed t) where
     skeleton-node {x} k = let h = skeleton-inside t d wf x k in omega arith
 
     -- no skeleton node is behind the last node
-    pub risen-none : {p p′ : List ℕ} → Cleared n n p p′ → Risen P R t d n p′ n
-    risen-none {p} {p′} c = record {
+    pub risen-none : {p p′ : List ℕ} → ((x : ℕ) → Skeleton t d x → IsNoted p n x) → Cleared n n p p′ → Risen P R t d n p′ n
+    risen-none {p} {p′} noted c = record {
       inside = λ u l k. let h = skeleton-node k in absurd (omega arith);
-      sides = λ side x k. exactly-none (word p′ n (inward side) x) (c .empty side x (skeleton-node k)) (λ i (f, l). let h = skeleton-node (f .edge .bottom) in absurd (omega arith));
+      sides = λ side x k. exactly-none (word p′ n (inward side) x) (c .empty side x (skeleton-node k) (noted x k)) (λ i (f, l). let h = skeleton-node (f .edge .bottom) in absurd (omega arith));
     }
 
     -- ── One node ──
@@ -155,7 +156,7 @@ module _ {m : Machine} {n b r : ℕ} where
         within = within-then w (h .within);
         found = λ P R t d s.
             let z = setting-rest (rest-within (omega arith) w) s in
-            subst (λ (x : ℕ). Risen P R t d n p₂ x) (omega arith) (h .found P R t d z (risen-none P R t d (s .stage .formed) (s .stage .drawn .size) c));
+            subst (λ (x : ℕ). Risen P R t d n p₂ x) (omega arith) (h .found P R t d z (risen-none P R t d (s .stage .formed) (s .stage .drawn .size) (s .group .noted) c));
       }
 
   -- a node that is not in the skeleton
@@ -171,6 +172,19 @@ module _ {m : Machine} {n b r : ℕ} where
       go : (P R : XPath) (t : Tree) (d : List ℕ) → Setting P R t d m n b r p → (u : ℕ) → Skeleton t d u → (v ≡ u) ⊎ (v < u) → suc v ≤ u
       go P R t d s u k (inl e) = absurd (f P R t d s (subst (λ (z : ℕ). Skeleton t d z) (sym e) k))
       go P R t d s u k (inr l) = l
+
+  -- several nodes that are not
+  rises-over : {p : List ℕ} (k u : ℕ) → ((P R : XPath) (t : Tree) (d : List ℕ) → Setting P R t d m n b r p → (w : ℕ) → u ≤ w → w < k + u → ¬ Skeleton t d w) → Rises m n b r (k + u) u p p
+  rises-over {p} zero u f = subst (λ (x : ℕ). Rises m n b r x u p p) (omega arith) (rises-none u p)
+  rises-over {p} (suc k) u f =
+      subst (λ (x : ℕ). Rises m n b r x u p p) (omega arith)
+      (rises-then (rises-skip (λ P R t d s. f P R t d s (k + u) (omega arith) (omega arith))) (rises-over k u (λ P R t d s w a l. f P R t d s w a (omega arith))))
+
+  -- those of an empty block
+  pub rises-block : {u v : ℕ} {p : List ℕ} → u ≤ v → ((w : ℕ) → u ≤ w → w ≤ v → w / 16 ≡ v / 16) → ¬ IsNoted p n v → Rises m n b r (suc v) u p p
+  rises-block {u} {v} {p} l same f =
+      subst (λ (x : ℕ). Rises m n b r x u p p) (omega arith)
+      (rises-over (suc v - u) u (λ P R t d s w a i. empty-block w v f (same w a (omega arith)) (s .group)))
 
   -- one that is: its own set, and then what it hands up
   pub rises-step : {v set : ℕ} {p p₁ p₂ : List ℕ} → v < n
@@ -206,20 +220,30 @@ module _ {m : Machine} {n b r : ℕ} where
 
 -- ── Clearing ──
 pub cleared-none : (n : ℕ) (p : List ℕ) → Cleared n 0 p p
-cleared-none n p = record { inside = omega arith; within = within-none n LEFTIN ABOVE p; empty = λ side u l. absurd (omega arith) }
+cleared-none n p = record { inside = omega arith; within = within-none n LEFTIN ABOVE p; empty = λ side u l i. absurd (omega arith) }
 
 pub cleared-step : {n v : ℕ} {p p₁ p₂ p₃ : List ℕ} → Cleared n v p p₁ → v < n → Wrote ((cell n LEFTIN v, 0) ∷ []) p₁ p₂ → Wrote ((cell n RIGHTIN v, 0) ∷ []) p₂ p₃ → Cleared n (v + 1) p p₃
 cleared-step {n} {v} {p} {p₁} {p₂} {p₃} c node f g = record {
   inside = omega arith;
   within = within-then (c .within) (within-then (within-put (omega arith) (omega arith) node f) (within-put (omega arith) (omega arith) node g));
-  empty = λ side u l. go side u (eq-or-lt-of-le (omega arith));
+  empty = λ side u l i. go side u i (eq-or-lt-of-le (omega arith));
 }
   where
-    go : (side : Bool) (u : ℕ) → (u ≡ v) ⊎ (u < v) → word p₃ n (inward side) u ≡ 0
-    go true u (inl e) = ap (λ (z : ℕ). word p₃ n LEFTIN z) e ∙ g .other (cell n LEFTIN v) (omega arith, tt) ∙ f .here .0
-    go false u (inl e) = ap (λ (z : ℕ). word p₃ n RIGHTIN z) e ∙ g .here .0
-    go true u (inr l) = g .other (cell n LEFTIN u) (omega arith, tt) ∙ f .other (cell n LEFTIN u) (omega arith, tt) ∙ c .empty true u l
-    go false u (inr l) = g .other (cell n RIGHTIN u) (omega arith, tt) ∙ f .other (cell n RIGHTIN u) (omega arith, tt) ∙ c .empty false u l
+    go : (side : Bool) (u : ℕ) → IsNoted p n u → (u ≡ v) ⊎ (u < v) → word p₃ n (inward side) u ≡ 0
+    go true u i (inl e) = ap (λ (z : ℕ). word p₃ n LEFTIN z) e ∙ g .other (cell n LEFTIN v) (omega arith, tt) ∙ f .here .0
+    go false u i (inl e) = ap (λ (z : ℕ). word p₃ n RIGHTIN z) e ∙ g .here .0
+    go true u i (inr l) = g .other (cell n LEFTIN u) (omega arith, tt) ∙ f .other (cell n LEFTIN u) (omega arith, tt) ∙ c .empty true u l i
+    go false u i (inr l) = g .other (cell n RIGHTIN u) (omega arith, tt) ∙ f .other (cell n RIGHTIN u) (omega arith, tt) ∙ c .empty false u l i
+
+-- the nodes of an empty block stay as they are
+pub cleared-block : {n v u : ℕ} {p p₁ : List ℕ} → v < u → u ≤ n → ((w : ℕ) → v ≤ w → w < u → w / 16 ≡ v / 16) → ¬ IsNoted p₁ n v → Cleared n v p p₁ → Cleared n u p p₁
+cleared-block {n} {v} {u} {p} {p₁} low high same f c = record { inside = high; within = c .within; empty = λ side w l i. go side w l i (decLt w v) }
+  where
+    go : (side : Bool) (w : ℕ) → w < u → IsNoted p n w → Dec (w < v) → word p₁ n (inward side) w ≡ 0
+    go side w l i (yes a) = c .empty side w a i
+    go side w l i (no a) =
+        let e = before-within (c .within) MARKED (v / 16) (omega arith) (omega arith) in
+        absurd (f (ap (λ (x : ℕ). x / 2) e ∙ subst (λ (x : ℕ). word p n MARKED x / 2 ≡ 1) (same w (omega arith) l) i))
 
 -- ── Handing up ──
 -- the way up that the powers lead

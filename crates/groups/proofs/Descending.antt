@@ -1,5 +1,5 @@
 -- From above: what ends outside of a skeleton node, told by the next skeleton node above it, and the rows of the edge between the two.
-use Prim.Native.Nat.{ℕ, suc, _+_, _*_, _≤_, _<_}
+use Prim.Native.Nat.{ℕ, zero, suc, _+_, _-_, _*_, _/_, _≤_, _<_}
 use mathlib.Core.Path.{_≡_, refl, sym, _∙_, subst}
 use mathlib.Core.Logic.{_≢_, _⊎_, inl, inr, _↔_}
 use mathlib.Core.Bool.{Bool, true, false, not}
@@ -23,8 +23,9 @@ use Rattle.loops.specs.Loops.{Stage, Loops}
 use Rattle.powers.specs.Powers.{Lifts}
 use Rattle.powers.specs.Ladder.{Ladder}
 use Rattle.skeletons.specs.Shape.{Within}
-use Rattle.skeletons.specs.Skeletons.{Ranks, Group, Arrives, Ascent}
+use Rattle.skeletons.specs.Skeletons.{IsNoted, Ranks, Group, Arrives, Ascent}
 use Rattle.skeletons.proofs.Within.{within-put}
+use Rattle.skeletons.proofs.Judging.{empty-block}
 use Rattle.groups.specs.Groups.{IN, LEFTIN, RIGHTIN, ABOVE, inward, Exactly, Setting, OfFirst, Rest, Gains, OfEdge, Yields, Sides, Risen, Sunk}
 use Rattle.groups.specs.Steps.{EdgeAt, Gained, BothParts, Outside, Sinks, SinksBy, Sank}
 use Rattle.groups.proofs.Rest.{rest-none, rest-then, rest-more, rest-within, same-word, setting-rest, ladder-of}
@@ -205,3 +206,17 @@ module _ {m : Machine} {n b first r : ℕ} where
           go : (z ≡ v) ⊎ (z < v) → ((z : ℕ) × (z < v) × Yields P R t d z k a y i j) ⊎ Yields P R t d v k a y i j
           go (inl e) = inr (subst (λ (z : ℕ). Yields P R t d z k a y i j) e g)
           go (inr h) = inl (z, h, g)
+
+  -- several nodes that are not in the skeleton
+  sank-over : (k v : ℕ) {p p₁ : List ℕ} → ((P R : XPath) (t : Tree) (d : List ℕ) → Setting P R t d m n b r p₁ → (w : ℕ) → v ≤ w → w < k + v → ¬ Skeleton t d w)
+      → Sank m n b first r v p p₁ → Sank m n b first r (k + v) p p₁
+  sank-over zero v {p} {p₁} f g = subst (λ (x : ℕ). Sank m n b first r x p p₁) (omega arith) g
+  sank-over (suc k) v {p} {p₁} f g =
+      subst (λ (x : ℕ). Sank m n b first r x p p₁) (omega arith)
+      (sank-step (sank-over k v (λ P R t d s w a l. f P R t d s w a (omega arith)) g) (sinks-skip (λ P R t d s. f P R t d s (k + v) (omega arith) (omega arith))))
+
+  -- those of an empty block
+  pub sank-block : {v u : ℕ} {p p₁ : List ℕ} → v < u → ((w : ℕ) → v ≤ w → w < u → w / 16 ≡ v / 16) → ¬ IsNoted p₁ n v → Sank m n b first r v p p₁ → Sank m n b first r u p p₁
+  sank-block {v} {u} {p} {p₁} l same f g =
+      subst (λ (x : ℕ). Sank m n b first r x p p₁) (omega arith)
+      (sank-over (u - v) v (λ P R t d s w a i. empty-block w v f (same w a (omega arith)) (s .group)) g)

@@ -1,5 +1,5 @@
 -- Laws of what may change: columns from one on, and the snippets' rows; and what stays by them.
-use Prim.Native.Nat.{ℕ, suc, _+_, _-_, _*_, _≤_, _<_}
+use Prim.Native.Nat.{ℕ, suc, _+_, _-_, _*_, _/_, _%_, _≤_, _<_}
 use mathlib.Core.Path.{_≡_, refl, sym, _∙_, subst}
 use mathlib.Core.Logic.{_⊎_, inl, inr, _↔_}
 use mathlib.Core.Bool.{Bool, true, false}
@@ -13,7 +13,7 @@ use Rattle.xpath.specs.Syntax.{Test, XPath, stay}
 use Rattle.xpath.specs.Tree.{Tree, Child}
 use Rattle.xpath.specs.Meaning.{Less, Holds}
 use Rattle.positions.specs.Positions.{Comes}
-use Rattle.snippets.proofs.Marks.{Marked}
+use Rattle.snippets.proofs.Marks.{Marked, skeleton-inside}
 use Rattle.links.specs.Table.{PARENT, RANK, NONE, column, word}
 use Rattle.links.specs.Links.{Points}
 use Rattle.walks.specs.declared.Machine.{Machine}
@@ -123,7 +123,10 @@ setting-rest {t = t} {d} {n = n} {p′ = p′} h s =
       group = record {
         shape = stage-shape stage;
         ranks = ranks-rest h t (omega arith) (s .group .ranks);
-        marks = λ v l. subst (λ (x : ℕ). (Marked t d v × (x ≡ 1)) ⊎ ((¬ Marked t d v) × (x ≡ 0))) (sym (same-word h MARKED v (omega arith) l)) (s .group .marks v l);
+        marks = λ v l. subst (λ (x : ℕ). Marked t d v ↔ (x % 2 ≡ 1)) (sym (same-word h MARKED v (omega arith) l)) (s .group .marks v l);
+        noted = λ v k.
+            let i = skeleton-inside t d (s .stage .formed) v k in let e = s .stage .drawn .size in
+            subst (λ (x : ℕ). x / 2 ≡ 1) (sym (same-word h MARKED (v / 16) (omega arith) (omega arith))) (s .group .noted v k);
       };
     }
 

@@ -16,7 +16,7 @@ use Rattle.matrices.specs.Matrices.{Related}
 use Rattle.powers.specs.Ladder.{Ladder}
 use Rattle.loops.specs.Loops.{Stage, Loops}
 use Rattle.skeletons.specs.Shape.{Within}
-use Rattle.skeletons.specs.Skeletons.{Group}
+use Rattle.skeletons.specs.Skeletons.{IsNoted, Group}
 use Rattle.groups.specs.Groups.{IN, LEFTIN, ABOVE, inward, Exactly, Setting, Sizes, OfFirst, Rest, Gains, OfEdge, Yields, Sides, Risen, Sunk}
 
 -- ── Rows ──
@@ -40,11 +40,11 @@ pub record Placed (n b r v : ℕ) (p : List ℕ) : Type 0 where
   pub skeleton : Skeleton tree value v
   pub sizes : Sizes n b p
 
--- the words of the two columns are 0, for the nodes below v
+-- the words of the two columns are 0, for the nodes below v whose block is noted
 pub record Cleared (n v : ℕ) (p p′ : List ℕ) : Type 0 where
   pub inside : v ≤ n
   pub within : Within n LEFTIN ABOVE p p′
-  pub empty : (side : Bool) (u : ℕ) → u < v → word p′ n (inward side) u ≡ 0
+  pub empty : (side : Bool) (u : ℕ) → u < v → IsNoted p n u → word p′ n (inward side) u ≡ 0
 
 -- node v hands the members of set up to the next skeleton node
 pub record Handed (n b r v set : ℕ) (p p′ : List ℕ) : Type 0 where

@@ -6,6 +6,9 @@ use links::table::get;
 use links::table::left;
 use links::table::put;
 use powers::lift;
+use skeletons::blocks::block_end;
+use skeletons::blocks::block_start;
+use skeletons::blocks::is_empty;
 use skeletons::skeleton::climb;
 use skeletons::skeleton::is_skeleton;
 use walks::Machine;
@@ -22,16 +25,27 @@ ghost use Rattle.skeletons.specs.Skeletons.{Ranks};
 ghost use Rattle.groups.specs.Groups.{Exactly, Given, Sides};
 ghost use Rattle.groups.specs.Steps.{Placed, Cleared, Handed, Rises, Rose};
 
+// Nothing has been handed up to node `v`; what stands at the nodes of an empty block is never read. The result is where to go on.
+fn clear_from(p: &mut [u16], n: usize, v: usize) -> usize
+    requires { ⌜ Room n (now p) × (v < n) × (n ≤ 4096) ⌝ }
+    ensures { λ u. ⌜ (v < u) × ((p₀ : List ℕ) → Cleared n v p₀ (now (p .entry)) → Cleared n u p₀ (now (p .exit))) ⌝ }
+{
+    if is_empty(p, n, v) {
+        return block_end(n, v);
+    }
+    put(p, n, Column::LEFTIN, v, 0);
+    put(p, n, Column::RIGHTIN, v, 0);
+    v + 1
+}
+
 // Nothing has been handed up yet.
 fn clear(p: &mut [u16], n: usize)
-    requires { ⌜ Room n (now p) ⌝ }
+    requires { ⌜ Room n (now p) × (n ≤ 4096) ⌝ }
     ensures { λ _. ⌜ Cleared n n (now (p .entry)) (now (p .exit)) ⌝ }
 {
     let mut v = 0;
     while v < n {
-        put(p, n, Column::LEFTIN, v, 0);
-        put(p, n, Column::RIGHTIN, v, 0);
-        v += 1;
+        v = clear_from(p, n, v);
     }
 }
 
@@ -74,6 +88,18 @@ fn rise_at(p: &mut [u16], n: usize, b: usize, m: Machine, v: usize, r: usize)
     }
 }
 
+// Node `v`, or all nodes up to it of its block if that is empty. The result is the first node that has been taken.
+fn rise_from(p: &mut [u16], n: usize, b: usize, m: Machine, v: usize, r: usize) -> usize
+    requires { ⌜ Given m n b r (now p) × (v < n) ⌝ }
+    ensures { λ u. ⌜ (u ≤ v) × Rises m n b r (suc v) u (now (p .entry)) (now (p .exit)) ⌝ }
+{
+    if is_empty(p, n, v) {
+        return block_start(v);
+    }
+    rise_at(p, n, b, m, v, r);
+    v
+}
+
 // All nodes, from the last to the first: what is below a node is behind it.
 pub fn rise(p: &mut [u16], n: usize, b: usize, m: Machine, r: usize)
     requires { ⌜ Given m n b r (now p) ⌝ }
@@ -82,7 +108,6 @@ pub fn rise(p: &mut [u16], n: usize, b: usize, m: Machine, r: usize)
     clear(p, n);
     let mut v = n;
     while 0 < v {
-        v -= 1;
-        rise_at(p, n, b, m, v, r);
+        v = rise_from(p, n, b, m, v - 1, r);
     }
 }

@@ -8,12 +8,15 @@ use links::table::left;
 use links::table::put;
 use powers::lower;
 use skeletons::Climb;
+use skeletons::blocks::block_end;
+use skeletons::blocks::is_empty;
 use skeletons::skeleton::climb;
 use skeletons::skeleton::is_skeleton;
 use walks::Machine;
 ghost use mathlib.Core.Path.{_≡_};
+ghost use mathlib.Core.List.{List};
 ghost use mathlib.Core.Logic.{_≢_, _⊎_};
-ghost use Prim.Native.Nat.{_*_, _≤_, _<_};
+ghost use Prim.Native.Nat.{ℕ, _*_, _≤_, _<_};
 ghost use lib.ListN.{length};
 ghost use Rattle.links.specs.Table.{LEFT, word, Room};
 ghost use Rattle.groups.specs.Groups.{LEFTIN, RIGHTIN, Given};
@@ -69,6 +72,18 @@ fn sink_at(p: &mut [u16], n: usize, b: usize, m: Machine, v: usize, r: usize, fi
     }
 }
 
+// Node `v`, or all nodes from it on of its block if that is empty. The result is where to go on.
+fn sink_from(p: &mut [u16], n: usize, b: usize, m: Machine, v: usize, r: usize, first: u16) -> usize
+    requires { ⌜ Given m n b r (now p) × (v < n) ⌝ }
+    ensures { λ u. ⌜ (v < u) × (u ≤ n) × ((p₀ : List ℕ) → Sank m n b first r v p₀ (now (p .entry)) → Sank m n b first r u p₀ (now (p .exit))) ⌝ }
+{
+    if is_empty(p, n, v) {
+        return block_end(n, v);
+    }
+    sink_at(p, n, b, m, v, r, first);
+    v + 1
+}
+
 // All nodes, from the first to the last: what is above a node is before it.
 pub fn sink(p: &mut [u16], n: usize, b: usize, m: Machine, r: usize, first: u16)
     requires { ⌜ Given m n b r (now p) ⌝ }
@@ -76,7 +91,6 @@ pub fn sink(p: &mut [u16], n: usize, b: usize, m: Machine, r: usize, first: u16)
 {
     let mut v = 0;
     while v < n {
-        sink_at(p, n, b, m, v, r, first);
-        v += 1;
+        v = sink_from(p, n, b, m, v, r, first);
     }
 }

@@ -1,7 +1,7 @@
 -- The loop that marks the nodes of a bucket and all above them.
 use Prim.Native.Nat.{ℕ, suc, _-_, _/_, _%_, _≤_, _<_}
-use mathlib.Core.Path.{_≡_, sym, ap, _∙_, subst}
-use mathlib.Core.Logic.{_≢_, _⊎_, inl, inr, _↔_, Dec·and}
+use mathlib.Core.Path.{_≡_, sym, _∙_, subst}
+use mathlib.Core.Logic.{_⊎_, inl, inr, _↔_, Dec·and}
 use mathlib.Core.Bool.{true, false, true≢false}
 use mathlib.Core.List.{List}
 use native.Mathlib.Decide.{ℕ-discrete, decLt, decLe}
@@ -15,7 +15,7 @@ use Rattle.links.specs.Table.{RANK, word}
 use Rattle.links.specs.Links.{Points}
 use Rattle.skeletons.specs.Shape.{Shape, Within}
 use Rattle.skeletons.specs.Skeletons.{FIRST, NEXT, MARKED, IsMarked, IsNoted, Least, Buckets, Ranks, Group, Grouped}
-use Rattle.skeletons.specs.Steps.{Filled, Fork, Closed, Joined}
+use Rattle.skeletons.specs.Steps.{Filled, Closed, Joined}
 use Rattle.skeletons.proofs.Within.{within-none, within-then, before-within}
 use Rattle.skeletons.proofs.Shape.{shape-within, ranks-within, parent-of}
 

@@ -4,7 +4,7 @@ use mathlib.Core.Path.{_≡_, subst}
 use native.Mathlib.Omega.{arith}
 use Rattle.skeletons.proofs.Within.{room-within}
 use Rattle.groups.specs.Steps.{Cleared}
-use Rattle.groups.proofs.Ascending.{cleared-none, cleared-step}
+use Rattle.groups.proofs.Ascending.{cleared-none}
 use Rattle.groups.proofs.rising.clear.Statement.{statement}
 use Rattle.groups.proofs.rising.clear.Tie as tie
 
@@ -17,20 +17,14 @@ abbrev μ-loop : tie.MeasureT-loop
 loop-holds : tie.Need-loop-holds Inv-loop μ-loop
 loop-holds c = cleared-none (c .before .args .n) (c .before .args .p .now)
 
-put-requires : tie.Need-put-requires Inv-loop μ-loop
-put-requires c κs = (omega arith, c .before .loop-test .taken, room-within (c .before .before .loop .inv .within) (c .before .before .before .before .pre), omega arith)
-
-put-requires-2 : tie.Need-put-requires-2 Inv-loop μ-loop
-put-requires-2 c κs = let w = c .before .before .before .before .before .before .loop .inv .within in let l = w .long in let g = c .before .before .before .put .ensures .long in let r = c .before .before .before .before .before .before .before .before .pre in (omega arith, c .before .before .before .before .before .loop-test .taken, omega arith, omega arith)
-
-add-v : tie.Need-add-v Inv-loop μ-loop
-add-v c = omega arith
+clear-from-requires : tie.Need-clear-from-requires Inv-loop μ-loop
+clear-from-requires c κs = let p = c .before .before .before .before .pre in (room-within (c .before .before .loop .inv .within) (p .0), c .before .loop-test .taken, p .1)
 
 loop-less : tie.Need-loop-less Inv-loop μ-loop
-loop-less c = omega arith
+loop-less c = let h = c .before .before .clear-from .ensures .0 in let l = c .before .before .before .before .loop-test .taken in omega arith
 
 loop-again : tie.Need-loop-again Inv-loop μ-loop
-loop-again c = cleared-step (c .before .before .before .before .before .before .before .before .before .loop .inv) (c .before .before .before .before .before .before .before .before .loop-test .taken) (c .before .before .before .before .before .before .put .ensures) (c .before .before .put2 .ensures)
+loop-again c = c .before .before .clear-from .ensures .1 (c .before .before .before .before .before .before .before .args .p .now) (c .before .before .before .before .before .loop .inv)
 
 same-length : tie.Need-same-length Inv-loop μ-loop
 same-length c = c .before .loop .inv .within .long
@@ -45,9 +39,7 @@ clear-spec =
     Inv-loop
     μ-loop
     loop-holds
-    put-requires
-    put-requires-2
-    add-v
+    clear-from-requires
     loop-less
     loop-again
     same-length

@@ -4,7 +4,7 @@ use mathlib.Core.Path.{_≡_, subst}
 use native.Mathlib.Omega.{arith}
 use Rattle.groups.specs.Steps.{Sank}
 use Rattle.groups.proofs.Rest.{rest-more, given-rest}
-use Rattle.groups.proofs.Descending.{sank-none, sank-step}
+use Rattle.groups.proofs.Descending.{sank-none}
 use Rattle.groups.proofs.sinking.sink.Statement.{statement}
 use Rattle.groups.proofs.sinking.sink.Tie as tie
 
@@ -17,17 +17,14 @@ abbrev μ-loop : tie.MeasureT-loop
 loop-holds : tie.Need-loop-holds Inv-loop μ-loop
 loop-holds c = (omega arith, sank-none (c .before .args .p .now))
 
-sink-at-requires : tie.Need-sink-at-requires Inv-loop μ-loop
-sink-at-requires c κs = (given-rest (rest-more (omega arith) (c .before .before .loop .inv .1 .rest)) (c .before .before .before .before .pre), c .before .loop-test .taken)
-
-add-v : tie.Need-add-v Inv-loop μ-loop
-add-v c = omega arith
+sink-from-requires : tie.Need-sink-from-requires Inv-loop μ-loop
+sink-from-requires c κs = (given-rest (rest-more (omega arith) (c .before .before .loop .inv .1 .rest)) (c .before .before .before .before .pre), c .before .loop-test .taken)
 
 loop-less : tie.Need-loop-less Inv-loop μ-loop
-loop-less c = omega arith
+loop-less c = let h = c .before .before .sink-from .ensures .0 in let l = c .before .before .before .before .loop-test .taken in omega arith
 
 loop-again : tie.Need-loop-again Inv-loop μ-loop
-loop-again c = (omega arith, sank-step (c .before .before .before .before .before .loop .inv .1) (c .before .before .sink-at .ensures))
+loop-again c = let h = c .before .before .sink-from .ensures in (h .1, h .2 (c .before .before .before .before .before .before .before .args .p .now) (c .before .before .before .before .before .loop .inv .1))
 
 same-length : tie.Need-same-length Inv-loop μ-loop
 same-length c = c .before .loop .inv .1 .rest .long
@@ -42,8 +39,7 @@ sink-spec =
     Inv-loop
     μ-loop
     loop-holds
-    sink-at-requires
-    add-v
+    sink-from-requires
     loop-less
     loop-again
     same-length
