@@ -63,14 +63,7 @@ fn compare_value(
 }
 
 // The place of the constant that stands in the rule from one offset up to another.
-pub fn find_place(
-    s: &[u8],
-    rule: &[u8],
-    t: &[u16],
-    n: usize,
-    from: usize,
-    to: usize,
-) -> Place
+pub fn find_place(s: &[u8], rule: &[u8], t: &[u16], n: usize, from: usize, to: usize) -> Place
     requires { ⌜ Tabled (now s) n (now t) × (from ≤ to) × (to ≤ length (now rule)) ⌝ }
     ensures { λ r. ⌜ ((ns : List Library.Node) → Accepts (now (s .entry)) ns → Ranked ns (now (t .entry)) → Placed ns n (slice from to (now (rule .entry))) (now (t .entry)) r) ⌝ }
 {

@@ -4,11 +4,12 @@ mod relations;
 use bits::has;
 use bits::insert;
 use columns::holds;
+use constants::Place;
+use constants::compare_rank;
+use constants::find_place;
 use links::table::Table;
 use parts::kinds::Operator;
-use ranks::nodes::open_node;
 use relations::fits;
-use values::order::compare_constant;
 ghost use mathlib.Core.List.{List};
 ghost use mathlib.Core.Logic.{_↔_};
 ghost use mathlib.Core.Path.{_≡_};
@@ -22,10 +23,10 @@ ghost use Rattle.library.specs.Library as Library;
 ghost use Rattle.library.specs.Binary.{stringOf};
 ghost use Rattle.library.specs.Verdict.{Accepts};
 ghost use Rattle.links.specs.Table.{Room};
-ghost use Rattle.links.specs.Links.{Linked};
-ghost use Rattle.ranks.specs.Ranks.{Tabled};
+ghost use Rattle.ranks.specs.Ranks.{Tabled, Ranked};
 ghost use Rattle.parts.specs.Kinds.{operator};
 ghost use Rattle.columns.specs.Columns.{held};
+ghost use Rattle.constants.specs.Places.{Placed};
 ghost use Rattle.drawing.specs.Drawing.{Copied, Stayed, Judged};
 
 // The part begins behind the table. It has the links and the ranks in the same columns as that, and then these two.
@@ -78,22 +79,12 @@ pub fn draw_tests(t: &mut [u16], n: usize, brackets: u16, numbers: [usize; 16])
     }
 }
 
-// 1 if the value of node `v` is in the relation to the constant.
-fn hit(
-    s: &[u8],
-    rule: &[u8],
-    t: &[u16],
-    n: usize,
-    v: usize,
-    from: usize,
-    to: usize,
-    o: Operator,
-) -> u16
-    requires { ⌜ Tabled (now s) n (now t) × (v < n) × (from ≤ to) × (to ≤ length (now rule)) ⌝ }
-    ensures { λ r. ⌜ ((ns : List Library.Node) (q : Op) → Accepts (now (s .entry)) ns → Linked (now (s .entry)) ns (now (t .entry)) → o ≡ operator q → (r ≡ 1) ↔ Rel q (stringOf ns v) (slice from to (now (rule .entry)))) ⌝ }
+// 1 if the value of node `v` is in the relation to the constant that has this place.
+fn hit(t: &[u16], n: usize, v: usize, p: Place, o: Operator) -> u16
+    requires { ⌜ Room n (now t) × (v < n) ⌝ }
+    ensures { λ r. ⌜ ((ns : List Library.Node) (q : Op) (c : List ℕ) → Placed ns n c (now (t .entry)) p → o ≡ operator q → (r ≡ 1) ↔ Rel q (stringOf ns v) c) ⌝ }
 {
-    let r = open_node(s, t, n, v);
-    let c = compare_constant(s, r, rule, from, to);
+    let c = compare_rank(t, n, v, p);
     if fits(c, o) { 1 } else { 0 }
 }
 
@@ -108,12 +99,13 @@ pub fn draw_hits(
     o: Operator,
 )
     requires { ⌜ Tabled (now s) n (now t) × (24 * n ≤ length (now t)) × (from ≤ to) × (to ≤ length (now rule)) ⌝ }
-    ensures { λ _. ⌜ ((ns : List Library.Node) (q : Op) → Accepts (now (s .entry)) ns → Linked (now (s .entry)) ns (now (t .entry)) → o ≡ operator q → Judged ns n q (slice from to (now (rule .entry))) (now (t .entry)) (now (t .exit))) ⌝ }
+    ensures { λ _. ⌜ ((ns : List Library.Node) (q : Op) → Accepts (now (s .entry)) ns → Ranked ns (now (t .entry)) → o ≡ operator q → Judged ns n q (slice from to (now (rule .entry))) (now (t .entry)) (now (t .exit))) ⌝ }
 {
+    let p = find_place(s, rule, t, n, from, to);
     let column = HIT * n;
     let mut v = 0;
     while v < n {
-        let x = hit(s, rule, t, n, v, from, to, o);
+        let x = hit(t, n, v, p, o);
         t[column + v] = x;
         v += 1;
     }

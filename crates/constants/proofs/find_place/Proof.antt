@@ -1,5 +1,5 @@
 -- `constants::find_place` meets its contract.
-use Prim.Native.Nat.{_+_, _-_, _/_, _≤_, _<_}
+use Prim.Native.Nat.{_-_, _≤_, _<_}
 use mathlib.Core.Path.{subst}
 use mathlib.Core.List.{List}
 use lib.Seq.{slice}
@@ -59,7 +59,7 @@ loop-less-2 : tie.Need-loop-less-2 Inv-loop μ-loop
 loop-less-2 c = let l = c .before .before .before .before .before .before .loop-test .taken in let h = inside (c .before .before .before .before) in let m = c .before .before .before .before .before .nearest .ensures .high h in let e = c .before .before .before .get .ensures .0 in omega arith
 
 loop-again-2 : tie.Need-loop-again-2 Inv-loop μ-loop
-loop-again-2 c = 
+loop-again-2 c =
     let i = c .before .before .before .before .before .before .before .loop in let x = c .before .before .before .before .before .before .before .before .before .before .before in let v = c .before .before .before .before .before .nearest .result in let k = slice (x .args .from) (x .args .to) (x .args .rule .now) in
     (i .inv .0, λ ns a r. around-smaller k (valued (tree-size (x .pre .0) ns a) r) (inside (c .before .before .before .before)) (c .before .before .before .get .ensures .0) (i .inv .1 ns a r) (subst (λ o. Ordered (stringOf ns v) k o) (c .enum-told .given .1) (c .before .before .compare-value .ensures ns a)))
 
@@ -70,7 +70,7 @@ add-t16 : tie.Need-add-t16 Inv-loop μ-loop
 add-t16 c = let l = c .before .before .before .get .ensures .1 in omega arith
 
 returns : tie.Need-returns Inv-loop μ-loop
-returns c = 
+returns c =
     let x = c .before .before .before .before .before .before .before .before .before .before .before in let v = c .before .before .before .before .before .nearest .result in let k = slice (x .args .from) (x .args .to) (x .args .rule .now) in
     λ ns a r. placed-same k (valued (tree-size (x .pre .0) ns a) r) (inside (c .before .before .before .before)) (c .before .before .before .get .ensures .0) (subst (λ o. Ordered (stringOf ns v) k o) (c .enum-told2 .given .1) (c .before .before .compare-value .ensures ns a))
 
@@ -81,7 +81,7 @@ loop-less-3 : tie.Need-loop-less-3 Inv-loop μ-loop
 loop-less-3 c = let l = c .before .before .before .before .before .before .loop-test .taken in omega arith
 
 loop-again-3 : tie.Need-loop-again-3 Inv-loop μ-loop
-loop-again-3 c = 
+loop-again-3 c =
     let i = c .before .before .before .before .before .before .before .loop in let x = c .before .before .before .before .before .before .before .before .before .before .before in let v = c .before .before .before .before .before .nearest .result in let k = slice (x .args .from) (x .args .to) (x .args .rule .now) in let l = c .before .before .before .before .before .before .loop-test .taken in let h = i .inv .0 in
     (omega arith, λ ns a r. around-greater k (valued (tree-size (x .pre .0) ns a) r) (inside (c .before .before .before .before)) (c .before .before .before .get .ensures .0) (i .inv .1 ns a r) (c .before .before .before .before .before .nearest .ensures) (subst (λ o. Ordered (stringOf ns v) k o) (c .enum-told3 .given .1) (c .before .before .compare-value .ensures ns a)))
 

@@ -3,15 +3,18 @@ use Prim.Native.Nat.{_-_}
 use lib.Seq.{slice}
 use native.Mathlib.Omega.{arith}
 use Rattle.drawing.proofs.Drawn.{Drawn, drawn-none, drawn-step}
-use Rattle.drawing.proofs.Hits.{Hits, drawn-tree, hits-same, hits-all}
+use Rattle.drawing.proofs.Hits.{Hits, hits-same, hits-all}
 use Rattle.drawing.proofs.draw_hits.Statement.{statement}
 use Rattle.drawing.proofs.draw_hits.Tie as tie
 
 abbrev Inv-loop : tie.InvT-loop
-Inv-loop s rule t₀ n from to o column v₀ t v = Drawn (Hits s t₀ o (slice from to rule)) column n v t₀ t
+Inv-loop s rule t₀ n from to o p column v₀ t v = Drawn (Hits t₀ n p o) column n v t₀ t
 
 abbrev μ-loop : tie.MeasureT-loop
-μ-loop s rule t₀ n from to o column v₀ t v = n - v
+μ-loop s rule t₀ n from to o p column v₀ t v = n - v
+
+find-place-requires : tie.Need-find-place-requires Inv-loop μ-loop
+find-place-requires c κs = let p = c .before .before .before .before .pre in (p .0, p .2, p .3)
 
 mul-column : tie.Need-mul-column Inv-loop μ-loop
 mul-column c = omega arith
@@ -20,7 +23,7 @@ loop-holds : tie.Need-loop-holds Inv-loop μ-loop
 loop-holds c = drawn-none _ _ _ _
 
 hit-requires : tie.Need-hit-requires Inv-loop μ-loop
-hit-requires c κs = let p = c .before .before .before .before .before .before .pre in (drawn-tree (p .0) (c .before .before .loop .inv), c .before .loop-test .taken, p .2, p .3)
+hit-requires c κs = let r = c .before .before .before .before .before .before .before .before .pre .1 in let e = c .before .before .loop .inv .long in (omega arith, c .before .loop-test .taken)
 
 add-t : tie.Need-add-t Inv-loop μ-loop
 add-t c = omega arith
@@ -39,14 +42,16 @@ loop-less c = omega arith
 
 loop-again : tie.Need-loop-again Inv-loop μ-loop
 loop-again c =
-    let x = c .before .before .before .before .before .before .before .args in let d = c .before .before .before .loop .inv in let h = c .hit in
-    drawn-step (h .result) d (omega arith) (c .before .before .loop-test .taken) (hits-same (c .before .before .before .before .before .before .before .pre .0) d (slice (x .from) (x .to) (x .rule .now)) (h .ensures))
+    let d = c .before .before .before .loop .inv in let h = c .hit in
+    drawn-step (h .result) d (omega arith) (c .before .before .loop-test .taken) (hits-same d (h .ensures))
 
 same-length : tie.Need-same-length Inv-loop μ-loop
 same-length c = c .before .loop .inv .long
 
 returns : tie.Need-returns Inv-loop μ-loop
-returns c = let x = c .before .before .before .before .before .args in hits-all (x .s .now) (x .n) (x .o) (slice (x .from) (x .to) (x .rule .now)) (c .before .loop .inv) (c .loop-test .left)
+returns c =
+    let x = c .before .before .before .before .before .before .before .args in let p = c .before .before .find-place in
+    λ ns q a r e. hits-all (x .n) (p .result) (x .o) (c .before .loop .inv) (c .loop-test .left) ns q (slice (x .from) (x .to) (x .rule .now)) (p .ensures ns a r) e
 
 pub draw-hits-spec : {M : Type 1} → statement M
 draw-hits-spec =
@@ -54,6 +59,7 @@ draw-hits-spec =
     (tie.spec
     Inv-loop
     μ-loop
+    find-place-requires
     mul-column
     loop-holds
     hit-requires
