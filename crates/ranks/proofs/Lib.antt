@@ -3,8 +3,10 @@ pub mod Trees
 pub mod Worked
 pub mod Extents
 pub mod Bounds
-pub mod Marking
 pub mod Values
+pub mod Noting
+pub mod Opening
+pub mod Marking
 pub mod Insertion
 pub mod Halving
 pub mod Shifting

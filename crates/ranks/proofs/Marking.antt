@@ -1,13 +1,14 @@
 -- The columns of the first and the last texts: what is told of a node is told from its own text and from its children, and sorting leaves it so.
-use Prim.Native.Nat.{ℕ, suc, _-_, _≤_, _<_}
+use Prim.Native.Nat.{ℕ, suc, _*_, _-_, _≤_, _<_}
 use mathlib.Core.Path.{_≡_, sym, ap, _∙_, subst, subst₂}
-use mathlib.Core.Logic.{_⊎_, inl, inr}
+use mathlib.Core.Logic.{_⊎_, _≢_, inl, inr}
 use mathlib.Core.Bool.{Bool, true, false}
 use mathlib.Core.List.{List, [], _∷_}
-use lib.ListN.{length}
+use lib.ListN.{length, getD}
 use native.Mathlib.Omega.{arith}
 use native.Mathlib.Decide.{ℕ-discrete}
 use Rattle.xpath.specs.Tree.{Child}
+use Rattle.lists.specs.Lists.{All}
 use Rattle.library.specs.Library.{Node}
 use Rattle.library.specs.Binary.{treeOf}
 use Rattle.library.specs.Verdict.{Accepts}
@@ -15,19 +16,29 @@ use Rattle.library.proofs.Intervals.{End, end-of}
 use Rattle.links.specs.Table.{LEFT, RIGHT, NONE, column, cell, word, Wrote}
 use Rattle.links.specs.Links.{Points}
 use Rattle.ranks.specs.Ranks.{Tabled}
-use Rattle.ranks.specs.Texts.{FIRST-TEXT, LAST-TEXT, Bounds, Extent, Told, Marked, Noted, Arranged}
-use Rattle.ranks.specs.Values.{IsElement, Inside}
+use Rattle.ranks.specs.Texts.{FIRST-TEXT, LAST-TEXT, Bounds, Extent, Content, Told, Arranged}
+use Rattle.ranks.specs.Values.{Inner}
+use Rattle.ranks.specs.Notes.{BEGINS, ENDS, START-LOW, START-HIGH, LENGTH, noteAt, noted, Valued, Marked, Noted}
+use Rattle.ranks.specs.declared.notes.Note.{Note}
 use Rattle.ranks.proofs.Trees.{tree-size, tree-linked, tree-small}
 use Rattle.ranks.proofs.Worked.{confined-none, confined-then, confined-put, noted-worked, arranged-worked, worked-tree}
 use Rattle.ranks.proofs.Extents.{left-extent, right-extent}
 use Rattle.ranks.proofs.Bounds.{bounds-small}
+use Rattle.ranks.proofs.Noting.{note-same, note-written, noted-confined}
 
 pub arranged-marked : {s : List ℕ} {n i : ℕ} {t t′ : List ℕ} → Marked s n i t → Arranged n t t′ → Marked s n i t′
-arranged-marked {n} h q =
+arranged-marked {s} {n} {i} {t} {t′} h q =
     record {
       tabled = worked-tree (h .tabled) (arranged-worked q);
-      told = λ ns a v i l e d. subst₂ (λ x y. Bounds ns v e x y) (sym (q .behind (cell n FIRST-TEXT v) (omega arith))) (sym (q .behind (cell n LAST-TEXT v) (omega arith))) (h .told ns a v i l e d);
+      told = λ ns a v i l e d. subst₂ (λ x y. Bounds ns v e x y) (same (cell n FIRST-TEXT v) (omega arith)) (same (cell n LAST-TEXT v) (omega arith)) (h .told ns a v i l e d);
+      valued = λ ns a v i l.
+          subst (λ x. Valued s ns v x)
+          (note-same t t′ n v (same (cell n BEGINS v) (omega arith)) (same (cell n ENDS v) (omega arith)) (same (cell n START-LOW v) (omega arith)) (same (cell n START-HIGH v) (omega arith)) (same (cell n LENGTH v) (omega arith)))
+          (h .valued ns a v i l);
     }
+  where
+    same : (k : ℕ) → FIRST-TEXT * n ≤ k → getD t k 0 ≡ getD t′ k 0
+    same k r = sym (q .behind k r)
 
 -- ── What is told of a child, which may be no node ──
 module _ (ns : List Node) {v a b : ℕ} (small : length ns ≤ NONE) where
@@ -55,20 +66,19 @@ module _ {s : List ℕ} {n v : ℕ} {t : List ℕ} (h : Tabled s n t) (l : v < n
       go (inl c) = inl (subst (λ (k : ℕ). x < k) (tree-size h ns a) (c .inside))
       go (inr k) = inr (k .0)
 
-  -- what is under a node: itself, what is under its left child, and what is under its right child
-  pub under-node : {x y e : ℕ} → x ≡ word t n LEFT v → y ≡ word t n RIGHT v → End ns v e
-      → (m : ℕ) × (suc v ≤ m) × (m ≤ e) × (e ≤ NONE) × Extent ns x (suc v) m × Extent ns y m e
-  under-node p q k =
-      let i = subst (λ (b : ℕ). v < b) (sym (tree-size h ns a)) l in
-      let (m, c, x) = left-extent (a .legal) i (child-is true p) in let (j, y) = right-extent (a .legal) i (child-is false q) c k in
-      let f = tree-small h ns a in let o = k .within in
-      (m, c .behind, j, omega arith, x, y)
+  -- what is inside a node: what is under its left child
+  pub inner-of : {x f g : ℕ} → x ≡ word t n LEFT v → ((b c : ℕ) → suc v ≤ b → Extent ns x b c → Bounds ns b c f g) → Inner ns v f g
+  inner-of p k =
+      let (m, c, x) = left-extent (a .legal) (subst (λ (b : ℕ). v < b) (sym (tree-size h ns a)) l) (child-is true p) in
+      record { end = m; content = c; bounds = k (suc v) m (omega arith) x }
 
-  -- what is inside an element: what is under its left child
-  pub inside : {x d f g : ℕ} → x ≡ word t n LEFT v → IsElement ns v d → ((b c : ℕ) → Extent ns x b c → Bounds ns b c f g) → Inside ns v d f g
-  inside p k j =
-      let (m, c, x) = left-extent (a .legal) (k .node) (child-is true p) in
-      record { is = k; end = m; content = c; bounds = j (suc v) m x }
+  -- what is under it: itself, what is inside it, and what is under its right child
+  pub under-node : {y e m : ℕ} → y ≡ word t n RIGHT v → Content ns v m → End ns v e → (suc v ≤ m) × (m ≤ e) × (e ≤ NONE) × Extent ns y m e
+  under-node q c k =
+      let i = subst (λ (b : ℕ). v < b) (sym (tree-size h ns a)) l in
+      let (j, y) = right-extent (a .legal) i (child-is false q) c k in
+      let f = tree-small h ns a in let o = k .within in
+      (c .behind, j, omega arith, y)
 
 -- ── The loop ──
 -- the columns are filled from node v on, and nothing else has changed
@@ -81,8 +91,8 @@ pub filling-none : {s : List ℕ} {n : ℕ} {t : List ℕ} → Tabled s n t → 
 filling-none {n} {t} h =
     record {
       within = omega arith;
-      marked = record { tabled = h; told = λ ns a v i l e d. absurd (omega arith) };
-      noted = confined-none FIRST-TEXT (suc LAST-TEXT) n t;
+      marked = record { tabled = h; told = λ ns a v i l e d. absurd (omega arith); valued = λ ns a v i l. absurd (omega arith) };
+      noted = confined-none FIRST-TEXT (suc LENGTH) n t;
     }
 
 -- one node more, from the last to the first
@@ -90,23 +100,42 @@ pub filling-step : {s : List ℕ} {n v : ℕ} {t₀ t t′ : List ℕ} → Filli
 filling-step g h q = let w = g .within in record { within = omega arith; marked = h; noted = confined-then (g .noted) q }
 
 -- what is written for a node
-pub marked-step : {s : List ℕ} {n v f l : ℕ} {t t₁ t₂ : List ℕ} → Marked s n (suc v) t → v < n
+pub marked-step : {s : List ℕ} {n v f l : ℕ} {x : Note} {t t₁ t₂ t₃ : List ℕ} → Marked s n (suc v) t → v < n
     → ((ns : List Node) (e : ℕ) → Accepts s ns → End ns v e → Bounds ns v e f l)
-    → Wrote ((cell n FIRST-TEXT v, f) ∷ []) t t₁ → Wrote ((cell n LAST-TEXT v, l) ∷ []) t₁ t₂ → Marked s n v t₂ × Noted n t t₂
-marked-step {s} {n} {v} {f} {l} {t} {t₁} {t₂} h r g p q = (record { tabled = worked-tree (h .tabled) (noted-worked noted); told = λ ns a u i j e d. go ns a u i j e d (ℕ-discrete u v) }, noted)
+    → ((ns : List Node) → Accepts s ns → Valued s ns v x)
+    → Wrote ((cell n FIRST-TEXT v, f) ∷ []) t t₁ → Wrote ((cell n LAST-TEXT v, l) ∷ []) t₁ t₂ → Wrote (noted n v x) t₂ t₃ → Marked s n v t₃ × Noted n t t₃
+marked-step {s} {n} {v} {f} {l} {x} {t} {t₁} {t₂} {t₃} h r g k p q w =
+    (record { tabled = worked-tree (h .tabled) (noted-worked kept); told = λ ns a u i j e d. texts ns a u i j e d (ℕ-discrete u v); valued = λ ns a u i j. value ns a u i j (ℕ-discrete u v) }, kept)
   where
-    noted : Noted n t t₂
-    noted = confined-then (confined-put (omega arith) (omega arith) r p) (confined-put (omega arith) (omega arith) r q)
+    kept : Noted n t t₃
+    kept = confined-then (confined-then (confined-put (omega arith) (omega arith) r p) (confined-put (omega arith) (omega arith) r q)) (noted-confined n v x r w)
 
-    go : (ns : List Node) → Accepts s ns → (u : ℕ) → v ≤ u → u < n → (e : ℕ) → End ns u e → Dec (u ≡ v) → Bounds ns u e (word t₂ n FIRST-TEXT u) (word t₂ n LAST-TEXT u)
-    go ns a u i j e d (yes z) =
-        subst (λ x. Bounds ns x e (word t₂ n FIRST-TEXT x) (word t₂ n LAST-TEXT x)) (sym z)
-        (subst₂ (λ x y. Bounds ns v e x y) (sym (q .other (cell n FIRST-TEXT v) (omega arith, tt) ∙ p .here .0)) (sym (q .here .0)) (g ns e a (subst (λ x. End ns x e) z d)))
-    go ns a u i j e d (no z) =
+    same : (i : ℕ) → All (λ y. i ≢ y .0) (noted n v x) → i ≢ cell n LAST-TEXT v → i ≢ cell n FIRST-TEXT v → getD t i 0 ≡ getD t₃ i 0
+    same i a b c = sym (w .other i a ∙ q .other i (b, tt) ∙ p .other i (c, tt))
+
+    texts : (ns : List Node) → Accepts s ns → (u : ℕ) → v ≤ u → u < n → (e : ℕ) → End ns u e → Dec (u ≡ v) → Bounds ns u e (word t₃ n FIRST-TEXT u) (word t₃ n LAST-TEXT u)
+    texts ns a u i j e d (yes z) =
+        subst (λ x. Bounds ns x e (word t₃ n FIRST-TEXT x) (word t₃ n LAST-TEXT x)) (sym z)
+        (subst₂ (λ x y. Bounds ns v e x y)
+        (sym (w .other (cell n FIRST-TEXT v) (omega arith) ∙ q .other (cell n FIRST-TEXT v) (omega arith, tt) ∙ p .here .0))
+        (sym (w .other (cell n LAST-TEXT v) (omega arith) ∙ q .here .0)) (g ns e a (subst (λ x. End ns x e) z d)))
+    texts ns a u i j e d (no z) =
         subst₂ (λ x y. Bounds ns u e x y)
-        (sym (q .other (cell n FIRST-TEXT u) (omega arith, tt) ∙ p .other (cell n FIRST-TEXT u) (omega arith, tt)))
-        (sym (q .other (cell n LAST-TEXT u) (omega arith, tt) ∙ p .other (cell n LAST-TEXT u) (omega arith, tt)))
+        (same (cell n FIRST-TEXT u) (omega arith) (omega arith) (omega arith))
+        (same (cell n LAST-TEXT u) (omega arith) (omega arith) (omega arith))
         (h .told ns a u (omega arith) j e d)
+
+    value : (ns : List Node) → Accepts s ns → (u : ℕ) → v ≤ u → u < n → Dec (u ≡ v) → Valued s ns u (noteAt t₃ n u)
+    value ns a u i j (yes z) = subst (λ y. Valued s ns y (noteAt t₃ n y)) (sym z) (subst (λ y. Valued s ns v y) (sym (note-written n v x w)) (k ns a))
+    value ns a u i j (no z) =
+        subst (λ y. Valued s ns u y)
+        (note-same t t₃ n u
+        (same (cell n BEGINS u) (omega arith) (omega arith) (omega arith))
+        (same (cell n ENDS u) (omega arith) (omega arith) (omega arith))
+        (same (cell n START-LOW u) (omega arith) (omega arith) (omega arith))
+        (same (cell n START-HIGH u) (omega arith) (omega arith) (omega arith))
+        (same (cell n LENGTH u) (omega arith) (omega arith) (omega arith)))
+        (h .valued ns a u (omega arith) j)
 
 -- it fits in a word
 pub told-small : {s : List ℕ} {n v f l : ℕ} {t : List ℕ} → Tabled s n t → v < n

@@ -14,7 +14,7 @@ use Rattle.library.specs.Verdict.{Accepts}
 use Rattle.links.specs.Table.{RANK, word}
 use Rattle.links.specs.Links.{Linked}
 use Rattle.ranks.specs.Ranks.{Tabled, Ranked, Written}
-use Rattle.ranks.specs.Texts.{Noted}
+use Rattle.ranks.specs.Notes.{Noted}
 use Rattle.ranks.specs.Sorting.{entry, Sorted, dense, Sorting, Numbered}
 use Rattle.ranks.proofs.Trees.{tree-size}
 use Rattle.ranks.proofs.Worked.{confined-then, noted-worked, arranged-worked, worked-linked, worked-kept}

@@ -9,17 +9,12 @@ use native.Mathlib.Omega.{arith}
 use Rattle.xpath.specs.Meaning.{Less}
 use Rattle.library.specs.Library.{Node, Kind, element, attribute, text, at}
 use Rattle.library.specs.Binary.{textOf, joined, stringOf}
-use Rattle.library.specs.Verdict.{Accepts}
 use Rattle.library.proofs.Binary.{deep}
-use Rattle.library.proofs.Intervals.{texts, joined-slice, element-value}
-use Rattle.document.specs.Entries.{Start}
-use Rattle.links.specs.Table.{NONE, offsetOf}
-use Rattle.values.specs.Comes.{Comes}
-use Rattle.values.proofs.Cursor.{element-text, attribute-text, text-text, text-value, alone-comes}
-use Rattle.ranks.specs.Ranks.{Tabled}
+use Rattle.library.proofs.Intervals.{texts, joined-in, joined-slice, element-value}
+use Rattle.links.specs.Table.{NONE}
+use Rattle.values.proofs.Cursor.{element-text, attribute-text, text-text, text-value}
 use Rattle.ranks.specs.Texts.{Spoken, Bounds}
 use Rattle.ranks.specs.Values.{Inside, Lasts}
-use Rattle.ranks.proofs.Trees.{tree-size, tree-linked, tree-stands}
 use Rattle.ranks.proofs.Bounds.{texts-cut, texts-silent, texts-from, texts-between, texts-some}
 
 -- ── Values that begin at the same node ──
@@ -66,23 +61,26 @@ is-text x h = go (x .kind) refl
     go text e = e
 
 module _ {ns : List Node} {v d f l : ℕ} (h : Inside ns v d f l) where
-  -- the value, read from a node on before which no text stands
-  inside-from : (u : ℕ) → v < u → u ≤ h .end → joined d (drop u ns) ≡ texts (slice u (h .end) ns)
-  inside-from u i j =
-      let c = h .content in
-      ap (λ (x : ℕ). joined x (drop u ns)) (h .is .level)
-      ∙ joined-slice ns (deep ns v) (c .within) (c .stops) (h .end - u) u (omega arith) (λ w p q. c .deeper w (omega arith) q)
+  abbrev end : ℕ
+  end = h .inner .end
 
-  inside-value : stringOf ns v ≡ texts (slice (suc v) (h .end) ns)
+  -- the value, read from a node on before which no text stands
+  inside-from : (u : ℕ) → v < u → u ≤ end → joined d (drop u ns) ≡ texts (slice u end ns)
+  inside-from u i j =
+      let c = h .inner .content in
+      ap (λ (x : ℕ). joined x (drop u ns)) (h .is .level)
+      ∙ joined-slice ns (deep ns v) (c .within) (c .stops) (end - u) u (omega arith) (λ w p q. c .deeper w (omega arith) q)
+
+  inside-value : stringOf ns v ≡ texts (slice (suc v) end ns)
   inside-value =
-      element-value ns v (h .is .kind) ∙ ap (λ (x : ℕ). joined x (drop (suc v) ns)) (sym (h .is .level)) ∙ inside-from (suc v) (omega arith) (h .content .behind)
+      element-value ns v (h .is .kind) ∙ ap (λ (x : ℕ). joined x (drop (suc v) ns)) (sym (h .is .level)) ∙ inside-from (suc v) (omega arith) (h .inner .content .behind)
 
   pub inside-lasts : Lasts ns v f l
-  inside-lasts = go (h .bounds)
+  inside-lasts = go (h .inner .bounds)
     where
-      go : Bounds ns (suc v) (h .end) f l → Lasts ns v f l
+      go : Bounds ns (suc v) end f l → Lasts ns v f l
       go (inl x) =
-          let r = x .within in let q = h .content .within in
+          let r = x .within in let q = h .inner .content .within in
           inl (
           record {
             order = x .order;
@@ -94,53 +92,49 @@ module _ {ns : List Node} {v d f l : ℕ} (h : Inside ns v d f l) where
                 ∙ ap (λ a. a ++ texts (slice (suc f) (suc l) ns)) (text-text (at ns f) (is-text (at ns f) (x .begins)));
           }
           )
-      go (inr (a, b, x)) = inr (a, b, inside-value ∙ texts-silent ns (h .content .behind) (h .content .within) x)
+      go (inr (a, b, x)) = inr (a, b, inside-value ∙ texts-silent ns (h .inner .content .behind) (h .inner .content .within) x)
 
-  -- ── A cursor over it ──
-  module _ {s : List ℕ} {n : ℕ} {t : List ℕ} (g : Tabled s n t) (a : Accepts s ns) where
-    -- no text
-    pub open-none : f ≡ NONE → Comes s ns (record { from = 0; to = 0; next = 0; left = 0; depth = 0 }) (stringOf ns v)
-    open-none e = go inside-lasts
-      where
-        go : Lasts ns v f l → Comes s ns (record { from = 0; to = 0; next = 0; left = 0; depth = 0 }) (stringOf ns v)
-        go (inl x) = let o = x .order in let r = x .within in let m = a .legal .few in absurd (omega arith)
-        go (inr (b, c, x)) = alone-comes (record { from = 0; to = 0 }) a (record { within = omega arith; bytes = sym x })
+  -- no text
+  pub inside-none : length ns ≤ NONE → f ≡ NONE → stringOf ns v ≡ []
+  inside-none few e = go inside-lasts
+    where
+      go : Lasts ns v f l → stringOf ns v ≡ []
+      go (inl x) = let o = x .order in let r = x .within in absurd (omega arith)
+      go (inr (b, c, x)) = x
 
-    spoken : ¬ (f ≡ NONE) → Spoken ns (suc v) (h .end) f l
-    spoken z = go (h .bounds)
-      where
-        go : Bounds ns (suc v) (h .end) f l → Spoken ns (suc v) (h .end) f l
-        go (inl x) = x
-        go (inr (b, c, x)) = absurd (z b)
+  spoken : ¬ (f ≡ NONE) → Spoken ns (suc v) end f l
+  spoken z = go (h .inner .bounds)
+    where
+      go : Bounds ns (suc v) end f l → Spoken ns (suc v) end f l
+      go (inl x) = x
+      go (inr (b, c, x)) = absurd (z b)
 
-    pub first-node : ¬ (f ≡ NONE) → f < n
-    first-node z =
-        let x = spoken z in let o = x .order in let r = x .within in let w = h .content .within in let m = tree-size g ns a in
-        omega arith
+  -- the first text is that of a node inside, and so is the last
+  pub inside-first : ¬ (f ≡ NONE) → (v < f) × (f ≤ l) × (l < length ns) × (at ns f .kind ≡ text)
+  inside-first z =
+      let x = spoken z in let r = x .within in let w = h .inner .content .within in
+      (x .after, x .order, omega arith, is-text (at ns f) (x .begins))
 
-    -- one text: the value of that node
-    pub open-one : ¬ (f ≡ NONE) → f ≡ l → stringOf ns f ≡ stringOf ns v
-    open-one z e =
-        let x = spoken z in let y = texts (slice (suc f) (suc l) ns) in
-        let none : y ≡ [] = ap (λ (i : ℕ). texts (slice (suc i) (suc l) ns)) e ∙ ap texts (slice-empty (suc l) ns) in
-        text-value ns f (is-text (at ns f) (x .begins))
-        ∙ sym (text-text (at ns f) (is-text (at ns f) (x .begins)))
-        ∙ sym (append-nil (textOf (at ns f)))
-        ∙ ap (λ r. textOf (at ns f) ++ r) (sym none)
-        ∙ sym (inside-value ∙ texts-between ns (h .content .within) x)
+  -- one text: the value of that node
+  pub inside-one : ¬ (f ≡ NONE) → f ≡ l → stringOf ns f ≡ stringOf ns v
+  inside-one z e =
+      let x = spoken z in let y = texts (slice (suc f) (suc l) ns) in
+      let none : y ≡ [] = ap (λ (i : ℕ). texts (slice (suc i) (suc l) ns)) e ∙ ap texts (slice-empty (suc l) ns) in
+      text-value ns f (is-text (at ns f) (x .begins))
+      ∙ sym (text-text (at ns f) (is-text (at ns f) (x .begins)))
+      ∙ sym (append-nil (textOf (at ns f)))
+      ∙ ap (λ r. textOf (at ns f) ++ r) (sym none)
+      ∙ sym (inside-value ∙ texts-between ns (h .inner .content .within) x)
 
-    -- more: the nodes from the first on
-    pub open-more : {i : ℕ} → ¬ (f ≡ NONE) → i ≡ offsetOf t n f → Comes s ns (record { from = 0; to = 0; next = i; left = n - f; depth = d }) (stringOf ns v)
-    open-more {i} z e =
-        let x = spoken z in let p = x .after in let o = x .order in let r = x .within in let m = first-node z in let size = tree-size g ns a in
-        record {
-          accepts = a;
-          within = omega arith;
-          node = f;
-          behind = omega arith;
-          start = λ b. subst (λ (k : ℕ). Start s (drop f ns) k) (sym e) (tree-stands g ns f a (tree-linked g ns a) m .start);
-          whole = inside-from f p (omega arith) ∙ sym (inside-value ∙ texts-from ns (h .content .within) x);
-        }
+  -- more: the value of the first node, and the nodes behind it
+  pub inside-more : ¬ (f ≡ NONE) → stringOf ns f ++ joined d (drop (suc f) ns) ≡ stringOf ns v
+  inside-more z =
+      let x = spoken z in let p = x .after in let o = x .order in let r = x .within in let c = h .inner .content in let w = c .within in let lev = h .is .level in
+      let k = is-text (at ns f) (x .begins) in let dp = c .deeper f p (omega arith) in
+      ap (λ a. a ++ joined d (drop (suc f) ns)) (text-value ns f k ∙ sym (text-text (at ns f) k))
+      ∙ sym (joined-in ns d f (omega arith) (omega arith))
+      ∙ inside-from f p (omega arith)
+      ∙ sym (inside-value ∙ texts-from ns (c .within) x)
 
 -- ── The value of text and of an attribute ──
 pub own-lasts : (ns : List Node) (v : ℕ) → v < length ns → stringOf ns v ≡ at ns v .value → Lasts ns v v v

@@ -11,7 +11,8 @@ use Rattle.links.specs.Table.{COLUMNS, RANK, cell, Wrote, Kept}
 use Rattle.links.specs.Links.{Linked}
 use Rattle.links.proofs.Linked.{linked-same}
 use Rattle.ranks.specs.Ranks.{Tabled, Confined, Worked}
-use Rattle.ranks.specs.Texts.{Noted, Arranged}
+use Rattle.ranks.specs.Texts.{Arranged}
+use Rattle.ranks.specs.Notes.{Noted}
 use Rattle.ranks.proofs.Trees.{tree-size}
 
 pub confined-none : (a b n : ℕ) (t : List ℕ) → Confined a b n t t

@@ -6,10 +6,9 @@ use mathlib.Core.List.{List, []}
 use lib.ListN.{length}
 use Rattle.library.specs.Library.{Node, at}
 use Rattle.library.specs.Binary.{textOf}
-use Rattle.library.specs.Verdict.{Accepts}
 use Rattle.library.proofs.Intervals.{End}
 use Rattle.links.specs.Table.{RANK, NONE, word}
-use Rattle.ranks.specs.Ranks.{Tabled, Confined}
+use Rattle.ranks.specs.Ranks.{Confined}
 
 abbrev pub FIRST-TEXT : ℕ
 FIRST-TEXT = 7
@@ -52,15 +51,6 @@ pub record Content (ns : List Node) (v b : ℕ) : Type 0 where
 abbrev pub Told : List Node → ℕ → ℕ → List ℕ → Type 0
 Told ns n i t = (v : ℕ) → i ≤ v → v < n → (e : ℕ) → End ns v e → Bounds ns v e (word t n FIRST-TEXT v) (word t n LAST-TEXT v)
 
--- t begins with the table of a tree, in which the columns are filled from node i on
-pub record Marked (s : List ℕ) (n i : ℕ) (t : List ℕ) : Type 0 where
-  pub tabled : Tabled s n t
-  pub told : (ns : List Node) → Accepts s ns → Told ns n i t
-
--- nothing but the two columns has changed
-abbrev pub Noted : ℕ → List ℕ → List ℕ → Type 0
-Noted n t t′ = Confined FIRST-TEXT (suc LAST-TEXT) n t t′
-
--- nothing but the columns of the ranks and of the order has changed, which are before them
+-- nothing but the columns of the ranks and of the order has changed, which are before these
 abbrev pub Arranged : ℕ → List ℕ → List ℕ → Type 0
 Arranged n t t′ = Confined RANK FIRST-TEXT n t t′

@@ -19,12 +19,16 @@ pub record IsElement (ns : List Node) (v d : ℕ) : Type 0 where
   pub kind : at ns v .kind ≡ element
   pub level : d ≡ at ns v .depth
 
--- and the text inside it begins at f and ends at l
-pub record Inside (ns : List Node) (v d f l : ℕ) : Type 0 where
-  pub is : IsElement ns v d
+-- the text inside node v begins at f and ends at l
+pub record Inner (ns : List Node) (v f l : ℕ) : Type 0 where
   pub end : ℕ
   pub content : Content ns v end
   pub bounds : Bounds ns (suc v) end f l
+
+-- and v is an element of the depth d
+pub record Inside (ns : List Node) (v d f l : ℕ) : Type 0 where
+  pub is : IsElement ns v d
+  pub inner : Inner ns v f l
 
 -- the string value of node v is the value of node f and the text behind f up to l; where l is not f, it has text
 pub record Spans (ns : List Node) (v f l : ℕ) : Type 0 where

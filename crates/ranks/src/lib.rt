@@ -1,13 +1,15 @@
 // Ranks of the nodes of an accepted document: numbers that are in the order of the string values.
 mod comparison;
+mod marks;
 pub mod nodes;
+mod notes;
 mod number;
 mod sort;
 mod texts;
 
+use marks::mark_all;
 use number::number;
 use sort::sort;
-use texts::mark_all;
 ghost use mathlib.Core.List.{List};
 ghost use Rattle.library.specs.Library as Library;
 ghost use Rattle.library.specs.Verdict.{Accepts};

@@ -1,33 +1,28 @@
 -- `ranks::comparison::open_texts` meets its contract.
-use mathlib.Core.Path.{subst}
 use native.Mathlib.Omega.{arith}
-use Rattle.values.specs.Comes.{Comes}
-use Rattle.ranks.proofs.Trees.{tree-linked}
-use Rattle.ranks.proofs.Values.{open-none, first-node, open-one, open-more}
+use Rattle.ranks.proofs.Opening.{several-nodes, several-comes}
+use borrow.Author.Needs.{needs}
 use Rattle.ranks.proofs.comparison.open_texts.Statement.{statement}
 use Rattle.ranks.proofs.comparison.open_texts.Tie as tie
 
-returns : tie.Need-returns
-returns c = let p = c .before .before .before .pre in λ ns v a k. open-none k (p .0) a (c .if1 .taken)
+get-note-requires : tie.Need-get-note-requires
+get-note-requires c κs = let (s, ns, v, l, g, a, r, h) = c .before .pre in let m = several-nodes g a r h in (omega arith, g .tabled .room)
 
-open-node-requires : tie.Need-open-node-requires
-open-node-requires c κs = let p = c .before .before .before .before .pre in let (ns, v, a, k) = p .1 in (p .0, first-node k (p .0) a (c .before .if1 .left))
-
-returns-2 : tie.Need-returns-2
-returns-2 c =
-    let x = c .before .before .before .before .before in let h = x .pre .0 in
-    λ ns v a k.
-    subst (λ bs. Comes (x .args .s .now) ns (c .open-node .result) bs) (open-one k h a (c .before .before .if1 .left) (c .before .if2 .taken)) (c .open-node .ensures ns a (tree-linked h ns a))
+add-behind : tie.Need-add-behind
+add-behind c = let (s, ns, v, l, g, a, r, h) = c .before .before .pre in let m = several-nodes g a r h in omega arith
 
 offset-requires : tie.Need-offset-requires
-offset-requires c κs = let p = c .before .before .before .before .pre in let (ns, v, a, k) = p .1 in (first-node k (p .0) a (c .before .if1 .left), p .0 .room)
+offset-requires c κs = let (s, ns, v, l, g, a, r, h) = c .before .before .pre in let m = several-nodes g a r h in (omega arith, g .tabled .room)
+
+add-t8 : tie.Need-add-t8
+add-t8 c = search needs
 
 sub-t9 : tie.Need-sub-t9
-sub-t9 c = let p = c .before .before .before .before .before .pre in let (ns, v, a, k) = p .1 in let l = first-node k (p .0) a (c .before .before .if1 .left) in omega arith
+sub-t9 c = let (s, ns, v, l, g, a, r, h) = c .before .before .before .before .pre in let m = several-nodes g a r h in omega arith
 
-returns-3 : tie.Need-returns-3
-returns-3 c = let p = c .before .before .before .before .before .pre in λ ns v a k. open-more k (p .0) a (c .before .before .if1 .left) (c .offset .ensures)
+returns : tie.Need-returns
+returns c = λ s ns v l g a r h. several-comes g a r h (c .before .before .get-note .ensures .0) (c .before .offset .ensures)
 
 pub open-texts-spec : {M : Type 1} → statement M
 open-texts-spec =
-    tie.close (tie.spec returns open-node-requires returns-2 offset-requires sub-t9 returns-3)
+    tie.close (tie.spec get-note-requires add-behind offset-requires add-t8 sub-t9 returns)

@@ -22,18 +22,18 @@ loop-holds c = let x = c .before .before .before .before .args in numbering-none
 get-requires-2 : tie.Need-get-requires-2 Inv-loop μ-loop
 get-requires-2 c κs = (omega arith, c .before .loop-test .taken, arranged-marked (c .before .before .before .before .before .before .before .pre .0) (c .before .before .loop .inv .arranged) .tabled .room)
 
-one-if-smaller-requires : tie.Need-one-if-smaller-requires Inv-loop μ-loop
-one-if-smaller-requires c κs =
+step-up-requires : tie.Need-step-up-requires Inv-loop μ-loop
+step-up-requires c κs =
     let p = c .before .before .before .before .before .before .before .before .before .pre in let g = c .before .before .before .before .loop .inv in let l = c .before .before .before .loop-test .taken in
     (arranged-marked (p .0) (g .arranged), numbering-below (p .1) g l (c .before .get2 .ensures .0), numbering-last (p .1) g l)
 
 add-r : tie.Need-add-r Inv-loop μ-loop
-add-r c = let q = c .before .before .before .before .before .loop .inv .small in let z = c .one-if-smaller .ensures .0 in let l = c .before .before .before .before .loop-test .taken in omega arith
+add-r c = let q = c .before .before .before .before .before .loop .inv .small in let z = c .step-up .ensures .0 in let l = c .before .before .before .before .loop-test .taken in omega arith
 
 put-requires : tie.Need-put-requires Inv-loop μ-loop
 put-requires c κs =
     let p = c .before .before .before .before .before .before .before .before .before .before .before .pre in let g = c .before .before .before .before .before .before .loop .inv in let l = c .before .before .before .before .before .loop-test .taken in let q = g .small in
-    let z = c .before .one-if-smaller .ensures .0 in let few = p .0 .tabled .accepts .legal .few in let size = p .0 .tabled .size in
+    let z = c .before .step-up .ensures .0 in let few = p .0 .tabled .accepts .legal .few in let size = p .0 .tabled .size in
     (omega arith, numbering-below (p .1) g l (c .before .before .before .get2 .ensures .0), arranged-marked (p .0) (g .arranged) .tabled .room, omega arith)
 
 add-i : tie.Need-add-i Inv-loop μ-loop
@@ -44,7 +44,7 @@ loop-less c = let l = c .before .before .before .before .before .before .before 
 
 loop-again : tie.Need-loop-again Inv-loop μ-loop
 loop-again c =
-    let p = c .before .before .before .before .before .before .before .before .before .before .before .before .before .before .pre in let k = c .before .before .before .before .one-if-smaller in let v = c .before .before .before .before .before .before .get2 in
+    let p = c .before .before .before .before .before .before .before .before .before .before .before .before .before .before .pre in let k = c .before .before .before .before .step-up in let v = c .before .before .before .before .before .before .get2 in
     rw add-one (numbering-step (p .1) (c .before .before .before .before .before .before .before .before .before .loop .inv) (c .before .before .before .before .before .before .before .before .loop-test .taken) (v .result) (k .result) (v .ensures .0) (k .ensures .0) (k .ensures .1) (c .before .before .put .ensures))
 
 same-length : tie.Need-same-length Inv-loop μ-loop
@@ -62,7 +62,7 @@ number-spec =
     get-requires
     loop-holds
     get-requires-2
-    one-if-smaller-requires
+    step-up-requires
     add-r
     put-requires
     add-i

@@ -1,11 +1,11 @@
--- `ranks::texts::mark_all` meets its contract.
+-- `ranks::marks::mark_all` meets its contract.
 use Prim.Native.Nat.{suc, _-_}
 use mathlib.Core.Path.{_≡_, subst}
 use native.Mathlib.Omega.{arith}
-use Rattle.ranks.specs.Texts.{Marked}
+use Rattle.ranks.specs.Notes.{Marked}
 use Rattle.ranks.proofs.Marking.{Filling, filling-none, filling-step}
-use Rattle.ranks.proofs.texts.mark_all.Statement.{statement}
-use Rattle.ranks.proofs.texts.mark_all.Tie as tie
+use Rattle.ranks.proofs.marks.mark_all.Statement.{statement}
+use Rattle.ranks.proofs.marks.mark_all.Tie as tie
 
 abbrev Inv-loop : tie.InvT-loop
 Inv-loop s t₀ n v₀ t v = Filling s n v t₀ t

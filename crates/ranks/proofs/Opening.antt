@@ -1,0 +1,66 @@
+-- The value of a node, found by its note.
+use Prim.Native.Nat.{ℕ, suc, _+_, _-_, _<_}
+use mathlib.Core.Path.{_≡_, sym, ap, _∙_, subst}
+use mathlib.Core.Logic.{inl, inr}
+use mathlib.Core.List.{List, _++_}
+use lib.ListN.{drop}
+use native.Mathlib.Omega.{arith}
+use native.Mathlib.Numerals.{add-one}
+use Rattle.library.specs.Library.{Node}
+use Rattle.library.specs.Binary.{joined, stringOf}
+use Rattle.library.specs.Verdict.{Accepts}
+use Rattle.document.specs.Entries.{Start}
+use Rattle.links.specs.Table.{NONE, offsetOf}
+use Rattle.values.specs.Comes.{Lies, Comes}
+use Rattle.values.proofs.Cursor.{alone-comes}
+use Rattle.ranks.specs.Values.{Inside, Lasts, IsValue}
+use Rattle.ranks.specs.Notes.{noteAt, Held, Valued, Marked}
+use Rattle.ranks.specs.declared.notes.Note.{Note}
+use Rattle.ranks.proofs.Trees.{tree-size, tree-linked, tree-stands, tree-small}
+use Rattle.ranks.proofs.Values.{inside-lasts, inside-first, inside-more}
+use Rattle.ranks.proofs.Noting.{text-held}
+
+module _ {s : List ℕ} {ns : List Node} {v : ℕ} {x : Note} (h : Valued s ns v x) where
+  -- one span
+  pub note-whole : Accepts s ns → ¬ (x .length ≡ NONE)
+      → IsValue s ns v (record { first = x .first; last = x .last; reading = record { from = x .start; to = x .start + x .length; next = 0; left = 0; depth = 0 } })
+  note-whole a z = record { lasts = h .lasts; comes = alone-comes (record { from = x .start; to = x .start + x .length }) a (go (h .held)) }
+    where
+      go : Held s ns v x → Lies s (record { from = x .start; to = x .start + x .length }) (stringOf ns v)
+      go (inl (p, y)) = y
+      go (inr (p, q, y)) = absurd (z p)
+
+  -- several texts
+  pub note-several : x .length ≡ NONE → (x .first < x .last) × Inside ns v (x .start) (x .first) (x .last)
+  note-several z = go (h .held)
+    where
+      go : Held s ns v x → (x .first < x .last) × Inside ns v (x .start) (x .first) (x .last)
+      go (inl (p, y)) = absurd (omega arith)
+      go (inr (p, q, y)) = (q, y)
+
+module _ {s : List ℕ} {ns : List Node} {n v d f l : ℕ} {t : List ℕ} (g : Marked s n 0 t) (a : Accepts s ns) (r : f < l) (h : Inside ns v d f l) where
+  some : ¬ (f ≡ NONE)
+  some z = go (inside-lasts h)
+    where
+      go : Lasts ns v f l → ⊥
+      go (inl x) = let m = x .within in let k = tree-small (g .tabled) ns a in omega arith
+      go (inr (p, q, x)) = omega arith
+
+  -- the first of them and the node behind it are nodes
+  pub several-nodes : (suc f < n)
+  several-nodes = let m = inside-first h some .2 in let k = tree-size (g .tabled) ns a in omega arith
+
+  -- the first text is at hand, and the nodes behind it come
+  pub several-comes : {x : Note} {i : ℕ} → x ≡ noteAt t n f → i ≡ offsetOf t n (f + 1)
+      → Comes s ns (record { from = x .start; to = x .start + x .length; next = i; left = n - (f + 1); depth = d }) (stringOf ns v)
+  several-comes {x} {i} e o =
+      let m = several-nodes in let size = tree-size (g .tabled) ns a in
+      let y = text-held a (subst (λ k. Valued s ns f k) (sym e) (g .valued ns a f (omega arith) (omega arith))) (inside-first h some .3) .0 in
+      record {
+        accepts = a;
+        within = y .within;
+        node = suc f;
+        behind = omega arith;
+        start = λ b. subst (λ (k : ℕ). Start s (drop (suc f) ns) k) (sym (o ∙ ap (λ (k : ℕ). offsetOf t n k) (add-one f))) (tree-stands (g .tabled) ns (suc f) a (tree-linked (g .tabled) ns a) m .start);
+        whole = ap (λ bs. bs ++ joined d (drop (suc f) ns)) (y .bytes) ∙ inside-more h some;
+      }

@@ -1,0 +1,40 @@
+// One pass over the nodes, from the last to the first, that fills the columns of the texts and of the values: children stand behind their parents.
+use crate::notes::note_of;
+use crate::notes::put_note;
+use crate::texts::Texts;
+use crate::texts::gather;
+use crate::texts::inside;
+use crate::texts::own;
+use document::entries::read_entry;
+use links::table::offset;
+use links::table::put;
+ghost use Prim.Native.Nat.{suc, _<_};
+ghost use Rattle.ranks.specs.Ranks.{Tabled};
+ghost use Rattle.ranks.specs.Notes.{Marked, Noted};
+
+// The columns of node `v`, where those of the nodes behind it are filled.
+fn mark(s: &[u8], t: &mut [u16], n: usize, v: usize)
+    requires { ⌜ Marked (now s) n (suc v) (now t) × (v < n) ⌝ }
+    ensures { λ _. ⌜ Marked (now (s .entry)) n v (now (t .exit)) × Noted n (now (t .entry)) (now (t .exit)) ⌝ }
+{
+    let at = offset(t, n, v);
+    let e = read_entry(s, at);
+    let y = inside(t, n, v);
+    let x = gather(t, n, v, own(e, v), y);
+    let w = note_of(t, n, v, e, y);
+    put(t, n, Texts::FIRST, v, x.first);
+    put(t, n, Texts::LAST, v, x.last);
+    put_note(t, n, v, w);
+}
+
+// The columns of all nodes.
+pub fn mark_all(s: &[u8], t: &mut [u16], n: usize)
+    requires { ⌜ Tabled (now s) n (now t) ⌝ }
+    ensures { λ _. ⌜ Marked (now (s .entry)) n 0 (now (t .exit)) × Noted n (now (t .entry)) (now (t .exit)) ⌝ }
+{
+    let mut v = n;
+    while 0 < v {
+        v -= 1;
+        mark(s, t, n, v);
+    }
+}
