@@ -86,21 +86,8 @@ pub fn evaluate_plain(
     scratch: &mut [u16],
     marks: &mut [u8],
 ) -> Evaluation {
-    // SAFETY: each pointer and length are those of one slice that outlives the
-    // call; the function reads and writes only inside them, writes only to the
-    // two that are borrowed for it alone, and keeps no reference to any.
-    unsafe {
-        yurzhoad_evaluate_plain(
-            document.as_ptr(),
-            document.len(),
-            rule.as_ptr(),
-            rule.len(),
-            scratch.as_mut_ptr(),
-            scratch.len(),
-            marks.as_mut_ptr(),
-            marks.len(),
-        )
-    }
+    // SAFETY: this is what the exported function asks and grants.
+    unsafe { lend(yurzhoad_evaluate_plain, document, rule, scratch, marks) }
 }
 
 /// Evaluates a rule on a document by snippets, and counts them. Marks, refuses
@@ -112,18 +99,45 @@ pub fn evaluate_snippets(
     marks: &mut [u8],
 ) -> Evaluation {
     // SAFETY: as above.
-    unsafe {
-        yurzhoad_evaluate_snippets(
-            document.as_ptr(),
-            document.len(),
-            rule.as_ptr(),
-            rule.len(),
-            scratch.as_mut_ptr(),
-            scratch.len(),
-            marks.as_mut_ptr(),
-            marks.len(),
-        )
-    }
+    unsafe { lend(yurzhoad_evaluate_snippets, document, rule, scratch, marks) }
+}
+
+/// An exported evaluation: a pointer and a length for each slice.
+type Exported = unsafe extern "C" fn(
+    *const u8,
+    usize,
+    *const u8,
+    usize,
+    *mut u16,
+    usize,
+    *mut u8,
+    usize,
+) -> Evaluation;
+
+/// Lends the four slices to an exported evaluation.
+///
+/// # Safety
+///
+/// Each pointer and length are those of one slice that outlives the call. The
+/// function must read and write only inside them, write only to the two that
+/// are borrowed for it alone, and keep no reference to any.
+unsafe fn lend(
+    evaluate: Exported,
+    document: &[u8],
+    rule: &[u8],
+    scratch: &mut [u16],
+    marks: &mut [u8],
+) -> Evaluation {
+    evaluate(
+        document.as_ptr(),
+        document.len(),
+        rule.as_ptr(),
+        rule.len(),
+        scratch.as_mut_ptr(),
+        scratch.len(),
+        marks.as_mut_ptr(),
+        marks.len(),
+    )
 }
 
 /// The words of scratch that an evaluation needs for a document of so many
