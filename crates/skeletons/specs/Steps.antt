@@ -23,14 +23,14 @@ entered n v p = (cell n FIRST (word p n RANK v), v) ∷ (cell n NEXT v, word p n
 abbrev pub MarkedNode : List ℕ → ℕ → ℕ → Type 0
 MarkedNode p n x = (x < n) × IsMarked p n x
 
--- v is marked now, and nothing else has changed
+-- v is marked now, the other marks are as before, and what is noted stays noted
 pub record Marking (n v : ℕ) (p p′ : List ℕ) : Type 0 where
   pub within : Within n MARKED (suc MARKED) p p′
   pub here : IsMarked p′ n v
   pub other : (u : ℕ) → u < n → u ≢ v → word p′ n MARKED u % 2 ≡ word p n MARKED u % 2
   pub notes : (u : ℕ) → u < n → IsNoted p n u → IsNoted p′ n u
 
--- v's block is noted now, and no mark has changed
+-- v's block is noted now, the marks are as before, and what is noted stays noted
 pub record Noting (n v : ℕ) (p p′ : List ℕ) : Type 0 where
   pub within : Within n MARKED (suc MARKED) p p′
   pub here : IsNoted p′ n v
