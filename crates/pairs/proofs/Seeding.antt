@@ -110,6 +110,14 @@ module _ {n y : ℕ} {p q q′ : List ℕ} (ready : Ready n p) (inner : 0 < y) (
       (planted-as epy eby eup ely e)
 
 -- ── All edges ──
+-- an edge without snippets has nothing to be met
+pub met-nothing : (n : ℕ) (p : List ℕ) (y by : ℕ) → by ≡ snippetAt n 0 y → ((i j : ℕ) → i < 16 → ¬ Related p by i j) → Met n p y
+met-nothing n p y by e empty v up down a b h l s m = absurd (go (subst (λ z. MeetsBy p z up down a b) (sym e) m))
+  where
+    go : MeetsBy p by up down a b → ⊥
+    go (inl o) = empty (o .first) (o .second) (o .firstFew) (o .pair)
+    go (inr o) = empty (o .second) (o .first) (o .secondFew) (o .pair)
+
 pub met-kept : {n : ℕ} {p q : List ℕ} → Ready n p → Grown n p q → (y : ℕ) → 0 < y → y < n → Met n p y → Met n q y
 met-kept {n} {p} {q} ready g y inner below met v up down a b l r sees m =
     let s = sees-kept (framed-back (g .framed)) y v up down below sees in

@@ -7,6 +7,7 @@ use crate::place::up_at;
 use crate::widen::widen;
 use links::table::Table;
 use links::table::get;
+use matrices::is_empty;
 ghost use Prim.Native.Nat.{_+_, _≤_, _<_};
 ghost use lib.ListN.{length};
 ghost use Rattle.matrices.specs.Matrices.{Apart, Drawing};
@@ -22,7 +23,7 @@ fn plant(p: &mut [u16], by: usize, up: usize, down: usize, at: usize)
 }
 
 // At both ends of the edge between node `y` and its parent.
-fn seed_edge(p: &mut [u16], n: usize, y: usize)
+fn plant_ends(p: &mut [u16], n: usize, y: usize)
     requires { ⌜ Ready n (now p) × (0 < y) × (y < n) ⌝ }
     ensures { λ _. ⌜ Grown n (now (p .entry)) (now (p .exit)) × Met n (now (p .exit)) y ⌝ }
 {
@@ -30,6 +31,18 @@ fn seed_edge(p: &mut [u16], n: usize, y: usize)
     let by = snippet_at(n, y);
     plant(p, by, loop_at(n, x), down_at(n, y), pair_at(n, x));
     plant(p, by, up_at(n, y), loop_at(n, y), pair_at(n, y));
+}
+
+// The same, at once where the edge has no snippets.
+fn seed_edge(p: &mut [u16], n: usize, y: usize)
+    requires { ⌜ Ready n (now p) × (0 < y) × (y < n) ⌝ }
+    ensures { λ _. ⌜ Grown n (now (p .entry)) (now (p .exit)) × Met n (now (p .exit)) y ⌝ }
+{
+    let by = snippet_at(n, y);
+    if is_empty(p, by) {
+        return;
+    }
+    plant_ends(p, n, y);
 }
 
 // At every edge.

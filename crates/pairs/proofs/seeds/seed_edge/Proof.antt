@@ -1,60 +1,41 @@
 -- `pairs::seeds::seed_edge` meets its contract.
-use mathlib.Core.Logic.{inl, inr}
-use native.Mathlib.Omega.{arith}
-use Rattle.pairs.proofs.Seeding.{seeded}
+use Rattle.pairs.proofs.Grows.{grown-none}
+use Rattle.pairs.proofs.Seeding.{met-nothing}
 use borrow.Author.Needs.{needs}
 use Rattle.pairs.proofs.seeds.seed_edge.Statement.{statement}
 use Rattle.pairs.proofs.seeds.seed_edge.Tie as tie
 
-get-requires : tie.Need-get-requires
-get-requires c κs = search needs
-
 snippet-at-requires : tie.Need-snippet-at-requires
 snippet-at-requires c κs = search needs
 
-loop-at-requires : tie.Need-loop-at-requires
-loop-at-requires c κs = let h = c .before .before .before .before .before .pre .0 .parents _ (c .before .before .before .before .before .pre .1) (c .before .before .before .before .before .pre .2) in omega arith
-
-down-at-requires : tie.Need-down-at-requires
-down-at-requires c κs = search needs
-
-pair-at-requires : tie.Need-pair-at-requires
-pair-at-requires c κs = let h = c .before .before .before .before .before .before .before .pre .0 .parents _ (c .before .before .before .before .before .before .before .pre .1) (c .before .before .before .before .before .before .before .pre .2) in omega arith
-
-plant-requires : tie.Need-plant-requires
-plant-requires c κs = let h = c .before .before .before .before .before .before .before .before .pre .0 .parents _ (c .before .before .before .before .before .before .before .before .pre .1) (c .before .before .before .before .before .before .before .before .pre .2) in (inr (omega arith), inl (omega arith), inr (omega arith), omega arith, omega arith, omega arith, omega arith)
-
-up-at-requires : tie.Need-up-at-requires
-up-at-requires c κs = search needs
-
-loop-at-requires-2 : tie.Need-loop-at-requires-2
-loop-at-requires-2 c κs = search needs
-
-pair-at-requires-2 : tie.Need-pair-at-requires-2
-pair-at-requires-2 c κs = search needs
-
-plant-requires-2 : tie.Need-plant-requires-2
-plant-requires-2 c κs = (inr (omega arith), inr (omega arith), inl (omega arith), omega arith, omega arith, omega arith, omega arith)
+is-empty-requires : tie.Need-is-empty-requires
+is-empty-requires c κs = search needs
 
 same-length : tie.Need-same-length
 same-length c = search needs
 
 returns : tie.Need-returns
-returns c = seeded (c .before .before .before .before .before .before .before .before .before .before .before .before .before .before .before .before .before .before .pre .0) (c .before .before .before .before .before .before .before .before .before .before .before .before .before .before .before .before .before .before .pre .1) (c .before .before .before .before .before .before .before .before .before .before .before .before .before .before .before .before .before .before .pre .2) (c .before .before .before .before .before .before .before .before .before .before .before .before .before .before .before .get .ensures .0) (c .before .before .before .before .before .before .before .before .before .before .before .before .before .before .snippet-at .ensures) (c .before .before .before .before .before .before .before .before .before .before .before .before .loop-at .ensures) (c .before .before .before .before .before .before .before .before .before .before .before .down-at .ensures) (c .before .before .before .before .before .before .before .before .before .before .pair-at .ensures) (c .before .before .before .before .before .up-at .ensures) (c .before .before .before .before .loop-at2 .ensures) (c .before .before .before .pair-at2 .ensures) (c .before .before .before .before .before .before .before .before .before .plant .ensures) (c .before .before .plant2 .ensures)
+returns c =
+    let x = c .before .before .before .before .before .args in
+    (grown-none (x .n) (x .p .now), met-nothing (x .n) (x .p .now) (x .y) _ (c .before .before .before .snippet-at .ensures) (c .before .is-empty .ensures (c .if1 .taken)))
+
+plant-ends-requires : tie.Need-plant-ends-requires
+plant-ends-requires c κs = search needs
+
+same-length-2 : tie.Need-same-length-2
+same-length-2 c = search needs
+
+returns-2 : tie.Need-returns-2
+returns-2 c = search needs
 
 pub seed-edge-spec : {M : Type 1} → statement M
 seed-edge-spec =
     tie.close
     (tie.spec
-    get-requires
     snippet-at-requires
-    loop-at-requires
-    down-at-requires
-    pair-at-requires
-    plant-requires
-    up-at-requires
-    loop-at-requires-2
-    pair-at-requires-2
-    plant-requires-2
+    is-empty-requires
     same-length
-    returns)
+    returns
+    plant-ends-requires
+    same-length-2
+    returns-2)
