@@ -1,6 +1,7 @@
 // The skeleton of a group, by its marks.
 use crate::Climb;
 use crate::Column;
+use crate::blocks::is_empty;
 use links::table::Table;
 use links::table::get;
 use links::table::left;
@@ -30,7 +31,7 @@ fn is_marked(p: &[u16], n: usize, v: usize) -> bool
 }
 
 // Node `v` has the rank `r` of the group, or both its children have nodes of the group at or below them.
-pub fn is_skeleton(p: &[u16], n: usize, v: usize, r: usize) -> bool
+fn belongs(p: &[u16], n: usize, v: usize, r: usize) -> bool
     requires { ⌜ Room n (now p) × (v < n) ⌝ }
     ensures { λ b. ⌜ ((t : Tree) (d : List ℕ) → Group t d n r (now (p .entry)) → (b ≡ true) ↔ Skeleton t d v) ⌝ }
 {
@@ -43,6 +44,17 @@ pub fn is_skeleton(p: &[u16], n: usize, v: usize, r: usize) -> bool
         return is_marked(p, n, b);
     }
     false
+}
+
+// Whether node `v` is in the skeleton. Most ways up pass blocks that have no skeleton node: there a look at the block is enough.
+pub fn is_skeleton(p: &[u16], n: usize, v: usize, r: usize) -> bool
+    requires { ⌜ Room n (now p) × (v < n) ⌝ }
+    ensures { λ b. ⌜ ((t : Tree) (d : List ℕ) → Group t d n r (now (p .entry)) → (b ≡ true) ↔ Skeleton t d v) ⌝ }
+{
+    if is_empty(p, n, v) {
+        return false;
+    }
+    belongs(p, n, v, r)
 }
 
 // Up from the skeleton node `y`. The node is none if there is no other skeleton node above it.
