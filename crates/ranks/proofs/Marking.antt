@@ -18,7 +18,7 @@ use Rattle.links.specs.Links.{Points}
 use Rattle.ranks.specs.Ranks.{Tabled}
 use Rattle.ranks.specs.Texts.{FIRST-TEXT, LAST-TEXT, Bounds, Extent, Content, Told, Arranged}
 use Rattle.ranks.specs.Values.{Inner}
-use Rattle.ranks.specs.Notes.{BEGINS, ENDS, START-LOW, START-HIGH, LENGTH, noteAt, noted, Valued, Marked, Noted}
+use Rattle.ranks.specs.Notes.{FIRST, LOW, HIGH, LENGTH, noteAt, noted, Valued, Marked, Seen, Noted}
 use Rattle.ranks.specs.declared.notes.Note.{Note}
 use Rattle.ranks.proofs.Trees.{tree-size, tree-linked, tree-small}
 use Rattle.ranks.proofs.Worked.{confined-none, confined-then, confined-put, noted-worked, arranged-worked, worked-tree}
@@ -33,7 +33,7 @@ arranged-marked {s} {n} {i} {t} {t′} h q =
       told = λ ns a v i l e d. subst₂ (λ x y. Bounds ns v e x y) (same (cell n FIRST-TEXT v) (omega arith)) (same (cell n LAST-TEXT v) (omega arith)) (h .told ns a v i l e d);
       valued = λ ns a v i l.
           subst (λ x. Valued s ns v x)
-          (note-same t t′ n v (same (cell n BEGINS v) (omega arith)) (same (cell n ENDS v) (omega arith)) (same (cell n START-LOW v) (omega arith)) (same (cell n START-HIGH v) (omega arith)) (same (cell n LENGTH v) (omega arith)))
+          (note-same t t′ n v (same (cell n FIRST v) (omega arith)) (same (cell n LOW v) (omega arith)) (same (cell n HIGH v) (omega arith)) (same (cell n LENGTH v) (omega arith)))
           (h .valued ns a v i l);
     }
   where
@@ -101,10 +101,9 @@ filling-step g h q = let w = g .within in record { within = omega arith; marked 
 
 -- what is written for a node
 pub marked-step : {s : List ℕ} {n v f l : ℕ} {x : Note} {t t₁ t₂ t₃ : List ℕ} → Marked s n (suc v) t → v < n
-    → ((ns : List Node) (e : ℕ) → Accepts s ns → End ns v e → Bounds ns v e f l)
-    → ((ns : List Node) → Accepts s ns → Valued s ns v x)
+    → ((ns : List Node) → Accepts s ns → Seen s ns v f l x)
     → Wrote ((cell n FIRST-TEXT v, f) ∷ []) t t₁ → Wrote ((cell n LAST-TEXT v, l) ∷ []) t₁ t₂ → Wrote (noted n v x) t₂ t₃ → Marked s n v t₃ × Noted n t t₃
-marked-step {s} {n} {v} {f} {l} {x} {t} {t₁} {t₂} {t₃} h r g k p q w =
+marked-step {s} {n} {v} {f} {l} {x} {t} {t₁} {t₂} {t₃} h r g p q w =
     (record { tabled = worked-tree (h .tabled) (noted-worked kept); told = λ ns a u i j e d. texts ns a u i j e d (ℕ-discrete u v); valued = λ ns a u i j. value ns a u i j (ℕ-discrete u v) }, kept)
   where
     kept : Noted n t t₃
@@ -118,7 +117,7 @@ marked-step {s} {n} {v} {f} {l} {x} {t} {t₁} {t₂} {t₃} h r g k p q w =
         subst (λ x. Bounds ns x e (word t₃ n FIRST-TEXT x) (word t₃ n LAST-TEXT x)) (sym z)
         (subst₂ (λ x y. Bounds ns v e x y)
         (sym (w .other (cell n FIRST-TEXT v) (omega arith) ∙ q .other (cell n FIRST-TEXT v) (omega arith, tt) ∙ p .here .0))
-        (sym (w .other (cell n LAST-TEXT v) (omega arith) ∙ q .here .0)) (g ns e a (subst (λ x. End ns x e) z d)))
+        (sym (w .other (cell n LAST-TEXT v) (omega arith) ∙ q .here .0)) (g ns a .texts e (subst (λ x. End ns x e) z d)))
     texts ns a u i j e d (no z) =
         subst₂ (λ x y. Bounds ns u e x y)
         (same (cell n FIRST-TEXT u) (omega arith) (omega arith) (omega arith))
@@ -126,21 +125,20 @@ marked-step {s} {n} {v} {f} {l} {x} {t} {t₁} {t₂} {t₃} h r g k p q w =
         (h .told ns a u (omega arith) j e d)
 
     value : (ns : List Node) → Accepts s ns → (u : ℕ) → v ≤ u → u < n → Dec (u ≡ v) → Valued s ns u (noteAt t₃ n u)
-    value ns a u i j (yes z) = subst (λ y. Valued s ns y (noteAt t₃ n y)) (sym z) (subst (λ y. Valued s ns v y) (sym (note-written n v x w)) (k ns a))
+    value ns a u i j (yes z) = subst (λ y. Valued s ns y (noteAt t₃ n y)) (sym z) (subst (λ y. Valued s ns v y) (sym (note-written n v x w)) (g ns a .value))
     value ns a u i j (no z) =
         subst (λ y. Valued s ns u y)
         (note-same t t₃ n u
-        (same (cell n BEGINS u) (omega arith) (omega arith) (omega arith))
-        (same (cell n ENDS u) (omega arith) (omega arith) (omega arith))
-        (same (cell n START-LOW u) (omega arith) (omega arith) (omega arith))
-        (same (cell n START-HIGH u) (omega arith) (omega arith) (omega arith))
+        (same (cell n FIRST u) (omega arith) (omega arith) (omega arith))
+        (same (cell n LOW u) (omega arith) (omega arith) (omega arith))
+        (same (cell n HIGH u) (omega arith) (omega arith) (omega arith))
         (same (cell n LENGTH u) (omega arith) (omega arith) (omega arith)))
         (h .valued ns a u (omega arith) j)
 
 -- it fits in a word
-pub told-small : {s : List ℕ} {n v f l : ℕ} {t : List ℕ} → Tabled s n t → v < n
-    → ((ns : List Node) (e : ℕ) → Accepts s ns → End ns v e → Bounds ns v e f l) → (f ≤ NONE) × (l ≤ NONE)
+pub told-small : {s : List ℕ} {n v f l : ℕ} {x : Note} {t : List ℕ} → Tabled s n t → v < n
+    → ((ns : List Node) → Accepts s ns → Seen s ns v f l x) → (f ≤ NONE) × (l ≤ NONE)
 told-small {v} h r g =
     let ns = h .nodes in let size = h .size in let few = h .accepts .legal .few in
     let (e, d) = end-of ns v (omega arith) in let w = d .within in
-    bounds-small ns {b = e} (omega arith) (g ns e (h .accepts) d)
+    bounds-small ns {b = e} (omega arith) (g ns (h .accepts) .texts e d)

@@ -11,10 +11,10 @@ use Rattle.library.specs.Binary.{joined, stringOf}
 use Rattle.library.specs.Verdict.{Accepts}
 use Rattle.document.specs.Entries.{Start}
 use Rattle.links.specs.Table.{NONE, offsetOf}
-use Rattle.values.specs.Comes.{Lies, Comes}
+use Rattle.values.specs.Comes.{Comes}
 use Rattle.values.proofs.Cursor.{alone-comes}
 use Rattle.ranks.specs.Values.{Inside, Lasts, IsValue}
-use Rattle.ranks.specs.Notes.{noteAt, Held, Valued, Marked}
+use Rattle.ranks.specs.Notes.{noteAt, span, Held, Valued, Marked}
 use Rattle.ranks.specs.declared.notes.Note.{Note}
 use Rattle.ranks.proofs.Trees.{tree-size, tree-linked, tree-stands, tree-small}
 use Rattle.ranks.proofs.Values.{inside-lasts, inside-first, inside-more}
@@ -23,19 +23,19 @@ use Rattle.ranks.proofs.Noting.{text-held}
 module _ {s : List ℕ} {ns : List Node} {v : ℕ} {x : Note} (h : Valued s ns v x) where
   -- one span
   pub note-whole : Accepts s ns → ¬ (x .length ≡ NONE)
-      → IsValue s ns v (record { first = x .first; last = x .last; reading = record { from = x .start; to = x .start + x .length; next = 0; left = 0; depth = 0 } })
-  note-whole a z = record { lasts = h .lasts; comes = alone-comes (record { from = x .start; to = x .start + x .length }) a (go (h .held)) }
+      → IsValue s ns v (record { first = x .first; last = x .first; reading = record { from = span x .from; to = span x .to; next = 0; left = 0; depth = 0 } })
+  note-whole a z = go (h .held)
     where
-      go : Held s ns v x → Lies s (record { from = x .start; to = x .start + x .length }) (stringOf ns v)
-      go (inl (p, y)) = y
+      go : Held s ns v x → IsValue s ns v (record { first = x .first; last = x .first; reading = record { from = span x .from; to = span x .to; next = 0; left = 0; depth = 0 } })
+      go (inl (p, q, y)) = record { lasts = q; comes = alone-comes (span x) a y }
       go (inr (p, q, y)) = absurd (z p)
 
   -- several texts
-  pub note-several : x .length ≡ NONE → (x .first < x .last) × Inside ns v (x .start) (x .first) (x .last)
+  pub note-several : x .length ≡ NONE → (x .first < x .high) × Inside ns v (x .low) (x .first) (x .high)
   note-several z = go (h .held)
     where
-      go : Held s ns v x → (x .first < x .last) × Inside ns v (x .start) (x .first) (x .last)
-      go (inl (p, y)) = absurd (omega arith)
+      go : Held s ns v x → (x .first < x .high) × Inside ns v (x .low) (x .first) (x .high)
+      go (inl (p, q, y)) = absurd (omega arith)
       go (inr (p, q, y)) = (q, y)
 
 module _ {s : List ℕ} {ns : List Node} {n v d f l : ℕ} {t : List ℕ} (g : Marked s n 0 t) (a : Accepts s ns) (r : f < l) (h : Inside ns v d f l) where
@@ -52,10 +52,10 @@ module _ {s : List ℕ} {ns : List Node} {n v d f l : ℕ} {t : List ℕ} (g : M
 
   -- the first text is at hand, and the nodes behind it come
   pub several-comes : {x : Note} {i : ℕ} → x ≡ noteAt t n f → i ≡ offsetOf t n (f + 1)
-      → Comes s ns (record { from = x .start; to = x .start + x .length; next = i; left = n - (f + 1); depth = d }) (stringOf ns v)
+      → Comes s ns (record { from = span x .from; to = span x .to; next = i; left = n - (f + 1); depth = d }) (stringOf ns v)
   several-comes {x} {i} e o =
       let m = several-nodes in let size = tree-size (g .tabled) ns a in
-      let y = text-held a (subst (λ k. Valued s ns f k) (sym e) (g .valued ns a f (omega arith) (omega arith))) (inside-first h some .3) .0 in
+      let y = text-held a (subst (λ k. Valued s ns f k) (sym e) (g .valued ns a f (omega arith) (omega arith))) (inside-first h some .3) .2 in
       record {
         accepts = a;
         within = y .within;

@@ -50,6 +50,11 @@ module _ (ns : List Node) (v w : ℕ) {f l f′ l′ : ℕ} (small : length ns �
       go (inr (a, b, x)) (inl y) = let o = y .order in let r = y .within in absurd (omega arith)
       go (inr (a, b, x)) (inr (c, d, y)) = absurd (omega arith)
 
+-- it is told of the value, and not of the node
+pub lasts-of : {ns : List Node} {v w f l : ℕ} → stringOf ns v ≡ stringOf ns w → Lasts ns v f l → Lasts ns w f l
+lasts-of e (inl x) = inl (record { order = x .order; within = x .within; ends = x .ends; whole = sym e ∙ x .whole })
+lasts-of e (inr (a, b, x)) = inr (a, b, sym e ∙ x)
+
 -- ── The text inside an element ──
 -- only text has text
 is-text : (x : Node) → 0 < length (textOf x) → x .kind ≡ text

@@ -1,60 +1,64 @@
 -- What is noted of the value of each node: the nodes where it begins and where it ends, and where its bytes lie.
-use Prim.Native.Nat.{ℕ, suc, _+_, _*_, _/_, _%_, _≤_, _<_}
+use Prim.Native.Nat.{ℕ, suc, _+_, _*_, _≤_, _<_}
 use mathlib.Core.Path.{_≡_}
 use mathlib.Core.Logic.{_⊎_}
 use mathlib.Core.List.{List, [], _∷_}
 use Rattle.library.specs.Library.{Node}
 use Rattle.library.specs.Binary.{stringOf}
 use Rattle.library.specs.Verdict.{Accepts}
+use Rattle.library.proofs.Intervals.{End}
+use Rattle.document.specs.declared.entries.Span.{Span}
 use Rattle.links.specs.Table.{NONE, cell, word}
 use Rattle.values.specs.Comes.{Lies}
 use Rattle.ranks.specs.Ranks.{Tabled, Confined}
-use Rattle.ranks.specs.Texts.{FIRST-TEXT, Told}
+use Rattle.ranks.specs.Texts.{FIRST-TEXT, Bounds, Told}
 use Rattle.ranks.specs.Values.{Inside, Lasts}
 use Rattle.ranks.specs.declared.notes.Note.{Note}
 
 -- ── The columns ──
-abbrev pub BEGINS : ℕ
-BEGINS = 9
+abbrev pub FIRST : ℕ
+FIRST = 9
 
-abbrev pub ENDS : ℕ
-ENDS = 10
+abbrev pub LOW : ℕ
+LOW = 10
 
--- the start takes two words, as an offset does
-abbrev pub START-LOW : ℕ
-START-LOW = 11
-
-abbrev pub START-HIGH : ℕ
-START-HIGH = 12
+abbrev pub HIGH : ℕ
+HIGH = 11
 
 abbrev pub LENGTH : ℕ
-LENGTH = 13
+LENGTH = 12
 
 -- the note in the columns of node v
 abbrev pub noteAt : List ℕ → ℕ → ℕ → Note
-noteAt t n v =
-    record {
-      first = word t n BEGINS v;
-      last = word t n ENDS v;
-      start = word t n START-LOW v + 65_536 * word t n START-HIGH v;
-      length = word t n LENGTH v;
-    }
+noteAt t n v = record { first = word t n FIRST v; low = word t n LOW v; high = word t n HIGH v; length = word t n LENGTH v }
 
 -- what is written for it
 abbrev pub noted : ℕ → ℕ → Note → List (ℕ × ℕ)
-noted n v x = (cell n LENGTH v, x .length) ∷ (cell n START-HIGH v, x .start / 65_536) ∷ (cell n START-LOW v, x .start % 65_536) ∷ (cell n ENDS v, x .last) ∷ (cell n BEGINS v, x .first) ∷ []
+noted n v x = (cell n LENGTH v, x .length) ∷ (cell n HIGH v, x .high) ∷ (cell n LOW v, x .low) ∷ (cell n FIRST v, x .first) ∷ []
+
+abbrev pub Words : Note → Type 0
+Words x = (x .first < 65_536) × (x .low < 65_536) × (x .high < 65_536) × (x .length < 65_536)
 
 -- ── What they tell ──
--- the whole value lies in one span; or it has no length, and is the text of several nodes inside an element whose depth is noted in the place of the start
+-- the bytes of a note with a length
+abbrev pub span : Note → Span
+span x = record { from = x .low + 65_536 * x .high; to = x .low + 65_536 * x .high + x .length }
+
+-- the value of node v is that of one node, or empty, and lies in one span; or it has no length, and is the text of several nodes inside the element v
 abbrev pub Held : List ℕ → List Node → ℕ → Note → Type 0
 Held s ns v x =
-    ((x .length < NONE) × Lies s (record { from = x .start; to = x .start + x .length }) (stringOf ns v))
-    ⊎ ((x .length ≡ NONE) × (x .first < x .last) × Inside ns v (x .start) (x .first) (x .last))
+    ((x .length < NONE) × Lasts ns v (x .first) (x .first) × Lies s (span x) (stringOf ns v))
+    ⊎ ((x .length ≡ NONE) × (x .first < x .high) × Inside ns v (x .low) (x .first) (x .high))
 
 -- x is right for node v
 pub record Valued (s : List ℕ) (ns : List Node) (v : ℕ) (x : Note) : Type 0 where
-  pub lasts : Lasts ns v (x .first) (x .last)
+  pub words : Words x
   pub held : Held s ns v x
+
+-- f, l and x are right for the columns of node v
+pub record Seen (s : List ℕ) (ns : List Node) (v f l : ℕ) (x : Note) : Type 0 where
+  pub texts : (e : ℕ) → End ns v e → Bounds ns v e f l
+  pub value : Valued s ns v x
 
 -- t begins with the table of a tree, in which the columns of the texts and of the values are filled from node i on
 pub record Marked (s : List ℕ) (n i : ℕ) (t : List ℕ) : Type 0 where

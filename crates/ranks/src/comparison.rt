@@ -30,11 +30,12 @@ fn open_texts(t: &[u16], n: usize, first: usize, depth: usize) -> Reading
     ensures { λ r. ⌜ ((s : List ℕ) (ns : List Library.Node) (v last : ℕ) → Marked s n 0 (now (t .entry)) → Accepts s ns → first < last → Inside ns v depth first last → Comes s ns r (stringOf ns v)) ⌝ }
 {
     let x = get_note(t, n, first);
+    let from = x.low + 65536 * x.high;
     let behind = first + 1;
     let next = offset(t, n, behind);
     Reading {
-        from: x.start,
-        to: x.start + x.length,
+        from,
+        to: from + x.length,
         next,
         left: n - behind,
         depth,
@@ -48,19 +49,20 @@ pub fn value_of(t: &[u16], n: usize, v: usize) -> Value
 {
     let x = get_note(t, n, v);
     if x.length == Table::NONE {
-        let reading = open_texts(t, n, x.first, x.start);
+        let reading = open_texts(t, n, x.first, x.low);
         return Value {
             first: x.first,
-            last: x.last,
+            last: x.high,
             reading,
         };
     }
+    let from = x.low + 65536 * x.high;
     Value {
         first: x.first,
-        last: x.last,
+        last: x.first,
         reading: Reading {
-            from: x.start,
-            to: x.start + x.length,
+            from,
+            to: from + x.length,
             next: 0,
             left: 0,
             depth: 0,

@@ -1,4 +1,5 @@
 // One pass over the nodes, from the last to the first, that fills the columns of the texts and of the values: children stand behind their parents.
+use crate::notes::Note;
 use crate::notes::note_of;
 use crate::notes::put_note;
 use crate::texts::Texts;
@@ -8,23 +9,42 @@ use crate::texts::own;
 use document::entries::read_entry;
 use links::table::offset;
 use links::table::put;
+ghost use mathlib.Core.List.{List};
 ghost use Prim.Native.Nat.{suc, _<_};
+ghost use Rattle.library.specs.Library as Library;
+ghost use Rattle.library.specs.Verdict.{Accepts};
 ghost use Rattle.ranks.specs.Ranks.{Tabled};
-ghost use Rattle.ranks.specs.Notes.{Marked, Noted};
+ghost use Rattle.ranks.specs.Notes.{Marked, Seen, Noted};
+
+// What the columns of a node hold: the texts under it, and its value.
+pub struct Sight {
+    pub texts: Texts,
+    pub note: Note,
+}
+
+// What they are to hold of node `v`, where those of the nodes behind it are filled.
+fn look(s: &[u8], t: &[u16], n: usize, v: usize) -> Sight
+    requires { ⌜ Marked (now s) n (suc v) (now t) × (v < n) ⌝ }
+    ensures { λ r. ⌜ ((ns : List Library.Node) → Accepts (now (s .entry)) ns → Seen (now (s .entry)) ns v (r .texts .first) (r .texts .last) (r .note)) ⌝ }
+{
+    let at = offset(t, n, v);
+    let e = read_entry(s, at);
+    let y = inside(t, n, v);
+    let texts = gather(t, n, v, own(e, v), y);
+    let note = note_of(t, n, v, e, y);
+    Sight { texts, note }
+}
 
 // The columns of node `v`, where those of the nodes behind it are filled.
 fn mark(s: &[u8], t: &mut [u16], n: usize, v: usize)
     requires { ⌜ Marked (now s) n (suc v) (now t) × (v < n) ⌝ }
     ensures { λ _. ⌜ Marked (now (s .entry)) n v (now (t .exit)) × Noted n (now (t .entry)) (now (t .exit)) ⌝ }
 {
-    let at = offset(t, n, v);
-    let e = read_entry(s, at);
-    let y = inside(t, n, v);
-    let x = gather(t, n, v, own(e, v), y);
-    let w = note_of(t, n, v, e, y);
+    let m = look(s, t, n, v);
+    let x = m.texts;
     put(t, n, Texts::FIRST, v, x.first);
     put(t, n, Texts::LAST, v, x.last);
-    put_note(t, n, v, w);
+    put_note(t, n, v, m.note);
 }
 
 // The columns of all nodes.

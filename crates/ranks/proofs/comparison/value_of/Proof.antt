@@ -1,11 +1,12 @@
 -- `ranks::comparison::value_of` meets its contract.
+use Prim.Native.Nat.{ℕ}
 use mathlib.Core.Path.{sym, subst}
 use mathlib.Core.List.{List}
-use Prim.Native.Nat.{ℕ}
 use native.Mathlib.Omega.{arith}
 use Rattle.library.specs.Library.{Node}
 use Rattle.library.specs.Verdict.{Accepts}
 use Rattle.ranks.specs.Notes.{Valued, Marked}
+use Rattle.ranks.proofs.Values.{inside-lasts}
 use Rattle.ranks.proofs.Opening.{note-whole, note-several}
 use borrow.Author.Needs.{needs}
 use Rattle.ranks.proofs.comparison.value_of.Statement.{statement}
@@ -23,20 +24,28 @@ open-texts-requires : tie.Need-open-texts-requires
 open-texts-requires c κs =
     let x = c .before .before .before .before in let (s, g) = x .pre .0 in let h = g .tabled in
     let (r, k) = note-several (noted (c .before .before) s (h .nodes) g (h .accepts)) (c .if1 .taken) in
-    (s, h .nodes, x .args .v, c .before .before .get-note .result .last, g, h .accepts, r, k)
+    (s, h .nodes, x .args .v, c .before .before .get-note .result .high, g, h .accepts, r, k)
 
 returns : tie.Need-returns
 returns c =
     let x = c .before .before .before .before .before .args in
     λ s ns g a.
-    let y = noted (c .before .before .before) s ns g a in let (r, k) = note-several y (c .before .if1 .taken) in
-    record { lasts = y .lasts; comes = c .open-texts .ensures s ns (x .v) (c .before .before .before .get-note .result .last) g a r k }
+    let (r, k) = note-several (noted (c .before .before .before) s ns g a) (c .before .if1 .taken) in
+    record { lasts = inside-lasts k; comes = c .open-texts .ensures s ns (x .v) (c .before .before .before .get-note .result .high) g a r k }
 
-add-t7 : tie.Need-add-t7
-add-t7 c = search needs
+mul-from : tie.Need-mul-from
+mul-from c = search needs
+
+add-from : tie.Need-add-from
+add-from c = search needs
+
+add-t8 : tie.Need-add-t8
+add-t8 c = search needs
 
 returns-2 : tie.Need-returns-2
-returns-2 c = λ s ns g a. note-whole (noted (c .before .before .before) s ns g a) a (c .before .if1 .left)
+returns-2 c = λ s ns g a. note-whole (noted (c .before .before .before .before .before) s ns g a) a (c .before .before .before .if1 .left)
 
 pub value-of-spec : {M : Type 1} → statement M
-value-of-spec = tie.close (tie.spec get-note-requires open-texts-requires returns add-t7 returns-2)
+value-of-spec =
+    tie.close
+    (tie.spec get-note-requires open-texts-requires returns mul-from add-from add-t8 returns-2)

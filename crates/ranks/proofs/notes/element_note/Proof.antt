@@ -13,12 +13,13 @@ returns c = λ s ns v g a h. element-none a h (c .if1 .taken)
 
 get-note-requires : tie.Need-get-note-requires
 get-note-requires c κs =
-    let p = c .before .before .before .before .before .pre in let (s, ns, v, g, a, h) = p in
+    let (s, ns, v, g, a, h) = c .before .before .before .before .before .pre in
     let (i, j, l, k) = inside-first h (c .before .before .if1 .left) in let e = tree-size (g .tabled) ns a in
     (omega arith, g .tabled .room)
 
 returns-2 : tie.Need-returns-2
-returns-2 c = λ s ns v g a h.
+returns-2 c =
+    λ s ns v g a h.
     let z = c .before .before .before .if1 .left in let f = c .before .before .before .before .before .before .args .y .first in
     let (i, j, l, k) = inside-first h z in let e = tree-size (g .tabled) ns a in
     element-one a h z (c .before .if2 .taken) (subst (λ y. Valued s ns f y) (sym (c .get-note .ensures .0)) (g .valued ns a f i (omega arith)))

@@ -1,5 +1,4 @@
 -- `ranks::notes::get_note` meets its contract.
-use native.Mathlib.Omega.{arith}
 use Rattle.ranks.proofs.Noting.{note-of}
 use borrow.Author.Needs.{needs}
 use Rattle.ranks.proofs.notes.get_note.Statement.{statement}
@@ -17,30 +16,11 @@ get-requires-3 c κs = search needs
 get-requires-4 : tie.Need-get-requires-4
 get-requires-4 c κs = search needs
 
-mul-t8 : tie.Need-mul-t8
-mul-t8 c = search needs
-
-add-t9 : tie.Need-add-t9
-add-t9 c = search needs
-
-get-requires-5 : tie.Need-get-requires-5
-get-requires-5 c κs = search needs
-
 returns : tie.Need-returns
 returns c =
-    let p = c .before .before .before .before .get .ensures in let q = c .before .before .before .get2 .ensures in let a = c .before .before .get3 .ensures in let b = c .before .get4 .ensures in
-    let k = c .get5 .ensures in let i = a .1 in let j = b .1 in
-    (note-of (p .0) (q .0) (a .0) (b .0) (k .0), omega arith, k .1)
+    let p = c .before .before .before .get .ensures in let a = c .before .before .get2 .ensures in let b = c .before .get3 .ensures in let k = c .get4 .ensures in
+    (note-of (p .0) (a .0) (b .0) (k .0), (p .1, a .1, b .1, k .1))
 
 pub get-note-spec : {M : Type 1} → statement M
 get-note-spec =
-    tie.close
-    (tie.spec
-    get-requires
-    get-requires-2
-    get-requires-3
-    get-requires-4
-    mul-t8
-    add-t9
-    get-requires-5
-    returns)
+    tie.close (tie.spec get-requires get-requires-2 get-requires-3 get-requires-4 returns)
