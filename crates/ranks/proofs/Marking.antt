@@ -1,4 +1,4 @@
--- The columns of the first and the last texts: what is told of a node is told from its own text and from its children, and sorting leaves it so.
+-- The columns of the texts and of the values: what is told of a node is told from its own entry and from the nodes behind it, and sorting leaves it so.
 use Prim.Native.Nat.{ℕ, suc, _*_, _-_, _≤_, _<_}
 use mathlib.Core.Path.{_≡_, sym, ap, _∙_, subst, subst₂}
 use mathlib.Core.Logic.{_⊎_, _≢_, inl, inr}
@@ -77,7 +77,7 @@ module _ {s : List ℕ} {n v : ℕ} {t : List ℕ} (h : Tabled s n t) (l : v < n
   under-node q c k =
       let i = subst (λ (b : ℕ). v < b) (sym (tree-size h ns a)) l in
       let (j, y) = right-extent (a .legal) i (child-is false q) c k in
-      let f = tree-small h ns a in let o = k .within in
+      let f = tree-small a in let o = k .within in
       (c .behind, j, omega arith, y)
 
 -- ── The loop ──

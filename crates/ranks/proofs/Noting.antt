@@ -1,6 +1,6 @@
 -- The notes of the values: what is written is what is read again, and what makes a note right.
-use Prim.Native.Nat.{ℕ, suc, _+_, _*_, _-_, _/_, _%_, _≤_, _<_}
-use mathlib.Core.Path.{_≡_, refl, sym, ap, ap₂, _∙_, subst, subst₂}
+use Prim.Native.Nat.{ℕ, _+_, _*_, _-_, _/_, _%_, _≤_, _<_}
+use mathlib.Core.Path.{_≡_, refl, sym, ap, ap₂, _∙_, subst}
 use mathlib.Core.Logic.{inl, inr}
 use mathlib.Core.List.{List, [], _∷_}
 use lib.ListN.{length}
@@ -19,6 +19,7 @@ use Rattle.values.proofs.Cursor.{used-up}
 use Rattle.ranks.specs.Values.{Inside, Lasts}
 use Rattle.ranks.specs.Notes.{FIRST, LOW, HIGH, LENGTH, noteAt, noted, span, Held, Valued, Noted}
 use Rattle.ranks.specs.declared.notes.Note.{Note}
+use Rattle.ranks.proofs.Trees.{tree-small}
 use Rattle.ranks.proofs.Values.{lasts-of, inside-none, inside-first, inside-one, own-lasts}
 
 -- ── The columns ──
@@ -48,10 +49,6 @@ noted-confined n v x r w = record { long = w .long; front = λ k h. w .other k (
 
 -- ── What is right ──
 module _ {s : List ℕ} {ns : List Node} (a : Accepts s ns) where
-  -- the word for no node is no node
-  pub few : length ns ≤ NONE
-  few = let f = a .legal .few in omega arith
-
   -- only an element has a value of several nodes
   pub text-held : {v : ℕ} {x : Note} → Valued s ns v x → at ns v .kind ≡ text → (x .length < NONE) × Lasts ns v (x .first) (x .first) × Lies s (span x) (stringOf ns v)
   text-held {v} {x} h k = go (h .held)
@@ -66,7 +63,7 @@ module _ {s : List ℕ} {ns : List Node} (a : Accepts s ns) where
         → Valued s ns v (record { first = v; low = e .value .from % 65_536; high = e .value .from / 65_536; length = e .value .to - e .value .from })
     unfolding Value
     own-some r =
-        let p = e .value in let i = h .ends in let j = h .behind .inside in let z = few in let u = a .short in
+        let p = e .value in let i = h .ends in let j = h .behind .inside in let z = tree-small a in let u = a .short in
         let m = length-slice (p .from) (p .to) s (omega arith) in let w = ap length (h .value) in let y = a .legal .values v l .1 in
         let from : p .from % 65_536 + 65_536 * (p .from / 65_536) ≡ p .from = omega arith in
         let to : p .from % 65_536 + 65_536 * (p .from / 65_536) + (p .to - p .from) ≡ p .to = omega arith in
@@ -77,7 +74,7 @@ module _ {s : List ℕ} {ns : List Node} (a : Accepts s ns) where
 
     pub own-none : e .value .to ≤ e .value .from → Valued s ns v (record { first = v; low = 0; high = 0; length = 0 })
     own-none r =
-        let p = e .value in let z = few in
+        let p = e .value in let z = tree-small a in
         record {
           words = (omega arith, omega arith, omega arith, omega arith);
           held = inl (omega arith, own-lasts ns v l o, record { within = omega arith; bytes = sym (used-up s (p .from) (p .to) r) ∙ h .value ∙ sym o });
@@ -87,7 +84,7 @@ module _ {s : List ℕ} {ns : List Node} (a : Accepts s ns) where
   module _ {v d f l : ℕ} (h : Inside ns v d f l) where
     pub element-none : f ≡ NONE → Valued s ns v (record { first = NONE; low = 0; high = 0; length = 0 })
     element-none z =
-        let e = inside-none h few z in
+        let e = inside-none h (tree-small a) z in
         record { words = (omega arith, omega arith, omega arith, omega arith); held = inl (omega arith, inr (refl, refl, e), record { within = omega arith; bytes = sym e }) }
 
     pub element-one : {x : Note} → ¬ (f ≡ NONE) → f ≡ l → Valued s ns f x → Valued s ns v x
@@ -97,5 +94,5 @@ module _ {s : List ℕ} {ns : List Node} (a : Accepts s ns) where
 
     pub element-more : ¬ (f ≡ NONE) → ¬ (f ≡ l) → Valued s ns v (record { first = f; low = d; high = l; length = NONE })
     element-more z e =
-        let (i, o, r, k) = inside-first h z in let m = few in let b = h .is .level in let c = depth-small (a .legal) v (h .is .node) in
+        let (i, o, r, k) = inside-first h z in let m = tree-small a in let b = h .is .level in let c = depth-small (a .legal) v (h .is .node) in
         record { words = (omega arith, omega arith, omega arith, omega arith); held = inr (refl, omega arith, h) }

@@ -43,7 +43,7 @@ module _ {s : List ℕ} {ns : List Node} {n v d f l : ℕ} {t : List ℕ} (g : M
   some z = go (inside-lasts h)
     where
       go : Lasts ns v f l → ⊥
-      go (inl x) = let m = x .within in let k = tree-small (g .tabled) ns a in omega arith
+      go (inl x) = let m = x .within in let k = tree-small a in omega arith
       go (inr (p, q, x)) = omega arith
 
   -- the first of them and the node behind it are nodes

@@ -28,6 +28,6 @@ module _ {s : List ℕ} {n : ℕ} {t : List ℕ} (h : Tabled s n t) where
   pub stands-at : (ns : List Node) {v i : ℕ} → Accepts s ns → v < n → i ≡ offsetOf t n v → Stands s ns v i
   stands-at ns {v} a r e = subst (λ i. Stands s ns v i) (sym e) (tree-stands ns v a (tree-linked ns a) r)
 
-  -- the word for no node is no node
-  pub tree-small : (ns : List Node) → Accepts s ns → length ns ≤ NONE
-  tree-small ns a = let f = a .legal .few in omega arith
+-- the word for no node is no node
+pub tree-small : {s : List ℕ} {ns : List Node} → Accepts s ns → length ns ≤ NONE
+tree-small a = let f = a .legal .few in omega arith

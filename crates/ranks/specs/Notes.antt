@@ -1,4 +1,4 @@
--- What is noted of the value of each node: the nodes where it begins and where it ends, and where its bytes lie.
+-- What is noted of the value of each node: the node where it begins, and where its bytes lie.
 use Prim.Native.Nat.{ℕ, suc, _+_, _*_, _≤_, _<_}
 use mathlib.Core.Path.{_≡_}
 use mathlib.Core.Logic.{_⊎_}
@@ -36,6 +36,7 @@ noteAt t n v = record { first = word t n FIRST v; low = word t n LOW v; high = w
 abbrev pub noted : ℕ → ℕ → Note → List (ℕ × ℕ)
 noted n v x = (cell n LENGTH v, x .length) ∷ (cell n HIGH v, x .high) ∷ (cell n LOW v, x .low) ∷ (cell n FIRST v, x .first) ∷ []
 
+-- each number is a word
 abbrev pub Words : Note → Type 0
 Words x = (x .first < 65_536) × (x .low < 65_536) × (x .high < 65_536) × (x .length < 65_536)
 

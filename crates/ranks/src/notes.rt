@@ -27,8 +27,8 @@ const HIGH: usize = 11;
 
 const LENGTH: usize = 12;
 
-// The node where a value begins. If its bytes lie in one span, the two words of the offset where this starts, and its length.
-// The value of an element with several texts has no length: in the place of the offset stand the element's depth and the last of the texts.
+// The node where a value begins, or no node for an element without text. If its bytes lie in one span: the two words of the offset where they start, and their number.
+// The value of an element with several texts has no length, and in the place of the offset stand the element's depth and the last node with text.
 pub struct Note {
     pub first: usize,
     pub low: usize,
@@ -66,11 +66,12 @@ fn own_note(e: Entry, v: usize) -> Note
 {
     let p = e.value;
     if p.from < p.to {
+        let length = p.to - p.from;
         return Note {
             first: v,
             low: p.from % 65536,
             high: p.from / 65536,
-            length: p.to - p.from,
+            length,
         };
     }
     Note {
@@ -81,7 +82,7 @@ fn own_note(e: Entry, v: usize) -> Note
     }
 }
 
-// Of an element of a depth with the texts `y` inside it: if this is one text, its value is that of the text.
+// Of an element of a depth with the texts `y` inside it. If this is one text, both have the same value.
 fn element_note(t: &[u16], n: usize, depth: usize, y: Texts) -> Note
     requires { ⌜ ((s : List ℕ) × (ns : List Library.Node) × (v : ℕ) × Marked s n (suc v) (now t) × Accepts s ns × Inside ns v depth (y .first) (y .last)) ⌝ }
     ensures { λ r. ⌜ ((s : List ℕ) (ns : List Library.Node) (v : ℕ) → Marked s n (suc v) (now (t .entry)) → Accepts s ns → Inside ns v depth (y .first) (y .last) → Valued s ns v r) ⌝ }

@@ -2,22 +2,22 @@
 use mathlib.Core.Path.{sym}
 use native.Mathlib.Omega.{arith}
 use Rattle.library.specs.Binary.{stringOf}
+use Rattle.ranks.proofs.Trees.{tree-small}
 use Rattle.ranks.proofs.Values.{lasts-same, lasts-less}
-use Rattle.ranks.proofs.Noting.{few}
 use borrow.Author.Needs.{needs}
 use Rattle.ranks.proofs.comparison.compare_values.Statement.{statement}
 use Rattle.ranks.proofs.comparison.compare_values.Tie as tie
 
 returns : tie.Need-returns
-returns c = λ ns v w h k. lasts-less ns v w (few (h .comes .accepts)) (h .lasts) (k .lasts) (c .before .before .before .if1 .taken) (c .if2 .taken)
+returns c = λ ns v w h k. lasts-less ns v w (tree-small (h .comes .accepts)) (h .lasts) (k .lasts) (c .before .before .before .if1 .taken) (c .if2 .taken)
 
 returns-2 : tie.Need-returns-2
-returns-2 c = λ ns v w h k. lasts-less ns w v (few (h .comes .accepts)) (k .lasts) (h .lasts) (sym (c .before .before .before .before .before .before .if1 .taken)) (c .if3 .taken)
+returns-2 c = λ ns v w h k. lasts-less ns w v (tree-small (h .comes .accepts)) (k .lasts) (h .lasts) (sym (c .before .before .before .before .before .before .if1 .taken)) (c .if3 .taken)
 
 returns-3 : tie.Need-returns-3
 returns-3 c =
     let r = c .before .before .before .if2 .left in let l = c .if3 .left in
-    λ ns v w h k. lasts-same ns v w (few (h .comes .accepts)) (h .lasts) (k .lasts) (c .before .before .before .before .before .before .if1 .taken) (omega arith)
+    λ ns v w h k. lasts-same ns v w (tree-small (h .comes .accepts)) (h .lasts) (k .lasts) (c .before .before .before .before .before .before .if1 .taken) (omega arith)
 
 compare-requires : tie.Need-compare-requires
 compare-requires c κs = search needs

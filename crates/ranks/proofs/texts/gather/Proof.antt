@@ -29,7 +29,7 @@ returns c =
     let (i, j, l, q) = under-node (g .tabled) (x .pre .1) ns a (c .before .before .before .right .ensures .0) (k .content) d in
     c .join2 .ensures ns v (k .end) e (omega arith) j l
     (c .before .join .ensures ns v (suc v) (k .end) (omega arith) i (omega arith) h (k .bounds))
-    (c .before .before .under .ensures ns (suc v) (k .end) e (tree-small (g .tabled) ns a) (g .told ns a) i q)
+    (c .before .before .under .ensures ns (suc v) (k .end) e (tree-small a) (g .told ns a) i q)
 
 pub gather-spec : {M : Type 1} → statement M
 gather-spec =

@@ -1,7 +1,6 @@
 -- `ranks::texts::inside` meets its contract.
-use mathlib.Core.Bool.{true}
-use native.Mathlib.Omega.{arith}
 use Prim.Native.Nat.{suc}
+use mathlib.Core.Bool.{true}
 use Rattle.ranks.proofs.Trees.{tree-small}
 use Rattle.ranks.proofs.Marking.{child-word, inner-of}
 use borrow.Author.Needs.{needs}
@@ -21,7 +20,7 @@ returns c =
     let x = c .before .before .before in
     λ s ns g a.
     inner-of (g .tabled) (x .pre .1) ns a (c .before .left .ensures .0)
-    (λ i j r k. c .under .ensures ns (suc (x .args .v)) i j (tree-small (g .tabled) ns a) (g .told ns a) r k)
+    (λ i j r k. c .under .ensures ns (suc (x .args .v)) i j (tree-small a) (g .told ns a) r k)
 
 pub inside-spec : {M : Type 1} → statement M
 inside-spec = tie.close (tie.spec left-requires under-requires returns)
