@@ -13,6 +13,7 @@ use Rattle.snippets.proofs.Marks.{skeleton-inside}
 use Rattle.snippets.proofs.Direct.{Direct, direct-iff}
 use Rattle.links.specs.Table.{RANK, word}
 use Rattle.links.specs.Links.{Points}
+use Rattle.walks.specs.Part.{STAYS}
 use Rattle.walks.specs.declared.Machine.{Machine}
 use Rattle.loops.specs.Loops.{Stage, Loops}
 use Rattle.powers.specs.Powers.{Powers}
@@ -62,28 +63,37 @@ points-same : {n v r x : ℕ} {p p′ : List ℕ} → ((u : ℕ) → u < n → w
 points-same same (inl l) = inl (least-same same l)
 points-same same (inr (e, f)) = inr (e, λ w l. f w (least-same (λ u h. sym (same u h)) l))
 
-buckets-rest : {n b : ℕ} {p p′ : List ℕ} → Rest MARKED n b p p′ → Buckets n p → Buckets n p′
-buckets-rest {n} {b} {p} {p′} h f = record {
-  first = λ r l. subst (λ (x : ℕ). Points (Least n p′ 0 r) x) (sym (same-word h FIRST r (omega arith) l)) (points-same same (f .first r l));
+pub buckets-same : {n : ℕ} {p p′ : List ℕ} → ((c v : ℕ) → (c ≡ RANK) ⊎ ((c ≡ FIRST) ⊎ (c ≡ NEXT)) → v < n → word p′ n c v ≡ word p n c v) → Buckets n p → Buckets n p′
+buckets-same {n} {p} {p′} same f = record {
+  first = λ r l. subst (λ (x : ℕ). Points (Least n p′ 0 r) x) (sym (same FIRST r (inr (inl refl)) l)) (points-same ranks (f .first r l));
   next = λ v l.
-      subst (λ (x : ℕ). Points (Least n p′ (suc v) (word p′ n RANK v)) x) (sym (same-word h NEXT v (omega arith) l))
-      (subst (λ (x : ℕ). Points (Least n p′ (suc v) x) (word p n NEXT v)) (sym (same v l)) (points-same same (f .next v l)));
+      subst (λ (x : ℕ). Points (Least n p′ (suc v) (word p′ n RANK v)) x) (sym (same NEXT v (inr (inr refl)) l))
+      (subst (λ (x : ℕ). Points (Least n p′ (suc v) x) (word p n NEXT v)) (sym (ranks v l)) (points-same ranks (f .next v l)));
 }
   where
-    same : (u : ℕ) → u < n → word p′ n RANK u ≡ word p n RANK u
-    same u l = same-word h RANK u (omega arith) l
+    ranks : (u : ℕ) → u < n → word p′ n RANK u ≡ word p n RANK u
+    ranks u l = same RANK u (inl refl) l
 
-pub base-rest : {m : Machine} {n b : ℕ} {p p′ : List ℕ} → Rest MARKED n b p p′ → Base m n b p → Base m n b p′
-base-rest h s = record {
+-- all but the buckets
+pub base-by : {m : Machine} {c n b : ℕ} {p p′ : List ℕ} → Rest c n b p p′ → STAYS < c → Buckets n p′ → Base m n b p → Base m n b p′
+base-by h l buckets s = record {
   first = s .first;
   second = s .second;
   tree = s .tree;
-  stage = stage-rest h (omega arith) (s .stage);
+  stage = stage-rest h l (s .stage);
   loops = loops-rest h (s .loops);
   powers = powers-rest h (s .powers);
-  buckets = buckets-rest h (s .buckets);
+  buckets = buckets;
   sizes = sizes-rest h (s .sizes);
 }
+
+pub base-rest : {m : Machine} {n b : ℕ} {p p′ : List ℕ} → Rest MARKED n b p p′ → Base m n b p → Base m n b p′
+base-rest {n = n} {p = p} {p′} h s = base-by h (omega arith) (buckets-same (λ c v e l. same-word h c v (go c e) l) (s .buckets)) s
+  where
+    go : (c : ℕ) → (c ≡ RANK) ⊎ ((c ≡ FIRST) ⊎ (c ≡ NEXT)) → c < MARKED
+    go c (inl e) = omega arith
+    go c (inr (inl e)) = omega arith
+    go c (inr (inr e)) = omega arith
 
 module _ {n r w : ℕ} {p : List ℕ} (buckets : Buckets n p) (few : n ≤ 4096) (rank : r < n) (first : w ≡ word p n FIRST r) where
   here : Points (Least n p 0 r) w
@@ -149,44 +159,26 @@ rank-alone {n = n} {b} {r = r} {p} alone = record {
       absurd (omega arith));
 }
 
--- ── All ranks ──
+-- ── Several ranks ──
 module _ {m : Machine} {n b first : ℕ} where
-  pub below-none : (p : List ℕ) → AddedOf (λ z. z < 0) m n b first p p
-  below-none p = record { rest = rest-none MARKED n b p; found = λ P R t stage loops powers split. gains-same (λ l h. refl) (λ k x y i j (w, node, e, g). absurd (omega arith)) }
+  pub added-none : {S : ℕ → Type 0} (p : List ℕ) → ((z : ℕ) → ¬ S z) → AddedOf S m n b first p p
+  added-none p none = record { rest = rest-none MARKED n b p; found = λ P R t stage loops powers split. gains-same (λ l h. refl) (λ k x y i j (w, node, e, g). absurd (none _ e)) }
 
-  pub below-step : {r : ℕ} {p p₁ p₂ : List ℕ} → AddedOf (λ z. z < r) m n b first p p₁ → AddedOf (λ z. z ≡ r) m n b first p₁ p₂ → AddedOf (λ z. z < r + 1) m n b first p p₂
-  below-step {r} {p} {p₁} {p₂} g h = record {
+  pub added-then : {S U W : ℕ → Type 0} {p p₁ p₂ : List ℕ} → AddedOf S m n b first p p₁ → AddedOf U m n b first p₁ p₂ → ((z : ℕ) → (S z ⊎ U z) ↔ W z) → AddedOf W m n b first p p₂
+  added-then {S} {U} {W} {p} {p₁} {p₂} g h both = record {
     rest = rest-then (g .rest) (h .rest);
     found = λ P R t stage loops powers split.
         gains-then (g .found P R t stage loops powers split) (h .found P R t (stage-rest (g .rest) (omega arith) stage) (loops-rest (g .rest) loops) (powers-rest (g .rest) powers) split)
         (λ k x y i j. (to P R t k x y i j, from P R t k x y i j));
   }
     where
-      to : (P R : XPath) (t : Tree) (k x y i j : ℕ) → OfRanks (λ z. z < r) P R t n p k x y i j ⊎ OfRanks (λ z. z ≡ r) P R t n p₁ k x y i j → OfRanks (λ z. z < r + 1) P R t n p k x y i j
-      to P R t k x y i j (inl (w, node, e, f)) = (w, node, omega arith, f)
-      to P R t k x y i j (inr (w, node, e, f)) = let q = same-word (g .rest) RANK w (omega arith) node in (w, node, omega arith, f)
+      to : (P R : XPath) (t : Tree) (k x y i j : ℕ) → OfRanks S P R t n p k x y i j ⊎ OfRanks U P R t n p₁ k x y i j → OfRanks W P R t n p k x y i j
+      to P R t k x y i j (inl (w, node, e, f)) = (w, node, both (word p n RANK w) .0 (inl e), f)
+      to P R t k x y i j (inr (w, node, e, f)) = (w, node, both (word p n RANK w) .0 (inr (subst U (same-word (g .rest) RANK w (omega arith) node) e)), f)
 
-      from : (P R : XPath) (t : Tree) (k x y i j : ℕ) → OfRanks (λ z. z < r + 1) P R t n p k x y i j → OfRanks (λ z. z < r) P R t n p k x y i j ⊎ OfRanks (λ z. z ≡ r) P R t n p₁ k x y i j
-      from P R t k x y i j (w, node, e, f) = go (eq-or-lt-of-le (omega arith))
+      from : (P R : XPath) (t : Tree) (k x y i j : ℕ) → OfRanks W P R t n p k x y i j → OfRanks S P R t n p k x y i j ⊎ OfRanks U P R t n p₁ k x y i j
+      from P R t k x y i j (w, node, e, f) = go (both (word p n RANK w) .1 e)
         where
-          go : (word p n RANK w ≡ r) ⊎ (word p n RANK w < r) → OfRanks (λ z. z < r) P R t n p k x y i j ⊎ OfRanks (λ z. z ≡ r) P R t n p₁ k x y i j
-          go (inl q) = inr (w, node, same-word (g .rest) RANK w (omega arith) node ∙ q, f)
-          go (inr q) = inl (w, node, q, f)
-
-  -- each value that yields anything is that of a node
-  pub below-all : {r : ℕ} {p p′ : List ℕ} → n ≤ r → AddedOf (λ z. z < r) m n b first p p′ → AddedAll m n b first p p′
-  below-all {r} {p} l h = record {
-    rest = h .rest;
-    found = λ P R t stage loops powers split. gains-iff (λ k x y i j _ _ _ _ _. ((λ (w, node, e, g). (t .value w, g)), from P R t stage k x y i j)) (h .found P R t stage loops powers split);
-  }
-    where
-      from : (P R : XPath) (t : Tree) → Stage P R t m n p → (k x y i j : ℕ) → (d : List ℕ) × Direct t P R d k x y i j → OfRanks (λ z. z < r) P R t n p k x y i j
-      from P R t stage k x y i j (d, g) =
-          let (a, z, q, edge, lo, hi, s) = direct-iff t P R d k x y i j .0 g in
-          let has = edge .top .hasU in
-          let u = edge .top .u in
-          let low = has .inside in
-          let e = stage .drawn .size in
-          let node : u < n = omega arith in
-          let small = stage .drawn .small u node in
-          (u, node, omega arith, subst (λ (d : List ℕ). Direct t P R d k x y i j) (sym (has .value)) g)
+          go : S (word p n RANK w) ⊎ U (word p n RANK w) → OfRanks S P R t n p k x y i j ⊎ OfRanks U P R t n p₁ k x y i j
+          go (inl q) = inl (w, node, q, f)
+          go (inr q) = inr (w, node, subst U (sym (same-word (g .rest) RANK w (omega arith) node)) q, f)

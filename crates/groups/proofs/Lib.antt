@@ -7,3 +7,4 @@ pub mod Lengths
 pub mod Yielding
 pub mod Descending
 pub mod Adding
+pub mod Lists

@@ -19,6 +19,10 @@ use Rattle.powers.specs.Powers.{BLOCKS, snippetAt, Powers}
 use Rattle.skeletons.specs.Skeletons.{MARKED, Buckets, Ranks, Group}
 
 -- ── The columns ──
+-- the ranks of the values to be taken, one behind the other
+abbrev pub LIST : ℕ
+LIST = 8
+
 -- the positions that at a skeleton node end at a node of the group that is at or below it
 abbrev pub IN : ℕ
 IN = 12
@@ -149,9 +153,19 @@ pub record AddedOf (S : ℕ → Type 0) (m : Machine) (n b first : ℕ) (p p′ 
   pub rest : Rest MARKED n b p p′
   pub found : (P R : XPath) (t : Tree) → Stage P R t m n p → Loops P R t n p → Powers P R t n p b → OfFirst P first → Gains t n b (OfRanks S P R t n p) p p′
 
--- the rows have what the first snippets of all values yield
+-- ── A list of values ──
+-- the rank z is among the first c entries of the list
+abbrev pub Listed : ℕ → ℕ → List ℕ → ℕ → Type 0
+Listed n c p z = (i : ℕ) × (i < c) × (word p n LIST i ≡ z)
+
+-- the first c entries are ranks
+pub record Listing (n c : ℕ) (p : List ℕ) : Type 0 where
+  pub few : c ≤ n
+  pub ranks : (i : ℕ) → i < c → word p n LIST i < n
+
+-- the rows have what the first snippets of all values yield; the columns before that of the list stay
 pub record AddedAll (m : Machine) (n b first : ℕ) (p p′ : List ℕ) : Type 0 where
-  pub rest : Rest MARKED n b p p′
+  pub rest : Rest LIST n b p p′
   pub found : (P R : XPath) (t : Tree) → Stage P R t m n p → Loops P R t n p → Powers P R t n p b → OfFirst P first
       → Gains t n b (λ k x y i j. (d : List ℕ) × Direct t P R d k x y i j) p p′
 

@@ -17,7 +17,7 @@ use Rattle.powers.specs.Ladder.{Ladder}
 use Rattle.loops.specs.Loops.{Stage, Loops}
 use Rattle.skeletons.specs.Shape.{Within}
 use Rattle.skeletons.specs.Skeletons.{IsNoted, Group}
-use Rattle.groups.specs.Groups.{IN, LEFTIN, ABOVE, inward, Exactly, Setting, Sizes, OfFirst, Rest, Gains, OfEdge, Yields, Sides, Risen, Sunk}
+use Rattle.groups.specs.Groups.{LIST, IN, LEFTIN, ABOVE, inward, Exactly, Setting, Sizes, OfFirst, Rest, Gains, OfEdge, Yields, Sides, Risen, Sunk}
 
 -- ── Rows ──
 -- one of the two is a position of the first path, and the other is none
@@ -27,6 +27,13 @@ Opposite first i j = ((bit first i ≡ true) × (bit first j ≡ false)) ⊎ ((b
 -- the pairs of the matrix at an offset, and those of a member of rows with a member of set that is of the other path
 abbrev pub Crossed : List ℕ → ℕ → ℕ → ℕ → ℕ → ℕ → ℕ → Type 0
 Crossed p at rows set first i j = Related p at i j ⊎ ((bit rows i ≡ true) × (bit set j ≡ true) × Opposite first i j)
+
+-- ── The list ──
+-- its first k entries are the ranks below k
+pub record Ranged (n k : ℕ) (p p′ : List ℕ) : Type 0 where
+  pub inside : k ≤ n
+  pub within : Within n LIST (suc LIST) p p′
+  pub entries : (i : ℕ) → i < k → word p′ n LIST i ≡ i
 
 -- ── From below ──
 -- v is a skeleton node of some value, on a tree with its powers

@@ -1,4 +1,5 @@
 // The snippets that the first snippets of one value yield directly: added to the snippets' rows of a comparison's part, for one group of nodes of equal value after the other.
+mod listing;
 mod own;
 mod rising;
 mod rows;
@@ -6,6 +7,7 @@ mod sinking;
 mod yields;
 
 use links::table::get;
+use listing::list_ranks;
 use rising::rise;
 use sinking::sink;
 use skeletons::marks::mark_group;
@@ -15,11 +17,14 @@ ghost use mathlib.Core.Bool.{true, false};
 ghost use Prim.Native.Nat.{_≤_, _<_};
 ghost use Rattle.links.specs.Table.{Room};
 ghost use Rattle.skeletons.specs.Skeletons.{Buckets};
-ghost use Rattle.groups.specs.Groups.{Base, Grounds, Added, AddedOf, AddedAll, Somewhere, Alone};
+ghost use Rattle.groups.specs.Groups.{Base, Grounds, Added, Listed, Listing, AddedOf, AddedAll, Somewhere, Alone};
 
 pub struct Column;
 
 impl Column {
+    // The ranks of the values to be taken, one behind the other.
+    pub const LIST: usize = 8;
+
     // The positions that at a skeleton node end at a node of the group that is at or below it.
     pub const IN: usize = 12;
 
@@ -64,14 +69,24 @@ fn add_rank(p: &mut [u16], n: usize, b: usize, m: Machine, first: u16, r: usize)
     }
 }
 
+// What the first snippets of the values yield whose ranks are the first `count` entries of the list, in any order. What two of them yield is in the rows once.
+pub fn add_list(p: &mut [u16], n: usize, b: usize, m: Machine, first: u16, count: usize)
+    requires { ⌜ Base m n b (now p) × Listing n count (now p) ⌝ }
+    ensures { λ _. ⌜ AddedOf (Listed n count (now (p .entry))) m n b first (now (p .entry)) (now (p .exit)) ⌝ }
+{
+    let mut i = 0;
+    while i < count {
+        let r = get(p, n, Column::LIST, i);
+        add_rank(p, n, b, m, first, r);
+        i += 1;
+    }
+}
+
 // What the first snippets of all values yield.
 pub fn add_groups(p: &mut [u16], n: usize, b: usize, m: Machine, first: u16)
     requires { ⌜ Base m n b (now p) ⌝ }
     ensures { λ _. ⌜ AddedAll m n b first (now (p .entry)) (now (p .exit)) ⌝ }
 {
-    let mut r = 0;
-    while r < n {
-        add_rank(p, n, b, m, first, r);
-        r += 1;
-    }
+    list_ranks(p, n);
+    add_list(p, n, b, m, first, n);
 }
