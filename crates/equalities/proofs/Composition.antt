@@ -1,12 +1,12 @@
 -- From the groups of equal values to all snippets, and from those to the answers.
-use Prim.Native.Nat.{ℕ, zero, suc, _+_, _*_, _^_, _≤_, _<_}
+use Prim.Native.Nat.{ℕ, _+_, _*_, _^_, _≤_, _<_}
 use mathlib.Core.Path.{_≡_, refl, sym, ap, _∙_, subst}
 use mathlib.Core.Logic.{_⊎_, inl, inr, _↔_}
 use mathlib.Core.Bool.{false≢true}
 use mathlib.Core.List.{List}
 use lib.ListN.{length}
-use lib.Pow.{pow-pos, pow-mono}
-use native.Mathlib.Decide.{decLe, ℕ-discrete}
+use lib.Pow.{pow-pos}
+use native.Mathlib.Decide.{ℕ-discrete}
 use native.Mathlib.Nat.{mul-le-mul-right}
 use native.Mathlib.Omega.{arith}
 use Rattle.lists.specs.Lists.{Number}
@@ -14,7 +14,7 @@ use Rattle.bits.specs.Sets.{bit}
 use Rattle.bits.proofs.SetLaws.{bit-none}
 use Rattle.xpath.specs.Syntax.{XPath, size}
 use Rattle.xpath.specs.Tree.{Tree, Child, WellFormed, Down, here, deeper}
-use Rattle.xpath.proofs.Trees.{down-le, down-zero}
+use Rattle.xpath.proofs.Trees.{down-zero}
 use Rattle.snippets.specs.Snippets.{Yielded}
 use Rattle.snippets.specs.Count.{IsSnippet}
 use Rattle.snippets.proofs.Settles.{sound, yielded-down}
@@ -31,12 +31,14 @@ use Rattle.powers.proofs.Kept.{ladder-of}
 use Rattle.pairs.specs.Settled.{Settled}
 use Rattle.pairs.specs.Settled as pairs
 use Rattle.pairs.proofs.Finding.{answers-hold}
+use Rattle.skeletons.specs.Shape.{Shape}
 use Rattle.skeletons.specs.Skeletons.{Bucketed}
 use Rattle.halving.specs.Halving.{Family, Inside, Within, Sets, Marked, Topped, Halved, Halving, Counts}
 use Rattle.halving.proofs.Families.{topped-of, sets-marked, halved-yielded, yielded-halved}
 use Rattle.halving.proofs.Counting.{counts-sets}
-use Rattle.groups.specs.Groups.{Sizes, Rest, Gains, Base, AddedAll}
-use Rattle.groups.proofs.Rest.{rest-within, powers-rest, loops-rest, stage-rest, sizes-rest}
+use Rattle.groups.specs.Groups.{Enough, Sizes, Rest, Gains, Base, AddedAll}
+use Rattle.groups.proofs.Rest.{rest-within, powers-rest, loops-rest, stage-rest, stage-shape, sizes-rest}
+use Rattle.groups.proofs.Lengths.{exponent-below}
 use Rattle.equalities.specs.Equalities.{Answers, Evaluated}
 use Rattle.equalities.specs.Steps.{Cleared, Empty, Founded, Prepares, FromFirst, Gathers}
 use Rattle.equalities.proofs.Clearing.{cleared-empty, cleared-rest}
@@ -54,27 +56,18 @@ module _ {P R : XPath} {t : Tree} where
   )
 
   -- they keep to the bounds of the words
-  yielded-within : {n b : ℕ} → WellFormed t → t .size ≡ n → n < 2 ^ b → size P + size R ≤ 14 → Within t n b (Yielded t P R)
+  yielded-within : {n b : ℕ} → WellFormed t → t .size ≡ n → Enough t b → size P + size R ≤ 14 → Within t n b (Yielded t P R)
   yielded-within {n} {b} wf whole enough few k x y i j z =
       let d = yielded-down t P R wf z in
-      let l = down-le t wf d in
       let r = down-inside t x y (2 ^ k) (pow-pos k) d in
       let (e, (w, u, v, a, c)) = sound t P R z in
       let f = ends-small P R t i x (a .0) w (a .1) (a .2) in
       let g = ends-small P R t j y (c .0) u (c .1) (c .2) in
-      record { power = low (decLe b k) (omega arith); lower = omega arith; apart = d; first = omega arith; second = omega arith }
-    where
-      low : Dec (b ≤ k) → 2 ^ k < 2 ^ b → k < b
-      low (yes r) h = let g : 2 ^ b ≤ 2 ^ k = pow-mono r in absurd (omega arith)
-      low (no f) h = omega arith
-
-some-power : (n b : ℕ) → 0 < n → n < 2 ^ b → 0 < b
-some-power n zero l h = absurd (omega arith)
-some-power n (suc b) l h = omega arith
+      record { power = exponent-below {k = k} {b = b} {l = 2 ^ k} (omega arith) (enough x y (2 ^ k) d); lower = omega arith; apart = d; first = omega arith; second = omega arith }
 
 -- ── What stays ──
 founded-rest : {P R : XPath} {t : Tree} {m : Machine} {c n b : ℕ} {p p′ : List ℕ} → STAYS < c → Rest c n b p p′ → Founded P R t m n b p → Founded P R t m n b p′
-founded-rest late r f = record { stage = stage-rest r late (f .stage); loops = loops-rest r (f .loops); powers = powers-rest r (f .powers) }
+founded-rest late r f = record { stage = stage-rest r late (f .stage); loops = loops-rest r (f .loops); powers = powers-rest r (f .powers); enough = f .enough }
 
 halving-rest : {n b : ℕ} {p p′ : List ℕ} → Halving n b p p′ → Rest 16 n b p p′
 halving-rest h = record { long = h .long; front = λ k l. h .other k (λ e y i a c d z. omega arith); behind = λ k l aside. h .other k aside }
@@ -95,21 +88,21 @@ module _ {m : Machine} {n : ℕ} {p p₁ : List ℕ} (given : (P R : XPath) × (
   pub prepared : {b : ℕ} {p₂ p₃ : List ℕ} → 0 < n → ((P R : XPath) (t : Tree) → Stage P R t m n p₁ → Loops P R t n p₁ → Powered P R t n b p₁ p₂) → Cleared n (b * n) p₂ p₃ → Prepares m n b p p₃
   prepared some powers cleared = record {
     long = cleared .long ∙ (let ((P, R, t, stage, found), long) = looped in powers P R t stage found .long ∙ long);
-    founded = λ P R t stage.
+    founded = λ P R t stage enough.
         let l = loops P R t stage in
         let stage₁ = stage-kept (l .front) stage in
         let powered = powers P R t stage₁ (l .loops) in
         let ladder = ladder-of stage₁ (l .loops) powered in
         founded-rest (omega arith) (cleared-rest cleared some)
-        (record { stage = stage-kept (λ k h. powered .front k (omega arith)) stage₁; loops = ladder .loops; powers = ladder .powers });
+        (record { stage = stage-kept (λ k h. powered .front k (omega arith)) stage₁; loops = ladder .loops; powers = ladder .powers; enough = enough });
     empty = cleared-empty cleared;
   }
 
 -- ── The snippets ──
 -- p is the part with its buckets and without snippets, p′ with what the first snippets yield
-module _ {P R : XPath} {t : Tree} {m : Machine} {n b : ℕ} {p p′ : List ℕ} (f : Founded P R t m n b p) (enough : n < 2 ^ b) (empty : Empty n b p) (g : Gains t n b (FromFirst P R t) p p′) where
+module _ {P R : XPath} {t : Tree} {m : Machine} {n b : ℕ} {p p′ : List ℕ} (f : Founded P R t m n b p) (some : 0 < b) (empty : Empty n b p) (g : Gains t n b (FromFirst P R t) p p′) where
   all-within : Within t n b (Yielded t P R)
-  all-within = yielded-within (f .stage .formed) (f .stage .drawn .size) enough (f .stage .machine .few)
+  all-within = yielded-within (f .stage .formed) (f .stage .drawn .size) (f .enough) (f .stage .machine .few)
 
   gained-topped : Topped t n b p′
   gained-topped = topped-of t n b p′ (λ k y i l r s none. g .top k y i l r s none ∙ empty k y i l r s)
@@ -147,7 +140,6 @@ module _ {P R : XPath} {t : Tree} {m : Machine} {n b : ℕ} {p p′ : List ℕ} 
     edge-marked : (x y i j : ℕ) → pairs.Marked t n p″ x y i j ↔ Yielded t P R 0 x y i j
     edge-marked x y i j = (
       λ z. let e = f .stage .drawn .size in let r = z .child .inside in
-          let some = some-power n b (let o = f .stage .formed .rooted in omega arith) enough in
           all .0 (record { inside = record { power = some; lower = omega arith; apart = deeper here (z .child); first = z .upperFew; second = z .lowerFew }; marked = z .marked }),
       λ z. let w = all .1 z in edge (w .inside) (w .marked) (w .inside .apart),
     )
@@ -168,15 +160,15 @@ module _ {m : Machine} {n b : ℕ} {p p₁ : List ℕ} (g : Bucketed n p p₁) w
   pub bucketed-base : (P R : XPath) × (t : Tree) × Founded P R t m n b p → Sizes n b p → Base m n b p₁
   bucketed-base (P, R, t, f) sizes =
       let h = bucketed f in
-      record { first = P; second = R; tree = t; stage = h .stage; loops = h .loops; powers = h .powers; buckets = g .buckets; sizes = sizes-rest (bucketed-rest g) sizes }
+      record { first = P; second = R; tree = t; stage = h .stage; loops = h .loops; powers = h .powers; buckets = g .buckets; enough = f .enough; sizes = sizes-rest (bucketed-rest g) sizes }
 
   -- p₂ has what the first snippets yield, and p₃ all snippets
-  pub gathered : {r : ℕ} {p₂ p₃ : List ℕ} → n < 2 ^ b → Empty n b p → AddedAll m n b (m .first) p₁ p₂ → Halving n b p₂ p₃ → Counts n b p₃ r → Gathers m n b p p₃ r
-  gathered {r} {p₂} {p₃} enough empty a h c = record {
+  pub gathered : {r : ℕ} {p₂ p₃ : List ℕ} → 0 < b → Empty n b p → AddedAll m n b (m .first) p₁ p₂ → Halving n b p₂ p₃ → Counts n b p₃ r → Gathers m n b p p₃ r
+  gathered {r} {p₂} {p₃} some empty a h c = record {
     long = h .long ∙ a .rest .long ∙ g .within .long;
     founded = λ P R t f. founded-rest (omega arith) (halving-rest h) (added f);
-    number = λ P R t f. all-number (bucketed f) enough none (gains f) (added f .powers) h c;
-    marked = λ P R t f. edge-marked (bucketed f) enough none (gains f) (added f .powers) h;
+    number = λ P R t f. all-number (bucketed f) some none (gains f) (added f .powers) h c;
+    marked = λ P R t f. edge-marked (bucketed f) some none (gains f) (added f .powers) h;
   }
     where
       none : Empty n b p₁
@@ -197,25 +189,29 @@ one-or-none {A} w small told = go (ℕ-discrete w 1)
     go (no f) = inr (λ a. f (told .1 a), omega arith)
 
 -- some comparison is given at every step
-pub prepared-some : {m : Machine} {n b : ℕ} {p p₁ : List ℕ} → Prepares m n b p p₁ → (P R : XPath) × (t : Tree) × Stage P R t m n p → (P R : XPath) × (t : Tree) × Founded P R t m n b p₁
-prepared-some f (P, R, t, stage) = (P, R, t, f .founded P R t stage)
+module _ {m : Machine} {n b : ℕ} {p p₁ : List ℕ} (f : Prepares m n b p p₁) (enough : (t : Tree) → Shape t n p → Enough t b) where
+  founded-at : (P R : XPath) (t : Tree) → Stage P R t m n p → Founded P R t m n b p₁
+  founded-at P R t stage = f .founded P R t stage (enough t (stage-shape stage))
 
-pub gathered-some : {m : Machine} {n b r : ℕ} {p p₁ p₂ : List ℕ} → Prepares m n b p p₁ → Gathers m n b p₁ p₂ r → (P R : XPath) × (t : Tree) × Stage P R t m n p → (P R : XPath) × (t : Tree) × Stage P R t m n p₂
-gathered-some f g (P, R, t, stage) = (P, R, t, g .founded P R t (f .founded P R t stage) .stage)
+  pub prepared-some : (P R : XPath) × (t : Tree) × Stage P R t m n p → (P R : XPath) × (t : Tree) × Founded P R t m n b p₁
+  prepared-some (P, R, t, stage) = (P, R, t, founded-at P R t stage)
+
+  pub gathered-some : {r : ℕ} {p₂ : List ℕ} → Gathers m n b p₁ p₂ r → (P R : XPath) × (t : Tree) × Stage P R t m n p → (P R : XPath) × (t : Tree) × Stage P R t m n p₂
+  gathered-some g (P, R, t, stage) = (P, R, t, g .founded P R t (founded-at P R t stage) .stage)
+
+  -- p is the part at first, p₁ without snippets, p₂ with all snippets, and p₃ with the answers
+  pub evaluated : {r : ℕ} {p₂ p₃ : List ℕ} → 0 < b → Gathers m n b p₁ p₂ r → Settled m n p₂ p₃ → Evaluated m n p p₃ r
+  evaluated {r} {p₂} {p₃} some g s = record {
+    long = s .long ∙ g .long ∙ f .long;
+    found = λ P R t stage. let founded = founded-at P R t stage in (g .number P R t founded, answers P R t founded);
+  }
+    where
+      answers : (P R : XPath) (t : Tree) → Founded P R t m n b p₁ → Answers P R t n p₃
+      answers P R t founded v inside =
+          let last = g .founded P R t founded in
+          one-or-none (word p₃ n ANSWER v) (s .small v inside)
+          (answers-hold (last .stage) (last .loops) (λ k y l q. last .powers k y (omega arith) q) (g .marked P R t founded) s v inside)
 
 -- there is room for the blocks of exponent 0
-pub edges-fit : (n b l : ℕ) → 0 < n → n < 2 ^ b → (BLOCKS + 64 * b) * n ≤ l → 176 * n ≤ l
-edges-fit n b l nodes enough room = let some = some-power n b nodes enough in let h : 176 * n ≤ (BLOCKS + 64 * b) * n = mul-le-mul-right n (omega arith) in omega arith
-
--- p is the part at first, p₁ without snippets, p₂ with all snippets, and p₃ with the answers
-pub evaluated : {m : Machine} {n b r : ℕ} {p p₁ p₂ p₃ : List ℕ} → 0 < n → n < 2 ^ b → Prepares m n b p p₁ → Gathers m n b p₁ p₂ r → Settled m n p₂ p₃ → Evaluated m n p p₃ r
-evaluated {m} {n} {b} {r} {p} {p₁} {p₂} {p₃} nodes enough f g s = record {
-  long = s .long ∙ g .long ∙ f .long;
-  found = λ P R t stage. let founded = f .founded P R t stage in (g .number P R t founded, answers P R t founded);
-}
-  where
-    answers : (P R : XPath) (t : Tree) → Founded P R t m n b p₁ → Answers P R t n p₃
-    answers P R t founded v inside =
-        let last = g .founded P R t founded in let some = some-power n b nodes enough in
-        one-or-none (word p₃ n ANSWER v) (s .small v inside)
-        (answers-hold (last .stage) (last .loops) (λ k y l q. last .powers k y (omega arith) q) (g .marked P R t founded) s v inside)
+pub edges-fit : (n b l : ℕ) → 0 < b → (BLOCKS + 64 * b) * n ≤ l → 176 * n ≤ l
+edges-fit n b l some room = let h : 176 * n ≤ (BLOCKS + 64 * b) * n = mul-le-mul-right n (omega arith) in omega arith

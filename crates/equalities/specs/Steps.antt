@@ -14,6 +14,7 @@ use Rattle.walks.specs.declared.Machine.{Machine}
 use Rattle.loops.specs.Loops.{Stage, Loops}
 use Rattle.powers.specs.Powers.{BLOCKS, snippetAt, Powers}
 use Rattle.pairs.specs.Settled.{Marked}
+use Rattle.groups.specs.Groups.{Enough}
 
 -- ── Rows without snippets ──
 -- the first k words from an offset on become 0
@@ -38,16 +39,17 @@ abbrev pub Empty : ℕ → ℕ → List ℕ → Type 0
 Empty n b p = (k y i : ℕ) → k < b → y < n → i < 16 → getD p (snippetAt n k y + i) 0 ≡ 0
 
 -- ── Before the snippets ──
--- a comparison of two paths on a tree, with its loops and its powers
+-- a comparison of two paths on a tree, with its loops and its powers, which are enough
 pub record Founded (P R : XPath) (t : Tree) (m : Machine) (n b : ℕ) (p : List ℕ) : Type 0 where
   pub stage : Stage P R t m n p
   pub loops : Loops P R t n p
   pub powers : Powers P R t n p b
+  pub enough : Enough t b
 
 -- these are found, and there are no snippets yet
 pub record Prepares (m : Machine) (n b : ℕ) (p p′ : List ℕ) : Type 0 where
   pub long : length p′ ≡ length p
-  pub founded : (P R : XPath) (t : Tree) → Stage P R t m n p → Founded P R t m n b p′
+  pub founded : (P R : XPath) (t : Tree) → Stage P R t m n p → Enough t b → Founded P R t m n b p′
   pub empty : Empty n b p′
 
 -- ── The snippets ──

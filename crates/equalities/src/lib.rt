@@ -10,13 +10,14 @@ use pairs::settle;
 use powers::find_powers;
 use skeletons::buckets::buckets;
 use walks::Machine;
-ghost use Prim.Native.Nat.{_+_, _*_, _^_, _≤_, _<_};
+ghost use Prim.Native.Nat.{_+_, _*_, _≤_, _<_};
 ghost use lib.ListN.{length};
 ghost use Rattle.xpath.specs.Syntax.{XPath};
 ghost use Rattle.xpath.specs.Tree.{Tree};
 ghost use Rattle.loops.specs.Loops.{Stage};
 ghost use Rattle.powers.specs.Powers.{BLOCKS};
-ghost use Rattle.groups.specs.Groups.{Sizes};
+ghost use Rattle.skeletons.specs.Shape.{Shape};
+ghost use Rattle.groups.specs.Groups.{Enough, Sizes};
 ghost use Rattle.equalities.specs.Equalities.{Evaluated};
 ghost use Rattle.equalities.specs.Steps.{Empty, Founded, Prepares, Gathers};
 
@@ -32,7 +33,7 @@ fn prepare(p: &mut [u16], n: usize, b: usize, m: Machine)
 
 // All snippets, and how many there are: those that the first snippets of each value yield, and then their halves.
 fn gather(p: &mut [u16], n: usize, b: usize, m: Machine) -> usize
-    requires { ⌜ ((P R : XPath) × (t : Tree) × Founded P R t m n b (now p)) × Empty n b (now p) × Sizes n b (now p) ⌝ }
+    requires { ⌜ ((P R : XPath) × (t : Tree) × Founded P R t m n b (now p)) × (0 < b) × Empty n b (now p) × Sizes n b (now p) ⌝ }
     ensures { λ r. ⌜ Gathers m n b (now (p .entry)) (now (p .exit)) r ⌝ }
 {
     buckets(p, n);
@@ -43,7 +44,7 @@ fn gather(p: &mut [u16], n: usize, b: usize, m: Machine) -> usize
 
 // The number of snippets is handed back; the answers stand in the first column.
 pub fn compare_equal(p: &mut [u16], n: usize, b: usize, m: Machine) -> usize
-    requires { ⌜ ((P R : XPath) × (t : Tree) × Stage P R t m n (now p)) × (0 < n) × (n ≤ 4096) × (n < 2 ^ b) × (b ≤ 13) × ((BLOCKS + 64 * b) * n ≤ length (now p)) ⌝ }
+    requires { ⌜ ((P R : XPath) × (t : Tree) × Stage P R t m n (now p)) × ((t : Tree) → Shape t n (now p) → Enough t b) × (0 < n) × (n ≤ 4096) × (0 < b) × (b ≤ 13) × ((BLOCKS + 64 * b) * n ≤ length (now p)) ⌝ }
     ensures { λ r. ⌜ Evaluated m n (now (p .entry)) (now (p .exit)) r ⌝ }
 {
     prepare(p, n, b, m);

@@ -1,5 +1,6 @@
 // The two evaluators of a comparison behind one name: the driver does not know which of them runs.
 use equalities::compare_equal;
+use levels::levels;
 use limits::Document;
 use parts::kinds::Operator;
 use walks::Machine;
@@ -25,14 +26,15 @@ fn by_walks(p: &mut [u16], n: usize, m: Machine, o: Operator) -> usize
     0
 }
 
-// An equality by its snippets, and any other sign backwards from the ends.
+// An equality by its snippets, with as many powers as its ways ask for; any other sign backwards from the ends.
 fn by_snippets(p: &mut [u16], n: usize, m: Machine, o: Operator) -> usize
     requires { ⌜ Staged m n (now p) × PartRoom n (now p) ⌝ }
     ensures { λ r. ⌜ ((P R : XPath) (t : Tree) (q : Op) → Stage P R t m n (now (p .entry)) → o ≡ operator q → Compared Snippets t q P R n (now (p .entry)) (now (p .exit)) r) ⌝ }
 {
     match o {
         Operator::Equal => {
-            let b = Document::digits(n);
+            let r = levels(p, n);
+            let b = Document::digits(r);
             compare_equal(p, n, b, m)
         }
         _ => {

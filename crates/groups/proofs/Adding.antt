@@ -34,7 +34,7 @@ pub given-marked : {m : Machine} {n b r : ℕ} {p p₁ : List ℕ} → Grounds m
 given-marked {n = n} {b} {p = p} {p₁} s g =
     let o = s .base in
     let h : Rest MARKED n b p p₁ = rest-within (omega arith) (g .within) in
-    record { first = o .first; second = o .second; tree = o .tree; value = s .value; setting = marked-setting g (o .stage) (o .loops) (o .powers) (s .ranks); sizes = sizes-rest h (o .sizes) }
+    record { first = o .first; second = o .second; tree = o .tree; value = s .value; setting = marked-setting g (o .stage) (o .loops) (o .powers) (s .ranks); enough = o .enough; sizes = sizes-rest h (o .sizes) }
 
 -- each edge is that above its lower node
 edges-direct : (P R : XPath) (t : Tree) (d : List ℕ) → WellFormed t → {n : ℕ} → t .size ≡ n → (k a y i j : ℕ) → ((z : ℕ) × (z < n) × Yields P R t d z k a y i j) ↔ Direct t P R d k a y i j
@@ -84,6 +84,7 @@ base-by h l buckets s = record {
   loops = loops-rest h (s .loops);
   powers = powers-rest h (s .powers);
   buckets = buckets;
+  enough = s .enough;
   sizes = sizes-rest h (s .sizes);
 }
 

@@ -253,10 +253,9 @@ placed-stretch {n} {b} {r} {v} {x} {l} {c} {p} s a node = go (a .arrives (s .tre
     go : Arrives (s .tree) (s .value) v x l c → Stretch n b v l p
     go (inr (e, top)) = let f = s .sizes .few in absurd (omega arith)
     go (inl (e, (side, child, under))) =
-        let h = down-le (s .tree) (s .ladder .formed) (e .far) in
         let q = skeleton-inside (s .tree) (s .value) (s .ladder .formed) v (s .skeleton) in
         let z = s .group .shape .size in
-        let o = s .sizes .enough in
+        let o = s .enough x v l (e .far) in
         record {
           first = s .first;
           second = s .second;
@@ -320,12 +319,12 @@ module _ {n b r v x l c : ℕ} {p : List ℕ} (s : Placed n b r v p) (a : Ascent
     handed-right e put = handed-to false (λ t d group other child. on-right group node child e) put (within-put (omega arith) (omega arith) node put)
 
 pub given-placed : {m : Machine} {n b r v : ℕ} {p : List ℕ} (g : Given m n b r p) → Skeleton (g .tree) (g .value) v → Placed n b r v p
-given-placed g k = record { first = g .first; second = g .second; tree = g .tree; value = g .value; ladder = ladder-of (g .setting); group = g .setting .group; skeleton = k; sizes = g .sizes }
+given-placed g k = record { first = g .first; second = g .second; tree = g .tree; value = g .value; ladder = ladder-of (g .setting); group = g .setting .group; skeleton = k; enough = g .enough; sizes = g .sizes }
 
 pub placed-rest : {m : Machine} {n b r v : ℕ} {p p′ : List ℕ} → Rest 12 n b p p′ → (g : Given m n b r p) → Skeleton (g .tree) (g .value) v → Placed n b r v p′
 placed-rest h g k =
     let s = setting-rest h (g .setting) in
-    record { first = g .first; second = g .second; tree = g .tree; value = g .value; ladder = ladder-of s; group = s .group; skeleton = k; sizes = sizes-rest h (g .sizes) }
+    record { first = g .first; second = g .second; tree = g .tree; value = g .value; ladder = ladder-of s; group = s .group; skeleton = k; enough = g .enough; sizes = sizes-rest h (g .sizes) }
 
 -- ── At or below ──
 pub gathered-found : (P R : XPath) (t : Tree) (d : List ℕ) {m : Machine} {n v : ℕ} {p : List ℕ} (o a q s w : ℕ) → Stage P R t m n p → Skeleton t d v → Sides P R t d n p (suc v)

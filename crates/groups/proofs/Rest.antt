@@ -76,7 +76,7 @@ module _ {c n b : ℕ} {p p′ : List ℕ} (h : Rest c n b p p′) where
   same-word a v l r = let y : suc a * n ≤ c * n = mul-le-mul-right n l in h .front (a * n + v) (omega arith)
 
   pub sizes-rest : Sizes n b p → Sizes n b p′
-  sizes-rest s = let r = s .room in let l = h .long in record { few = s .few; low = s .low; enough = s .enough; room = omega arith }
+  sizes-rest s = let r = s .room in let l = h .long in record { few = s .few; low = s .low; room = omega arith }
 
   pub loops-rest : {P R : XPath} {t : Tree} → Loops P R t n p → Loops P R t n p′
   loops-rest {P} {R} {t} f v i j r l q = subst (λ (w : ℕ). (bit w j ≡ true) ↔ Comes P R t i v j v) (sym (h .behind (16 * n + 16 * v + i) (omega arith) (loop-aside (16 * n + 16 * v + i) (omega arith)))) (f v i j r l q)
@@ -131,7 +131,7 @@ setting-rest {t = t} {d} {n = n} {p′ = p′} h s =
     }
 
 pub given-rest : {m : Machine} {n b r : ℕ} {p p′ : List ℕ} → Rest 12 n b p p′ → Given m n b r p → Given m n b r p′
-given-rest h g = record { first = g .first; second = g .second; tree = g .tree; value = g .value; setting = setting-rest h (g .setting); sizes = sizes-rest h (g .sizes) }
+given-rest h g = record { first = g .first; second = g .second; tree = g .tree; value = g .value; setting = setting-rest h (g .setting); enough = g .enough; sizes = sizes-rest h (g .sizes) }
 
 pub ladder-of : {P R : XPath} {t : Tree} {d : List ℕ} {m : Machine} {n b r : ℕ} {p : List ℕ} → Setting P R t d m n b r p → Ladder P R t n b p
 ladder-of s = record { formed = s .stage .formed; few = s .stage .machine .few; loops = s .loops; powers = s .powers }

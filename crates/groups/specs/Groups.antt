@@ -56,11 +56,14 @@ pub record Setting (P R : XPath) (t : Tree) (d : List ℕ) (m : Machine) (n b r 
   pub powers : Powers P R t n p b
   pub group : Group t d n r p
 
--- there is room for the powers below b, which are enough for n nodes
+-- the powers below b are enough for every way down the tree
+abbrev pub Enough : Tree → ℕ → Type 0
+Enough t b = (x y l : ℕ) → Down t x y l → l < 2 ^ b
+
+-- there is room for the powers below b
 pub record Sizes (n b : ℕ) (p : List ℕ) : Type 0 where
   pub few : n ≤ 4096
   pub low : b ≤ 13
-  pub enough : n < 2 ^ b
   pub room : (BLOCKS + 64 * b) * n ≤ length p
 
 -- some comparison and some value are given
@@ -70,6 +73,7 @@ pub record Given (m : Machine) (n b r : ℕ) (p : List ℕ) : Type 0 where
   pub tree : Tree
   pub value : List ℕ
   pub setting : Setting first second tree value m n b r p
+  pub enough : Enough tree b
   pub sizes : Sizes n b p
 
 -- the members of w are the positions of the first path
@@ -128,6 +132,7 @@ pub record Base (m : Machine) (n b : ℕ) (p : List ℕ) : Type 0 where
   pub loops : Loops first second tree n p
   pub powers : Powers first second tree n p b
   pub buckets : Buckets n p
+  pub enough : Enough tree b
   pub sizes : Sizes n b p
 
 -- and the rank r is that of some value

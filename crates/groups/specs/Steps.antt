@@ -17,7 +17,7 @@ use Rattle.powers.specs.Ladder.{Ladder}
 use Rattle.loops.specs.Loops.{Stage, Loops}
 use Rattle.skeletons.specs.Shape.{Within}
 use Rattle.skeletons.specs.Skeletons.{IsNoted, Group}
-use Rattle.groups.specs.Groups.{LIST, IN, LEFTIN, ABOVE, inward, Exactly, Setting, Sizes, OfFirst, Rest, Gains, OfEdge, Yields, Sides, Risen, Sunk}
+use Rattle.groups.specs.Groups.{LIST, IN, LEFTIN, ABOVE, inward, Exactly, Setting, Enough, Sizes, OfFirst, Rest, Gains, OfEdge, Yields, Sides, Risen, Sunk}
 
 -- ── Rows ──
 -- one of the two is a position of the first path, and the other is none
@@ -45,6 +45,7 @@ pub record Placed (n b r v : ℕ) (p : List ℕ) : Type 0 where
   pub ladder : Ladder first second tree n b p
   pub group : Group tree value n r p
   pub skeleton : Skeleton tree value v
+  pub enough : Enough tree b
   pub sizes : Sizes n b p
 
 -- the words of the two columns are 0, for the nodes below v whose block is noted

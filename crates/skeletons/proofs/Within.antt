@@ -1,6 +1,6 @@
 -- Laws of what may change: columns from one up to another.
 use Prim.Native.Nat.{ℕ, suc, _*_, _≤_, _<_}
-use mathlib.Core.Path.{_≡_, refl, _∙_}
+use mathlib.Core.Path.{_≡_, refl, sym, _∙_}
 use mathlib.Core.List.{List, [], _∷_}
 use native.Mathlib.Nat.{mul-le-mul-right}
 use native.Mathlib.Omega.{arith}
@@ -12,6 +12,9 @@ within-none n c d p = record { long = refl; front = λ k h. refl; behind = λ k 
 
 pub within-then : {n c d : ℕ} {p p₁ p₂ : List ℕ} → Within n c d p p₁ → Within n c d p₁ p₂ → Within n c d p p₂
 within-then g h = record { long = h .long ∙ g .long; front = λ k r. h .front k r ∙ g .front k r; behind = λ k r. h .behind k r ∙ g .behind k r }
+
+pub within-back : {n c d : ℕ} {p p′ : List ℕ} → Within n c d p p′ → Within n c d p′ p
+within-back h = record { long = sym (h .long); front = λ k r. sym (h .front k r); behind = λ k r. sym (h .behind k r) }
 
 -- fewer columns are within more
 pub within-more : {n c d a b : ℕ} {p p′ : List ℕ} → a ≤ c → d ≤ b → Within n c d p p′ → Within n a b p p′

@@ -10,7 +10,7 @@ buckets-requires c κs = search needs
 add-groups-requires : tie.Need-add-groups-requires
 add-groups-requires c κs =
     let s = c .before .before .before .before .before .before .pre in
-    bucketed-base (c .before .before .before .buckets .ensures) (s .0) (s .2)
+    bucketed-base (c .before .before .before .buckets .ensures) (s .0) (s .3)
 
 halve-requires : tie.Need-halve-requires
 halve-requires c κs = search needs
@@ -24,7 +24,7 @@ same-length c = search needs
 returns : tie.Need-returns
 returns c =
     let s = c .before .before .before .before .before .before .before .before .before .before .before .before .before .before .before .pre in
-    gathered (c .before .before .before .before .before .before .before .before .before .before .before .before .buckets .ensures) (s .2 .enough) (s .1) (c .before .before .before .before .before .before .before .before .add-groups .ensures) (c .before .before .before .before .halve .ensures) (c .count .ensures)
+    gathered (c .before .before .before .before .before .before .before .before .before .before .before .before .buckets .ensures) (s .1) (s .2) (c .before .before .before .before .before .before .before .before .add-groups .ensures) (c .before .before .before .before .halve .ensures) (c .count .ensures)
 
 pub gather-spec : {M : Type 1} → statement M
 gather-spec =

@@ -1,9 +1,11 @@
 -- `evaluators::by_snippets` meets its contract.
 use mathlib.Core.Path.{sym, _∙_}
+use native.Mathlib.Omega.{arith}
 use Rattle.backward.proofs.Linked.{linked-drawn}
+use Rattle.skeletons.proofs.Shape.{drawn-shape}
 use Rattle.plain.proofs.Signs.{other-sign}
-use Rattle.evaluators.proofs.Staging.{stage-some, stage-space, stage-second}
-use Rattle.evaluators.proofs.Snippeting.{digits-asked, equal-compared, other-compared}
+use Rattle.evaluators.proofs.Staging.{stage-space, stage-second}
+use Rattle.evaluators.proofs.Snippeting.{stage-levelled, digits-asked, equal-compared, other-compared}
 use borrow.Author.Needs.{needs}
 use Rattle.evaluators.proofs.by_snippets.Statement.{statement}
 use Rattle.evaluators.proofs.by_snippets.Tie as tie
@@ -11,11 +13,17 @@ use Rattle.evaluators.proofs.by_snippets.Tie as tie
 enum-told : tie.Need-enum-told
 enum-told c = search needs
 
+levels-requires : tie.Need-levels-requires
+levels-requires c κs = let x = c .before .before .before .before .pre in let h = x .0 .3 in let s = stage-space h (x .1) .room in ((x .0 .2, drawn-shape (h .formed) (h .drawn)), omega arith)
+
 digits-requires : tie.Need-digits-requires
-digits-requires c κs = let h = c .before .before .before .pre .0 .3 in (stage-some h, h .drawn .few)
+digits-requires c κs = search needs
 
 compare-equal-requires : tie.Need-compare-equal-requires
-compare-equal-requires c κs = let x = c .before .before .before .before .before .pre in let d = digits-asked (x .0 .3) (c .before .digits .ensures) (x .1) in (x .0, d .0, d .1, d .2, d .3, d .4)
+compare-equal-requires c κs =
+    let x = c .before .before .before .before .before .before .before .before .before .pre in let l = c .before .before .before .before .levels .ensures in
+    let d = digits-asked (x .0 .3) l (c .before .digits .ensures) (x .1) in
+    ((x .0 .0, x .0 .1, x .0 .2, stage-levelled (x .0 .3) l), d .0, d .1, d .2, d .3, d .4, d .5)
 
 compare-order-requires : tie.Need-compare-order-requires
 compare-order-requires c κs = let x = c .before .before .before .pre in let h = x .0 .3 in (stage-space h (x .1), h .drawn .small, stage-second h, linked-drawn (h .drawn))
@@ -24,7 +32,7 @@ same-length : tie.Need-same-length
 same-length c = search needs
 
 returns : tie.Need-returns
-returns c P R t q stage e = equal-compared stage q (sym (c .before .before .before .before .before .enum-told .given .1) ∙ e) (c .before .before .compare-equal .ensures)
+returns c P R t q stage e = equal-compared stage (c .before .before .before .before .before .before .before .levels .ensures) q (sym (c .before .before .before .before .before .before .before .before .before .enum-told .given .1) ∙ e) (c .before .before .compare-equal .ensures)
 
 same-length-2 : tie.Need-same-length-2
 same-length-2 c = search needs
@@ -37,6 +45,7 @@ by-snippets-spec =
     tie.close
     (tie.spec
     enum-told
+    levels-requires
     digits-requires
     compare-equal-requires
     compare-order-requires

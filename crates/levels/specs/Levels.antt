@@ -1,0 +1,16 @@
+-- The levels of the tree in a comparison's part.
+use Prim.Native.Nat.{ℕ, suc, _≤_, _<_}
+use mathlib.Core.List.{List}
+use Rattle.xpath.specs.Tree.{Tree, Down}
+use Rattle.skeletons.specs.Shape.{Shape, Within}
+
+-- a node's level: 1 for the root, and else one more than that of the parent
+abbrev pub LEVEL : ℕ
+LEVEL = 8
+
+-- every way down the tree has fewer than r edges, and there are r nodes at least; no other column has changed
+pub record Levelled (n : ℕ) (p p′ : List ℕ) (r : ℕ) : Type 0 where
+  pub within : Within n LEVEL (suc LEVEL) p p′
+  pub some : 0 < r
+  pub few : r ≤ n
+  pub ways : (t : Tree) → Shape t n p → (x y l : ℕ) → Down t x y l → l < r

@@ -1,0 +1,52 @@
+// How many levels the tree in a comparison's part has: one more than the edges of its longest way down.
+use links::table::get;
+use links::table::parent;
+use links::table::put;
+ghost use mathlib.Core.List.{[], _∷_};
+ghost use mathlib.Core.Logic.{_⊎_};
+ghost use mathlib.Core.Path.{_≡_};
+ghost use Prim.Native.Nat.{suc, _≤_, _<_};
+ghost use Rattle.xpath.specs.Tree.{Tree};
+ghost use Rattle.links.specs.Table.{PARENT, cell, word, Room, Wrote};
+ghost use Rattle.skeletons.specs.Shape.{Shape};
+ghost use Rattle.levels.specs.Levels.{LEVEL, Levelled};
+
+// A node's level, in the column before those of the groups.
+const LEVEL: usize = 8;
+
+// Node `v` lies one level below its parent, whose level is known. Its own level is handed back.
+fn enter(p: &mut [u16], n: usize, v: usize) -> usize
+    requires { ⌜ Room n (now p) × (v < n) × (word (now p) n PARENT v < n) × (word (now p) n LEVEL (word (now p) n PARENT v) < 65535) ⌝ }
+    ensures { λ r. ⌜ (r ≡ suc (word (now (p .entry)) n LEVEL (word (now (p .entry)) n PARENT v))) × Wrote ((cell n LEVEL v, r) ∷ []) (now (p .entry)) (now (p .exit)) ⌝ }
+{
+    let u = parent(p, n, v);
+    let l = get(p, n, LEVEL, u) + 1;
+    put(p, n, LEVEL, v, l);
+    l
+}
+
+// The greater one of two numbers.
+fn greater(a: usize, b: usize) -> usize
+    ensures { λ r. ⌜ (a ≤ r) × (b ≤ r) × ((r ≡ a) ⊎ (r ≡ b)) ⌝ }
+{
+    if a < b {
+        return b;
+    }
+    a
+}
+
+// The root is on level 1. A parent has a smaller number than its children, so one pass over the nodes in order does.
+pub fn levels(p: &mut [u16], n: usize) -> usize
+    requires { ⌜ ((t : Tree) × Shape t n (now p)) × Room n (now p) ⌝ }
+    ensures { λ r. ⌜ Levelled n (now (p .entry)) (now (p .exit)) r ⌝ }
+{
+    put(p, n, LEVEL, 0, 1);
+    let mut r = 1;
+    let mut v = 1;
+    while v < n {
+        let l = enter(p, n, v);
+        r = greater(r, l);
+        v += 1;
+    }
+    r
+}
