@@ -87,11 +87,12 @@ fn compare_values(s: &[u8], x: Value, y: Value) -> Order
     compare(s, x.reading, y.reading)
 }
 
-// 1 if the value `y` of some node is smaller than the value `x` of another.
-pub fn one_if_smaller(s: &[u8], x: Value, y: Value) -> usize
-    requires { ⌜ ((ns : List Library.Node) × (v w : ℕ) × IsValue (now s) ns v x × IsValue (now s) ns w y) ⌝ }
-    ensures { λ r. ⌜ (r ≤ 1) × ((ns : List Library.Node) (v w : ℕ) → IsValue (now (s .entry)) ns v x → IsValue (now (s .entry)) ns w y → r ≡ one (isSmaller ns v w)) ⌝ }
+// 1 if node `w` has a smaller value than the node whose value is `x`.
+pub fn one_if_smaller(s: &[u8], t: &[u16], n: usize, x: Value, w: usize) -> usize
+    requires { ⌜ Marked (now s) n 0 (now t) × (w < n) × ((ns : List Library.Node) × (v : ℕ) × IsValue (now s) ns v x) ⌝ }
+    ensures { λ r. ⌜ (r ≤ 1) × ((ns : List Library.Node) (v : ℕ) → IsValue (now (s .entry)) ns v x → r ≡ one (isSmaller ns v w)) ⌝ }
 {
+    let y = value_of(t, n, w);
     let o = compare_values(s, y, x);
     match o {
         Order::Less => 1,
