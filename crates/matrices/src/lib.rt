@@ -93,11 +93,14 @@ pub fn is_empty(p: &[u16], at: usize) -> bool
     all == 0
 }
 
-// The number of pairs.
+// The number of pairs. The rows are counted one by one only where there are any.
 pub fn size(p: &[u16], at: usize) -> usize
     requires { ⌜ at + 16 ≤ length (now p) ⌝ }
     ensures { λ r. ⌜ r ≡ pairs (now (p .entry)) at 16 ⌝ }
 {
+    if is_empty(p, at) {
+        return 0;
+    }
     let mut r: usize = 0;
     let mut i: usize = 0;
     while i < 16 {

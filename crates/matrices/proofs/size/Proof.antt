@@ -6,7 +6,7 @@ use lib.ListN.{getD}
 use Rattle.bits.specs.Sets.{size}
 use Rattle.bits.proofs.SetLaws.{size-le}
 use Rattle.matrices.specs.Matrices.{pairs}
-use Rattle.matrices.proofs.Pairs.{pairs-more, pairs-le}
+use Rattle.matrices.proofs.Pairs.{pairs-more, pairs-le, pairs-none}
 use Rattle.matrices.proofs.size.Statement.{statement}
 use Rattle.matrices.proofs.size.Tie as tie
 
@@ -15,6 +15,12 @@ Inv-loop p at r₀ i₀ r i = (i ≤ 16) × (r ≡ pairs p at i)
 
 abbrev μ-loop : tie.MeasureT-loop
 μ-loop p at r₀ i₀ r i = 16 - i
+
+is-empty-requires : tie.Need-is-empty-requires Inv-loop μ-loop
+is-empty-requires c κs = c .before .pre
+
+returns : tie.Need-returns Inv-loop μ-loop
+returns c = let x = c .before .before .before .args in sym (pairs-none (x .p .now) (x .at) 16 (c .before .is-empty .ensures (c .if1 .taken)))
 
 loop-holds : tie.Need-loop-holds Inv-loop μ-loop
 unfolding pairs
@@ -38,7 +44,7 @@ cast-r c = omega arith
 add-r : tie.Need-add-r Inv-loop μ-loop
 add-r c =
     let l = c .before .before .before .loop .inv in
-    let n = c .before .before .before .before .before .args in
+    let n = c .before .before .before .before .before .before .before .args in
     let i = c .before .before .before .loop .i in
     let b = pairs-le (n .p .now) (n .at) i in
     let s = size-le 16 (getD (n .p .now) (n .at + i) 0) in
@@ -53,12 +59,12 @@ loop-less c = omega arith
 loop-again : tie.Need-loop-again Inv-loop μ-loop
 loop-again c =
     let l = c .before .before .before .loop .inv in
-    let n = c .before .before .before .before .before .args in
+    let n = c .before .before .before .before .before .before .before .args in
     let i = c .before .before .before .loop .i in
     (omega arith, ap (λ x. x + c .count .result) (l .1) ∙ ap (λ x. pairs (n .p .now) (n .at) i + x) (c .count .ensures) ∙ sym (pairs-more (n .p .now) (n .at) i))
 
-returns : tie.Need-returns Inv-loop μ-loop
-returns c = let e : c .before .loop .i ≡ 16 = omega arith in c .before .loop .inv .1 ∙ ap (pairs _ _) e
+returns-2 : tie.Need-returns-2 Inv-loop μ-loop
+returns-2 c = let e : c .before .loop .i ≡ 16 = omega arith in c .before .loop .inv .1 ∙ ap (pairs _ _) e
 
 pub size-spec : {M : Type 1} → statement M
 size-spec =
@@ -66,6 +72,8 @@ size-spec =
     (tie.spec
     Inv-loop
     μ-loop
+    is-empty-requires
+    returns
     loop-holds
     add-count
     mul-count
@@ -76,4 +84,4 @@ size-spec =
     add-i
     loop-less
     loop-again
-    returns)
+    returns-2)
