@@ -1,6 +1,6 @@
 -- The leading zeros of a number of a width leave its binary digits.
 use Prim.Native.Nat.{ℕ, zero, suc, _+_, _/_, _%_, _^_, _<_}
-use mathlib.Core.Path.{_≡_, sym, ap, _∙_}
+use mathlib.Core.Path.{_≡_, refl, sym, ap, _∙_}
 use mathlib.Core.List.{[], _∷_}
 use lib.ListN.{length, length-append}
 use lib.Count.{leadingZeros, leading-of-zero}
@@ -8,8 +8,14 @@ use lib.Dec.{lit<}
 use native.Mathlib.Omega.{arith}
 use native.Mathlib.Nat.{div-add-mod'}
 use native.Mathlib.Decide.{decLt}
-use Rattle.lists.specs.Text.{digits, binaryDigits}
+use Rattle.lists.specs.Text.{digits, digitsBy, binaryDigits}
 use Rattle.lists.proofs.Numerals.{digits-one, digits-more}
+use Rattle.limits.specs.Limits.{documentNodes, nodeDigits}
+
+-- the most nodes have the most digits
+pub node-digits : binaryDigits documentNodes ≡ nodeDigits
+unfolding binaryDigits digits digitsBy
+node-digits = refl
 
 half-digits : (n : ℕ) → 1 < n → binaryDigits n ≡ suc (binaryDigits (n / 2))
 unfolding binaryDigits

@@ -2,7 +2,7 @@
 ghost use mathlib.Core.Path.{_≡_};
 ghost use Prim.Native.Nat.{_<_, _≤_};
 ghost use Rattle.lists.specs.Text.{binaryDigits};
-ghost use Rattle.limits.specs.Limits.{documentNodes, scratchWords};
+ghost use Rattle.limits.specs.Limits.{documentBytes, documentNodes, countDigits, depthDigits, labelBytes, valueBytes, ruleBytes, ruleTests, ruleNesting, comparisonSteps, positions, constantBytes, wordsPerDigit, wordsPerNode, wordValues, noNode, scratchWords, programInput, programWords, programMarks};
 
 pub struct Document {
     pub nodes: usize,
@@ -16,10 +16,19 @@ pub struct Scratch {
     pub words: usize,
 }
 
+pub struct Program {
+    pub input: usize,
+}
+
 impl Document {
     pub const MAX_BYTES: usize = 1_048_576;
 
     pub const MAX_NODES: usize = 4096;
+
+    // The digits of N, and of a depth.
+    pub const MAX_COUNT_DIGITS: usize = 5;
+
+    pub const MAX_DEPTH_DIGITS: usize = 4;
 
     pub const MAX_LABEL: usize = 16;
 
@@ -43,6 +52,9 @@ impl Rule {
 
     pub const MAX_STEPS: usize = 14;
 
+    // The steps and the two starts of a comparison.
+    pub const MAX_POSITIONS: usize = Rule::MAX_STEPS + 2;
+
     pub const MAX_CONSTANT: usize = 32;
 }
 
@@ -50,6 +62,12 @@ impl Scratch {
     pub const WORDS_PER_DIGIT: usize = 64;
 
     pub const WORDS_PER_NODE: usize = 128;
+
+    // How many values a word of the scratch can have: it has 16 bits.
+    pub const WORD_VALUES: usize = 65536;
+
+    // The word that stands for no node.
+    pub const NO_NODE: usize = Scratch::WORD_VALUES - 1;
 
     // The words that a document of so many nodes needs.
     pub fn needed(nodes: usize) -> usize
@@ -60,3 +78,43 @@ impl Scratch {
         nodes * (Scratch::WORDS_PER_DIGIT * b + Scratch::WORDS_PER_NODE)
     }
 }
+
+impl Program {
+    pub const MAX_INPUT: usize = 65536;
+
+    pub const WORDS: usize = 32768;
+
+    pub const MARKS: usize = 4096;
+}
+
+// The constants are the limits that the definitions name: each is tied to its own.
+fn document_agrees()
+    ensures { λ _. do ⌜ (← ⟦Document::MAX_BYTES⟧ .entry) ≡ documentBytes ⌝ }
+    ensures { λ _. do ⌜ (← ⟦Document::MAX_NODES⟧ .entry) ≡ documentNodes ⌝ }
+    ensures { λ _. do ⌜ (← ⟦Document::MAX_COUNT_DIGITS⟧ .entry) ≡ countDigits ⌝ }
+    ensures { λ _. do ⌜ (← ⟦Document::MAX_DEPTH_DIGITS⟧ .entry) ≡ depthDigits ⌝ }
+    ensures { λ _. do ⌜ (← ⟦Document::MAX_LABEL⟧ .entry) ≡ labelBytes ⌝ }
+    ensures { λ _. do ⌜ (← ⟦Document::MAX_VALUE⟧ .entry) ≡ valueBytes ⌝ }
+{}
+
+fn rule_agrees()
+    ensures { λ _. do ⌜ (← ⟦Rule::MAX_BYTES⟧ .entry) ≡ ruleBytes ⌝ }
+    ensures { λ _. do ⌜ (← ⟦Rule::MAX_TESTS⟧ .entry) ≡ ruleTests ⌝ }
+    ensures { λ _. do ⌜ (← ⟦Rule::MAX_NESTING⟧ .entry) ≡ ruleNesting ⌝ }
+    ensures { λ _. do ⌜ (← ⟦Rule::MAX_STEPS⟧ .entry) ≡ comparisonSteps ⌝ }
+    ensures { λ _. do ⌜ (← ⟦Rule::MAX_POSITIONS⟧ .entry) ≡ positions ⌝ }
+    ensures { λ _. do ⌜ (← ⟦Rule::MAX_CONSTANT⟧ .entry) ≡ constantBytes ⌝ }
+{}
+
+fn scratch_agrees()
+    ensures { λ _. do ⌜ (← ⟦Scratch::WORDS_PER_DIGIT⟧ .entry) ≡ wordsPerDigit ⌝ }
+    ensures { λ _. do ⌜ (← ⟦Scratch::WORDS_PER_NODE⟧ .entry) ≡ wordsPerNode ⌝ }
+    ensures { λ _. do ⌜ (← ⟦Scratch::WORD_VALUES⟧ .entry) ≡ wordValues ⌝ }
+    ensures { λ _. do ⌜ (← ⟦Scratch::NO_NODE⟧ .entry) ≡ noNode ⌝ }
+{}
+
+fn program_agrees()
+    ensures { λ _. do ⌜ (← ⟦Program::MAX_INPUT⟧ .entry) ≡ programInput ⌝ }
+    ensures { λ _. do ⌜ (← ⟦Program::WORDS⟧ .entry) ≡ programWords ⌝ }
+    ensures { λ _. do ⌜ (← ⟦Program::MARKS⟧ .entry) ≡ programMarks ⌝ }
+{}
