@@ -5,6 +5,7 @@ use mathlib.Core.Logic.{_⊎_}
 use mathlib.Core.Bool.{true}
 use mathlib.Core.List.{List}
 use lib.ListN.{length, getD}
+use Rattle.limits.specs.Limits.{positions}
 use Rattle.bits.specs.Sets.{bit}
 use Rattle.links.specs.Table.{LEFT, RIGHT, PARENT, word}
 use Rattle.walks.specs.declared.Machine.{Machine}
@@ -34,7 +35,7 @@ pub record Filled (n c x v : ℕ) (p p′ : List ℕ) : Type 0 where
 -- ── Sets of positions ──
 -- two sets have a member in common
 abbrev pub Common : ℕ → ℕ → Type 0
-Common a b = (j : ℕ) × (j < 16) × (bit a j ≡ true) × (bit b j ≡ true)
+Common a b = (j : ℕ) × (j < positions) × (bit a j ≡ true) × (bit b j ≡ true)
 
 -- a member of w follows i
 abbrev pub Precedes : List ℕ → ℕ → ℕ → Type 0
@@ -42,12 +43,12 @@ Precedes rows w i = Common (getD rows i 0) w
 
 -- a position of both sets follows i
 abbrev pub Sources : List ℕ → ℕ → ℕ → ℕ → Type 0
-Sources rows s steps i = (j : ℕ) × (j < 16) × (bit s j ≡ true) × (bit steps j ≡ true) × (bit (getD rows i 0) j ≡ true)
+Sources rows s steps i = (j : ℕ) × (j < positions) × (bit s j ≡ true) × (bit steps j ≡ true) × (bit (getD rows i 0) j ≡ true)
 
 -- ── The list ──
 -- no position of a node is in two of the len entries
 abbrev pub Once : ℕ → ℕ → List ℕ → Type 0
-Once n len p = (k l j : ℕ) → k < len → l < len → j < 16 → nodeOf p n k ≡ nodeOf p n l → Has p n k j → Has p n l j → k ≡ l
+Once n len p = (k l j : ℕ) → k < len → l < len → j < positions → nodeOf p n k ≡ nodeOf p n l → Has p n k j → Has p n l j → k ≡ l
 
 -- the list has len entries
 pub record Listed (n len : ℕ) (p : List ℕ) : Type 0 where
@@ -83,7 +84,7 @@ module _ (m : Machine) (n : ℕ) (p : List ℕ) where
 
   -- i at v comes to a position of s at u by one step
   abbrev pub Into : ℕ → ℕ → ℕ → ℕ → Type 0
-  Into u s v i = (j : ℕ) × (j < 16) × (bit s j ≡ true) × (bit (getD (m .rows) i 0) j ≡ true) × Leads m n p v j u
+  Into u s v i = (j : ℕ) × (j < positions) × (bit s j ≡ true) × (bit (getD (m .rows) i 0) j ≡ true) × Leads m n p v j u
 
   -- i at v comes to a position of entry k by one step
   abbrev pub Before : ℕ → ℕ → ℕ → Type 0
@@ -91,7 +92,7 @@ module _ (m : Machine) (n : ℕ) (p : List ℕ) where
 
   -- what comes to a seen position by one step is seen
   abbrev pub Closed : Type 0
-  Closed = (v i u j : ℕ) → v < n → i < 16 → u < n → j < 16 → bit (getD (m .rows) i 0) j ≡ true → Leads m n p v j u → Seen p n u j → Seen p n v i
+  Closed = (v i u j : ℕ) → v < n → i < positions → u < n → j < positions → bit (getD (m .rows) i 0) j ≡ true → Leads m n p v j u → Seen p n u j → Seen p n v i
 
   -- i at v walks to a position of the set at w
   abbrev pub Towards : ℕ → ℕ → ℕ → ℕ → Type 0

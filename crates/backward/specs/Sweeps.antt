@@ -5,7 +5,7 @@ use mathlib.Core.Logic.{_⊎_}
 use mathlib.Core.Bool.{Bool, true, false}
 use mathlib.Core.List.{List, [], _∷_}
 use lib.ListN.{length, getD}
-use Rattle.links.specs.Table.{RANK, cell, word, Wrote}
+use Rattle.links.specs.Table.{RANK, cell, word, Wrote, NONE}
 use Rattle.walks.specs.declared.Machine.{Machine}
 use Rattle.walks.specs.Part.{SEEN}
 use Rattle.walks.specs.Walks.{Stops}
@@ -98,7 +98,7 @@ pub record Swept (Order : ℕ → ℕ → Type 0) (blank : ℕ) (key : ℕ → �
 
 -- by rising rank: the least rank, and 65535 where a path ends nowhere
 abbrev pub Risen : Machine → ℕ → List ℕ → List ℕ → Type 0
-Risen m n p p′ = Swept (λ a b. a ≤ b) 65_535 (word p n RANK) m n LEAST p p′
+Risen m n p p′ = Swept (λ a b. a ≤ b) NONE (word p n RANK) m n LEAST p p′
 
 -- by falling rank: one more than the greatest rank, and 0 where a path ends nowhere
 abbrev pub Fallen : Machine → ℕ → List ℕ → List ℕ → Type 0

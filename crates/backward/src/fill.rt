@@ -1,12 +1,13 @@
 // One word all over a column.
 use links::table::put;
 ghost use Prim.Native.Nat.{_<_};
+ghost use Rattle.limits.specs.Limits.{wordValues};
 ghost use Rattle.links.specs.Table.{COLUMNS, Room};
 ghost use Rattle.backward.specs.Backward.{Filled};
 
 // Column `c` of every node becomes `x`.
 pub fn fill(p: &mut [u16], n: usize, c: usize, x: usize)
-    requires { ⌜ (c < COLUMNS) × Room n (now p) × (x < 65536) ⌝ }
+    requires { ⌜ (c < COLUMNS) × Room n (now p) × (x < wordValues) ⌝ }
     ensures { λ _. ⌜ Filled n c x n (now (p .entry)) (now (p .exit)) ⌝ }
 {
     let mut v = 0;

@@ -16,13 +16,14 @@ use constants::spread_hits;
 use fill::fill;
 use order::answer_ordered;
 use parts::kinds::Operator;
-use reach::list::Part;
 use skeletons::buckets::buckets;
 use sweeps::sweep;
 use walks::Machine;
+use walks::Part;
 ghost use mathlib.Core.Logic.{_≢_};
 ghost use mathlib.Core.Path.{_≡_};
 ghost use Prim.Native.Nat.{_<_};
+ghost use Rattle.limits.specs.Limits.{positions};
 ghost use Rattle.xpath.specs.Syntax.{Op, eq};
 ghost use Rattle.parts.specs.Kinds.{operator};
 ghost use Rattle.walks.specs.Part.{Space};
@@ -42,7 +43,7 @@ pub fn compare_constant(p: &mut [u16], n: usize, m: Machine)
 
 // The two paths of a comparison by a sign other than =, which only asks for the least and the greatest rank where each path ends.
 pub fn compare_order(p: &mut [u16], n: usize, m: Machine, o: Operator)
-    requires { ⌜ Space n (now p) × Small n (now p) × (m .second < 16) × LinkedBothWays n (now p) ⌝ }
+    requires { ⌜ Space n (now p) × Small n (now p) × (m .second < positions) × LinkedBothWays n (now p) ⌝ }
     ensures { λ _. ⌜ ((q : Op) → q ≢ eq → o ≡ operator q → Answered n (Meets m n (now (p .entry)) q) (now (p .entry)) (now (p .exit))) ⌝ }
 {
     buckets(p, n);

@@ -1,8 +1,9 @@
 // What is noted of the entries that are new: a word in one of two columns for the start of the first path, in the other for that of the second.
 use bits::has;
 use links::table::put;
-use reach::list::Part;
+use walks::Part;
 ghost use Prim.Native.Nat.{_≤_, _<_};
+ghost use Rattle.limits.specs.Limits.{positions, wordValues};
 ghost use Rattle.links.specs.Table.{COLUMNS, Room};
 ghost use Rattle.reach.specs.Work.{Work};
 ghost use Rattle.backward.specs.Backward.{OfEntry, OfEntries};
@@ -10,7 +11,7 @@ ghost use Rattle.backward.specs.Sweeps.{Paired, PutIf, Notes};
 
 // Column `c` of node `v` becomes `x` if `b` holds.
 fn put_if(p: &mut [u16], n: usize, c: usize, v: usize, b: bool, x: usize)
-    requires { ⌜ (c < COLUMNS) × (v < n) × Room n (now p) × (x < 65536) ⌝ }
+    requires { ⌜ (c < COLUMNS) × (v < n) × Room n (now p) × (x < wordValues) ⌝ }
     ensures { λ _. ⌜ PutIf n c v b x (now (p .entry)) (now (p .exit)) ⌝ }
 {
     if b {
@@ -20,7 +21,7 @@ fn put_if(p: &mut [u16], n: usize, c: usize, v: usize, b: bool, x: usize)
 
 // The word `x` for the starts in entry `h`: the first path's is position 0.
 fn note_entry(p: &mut [u16], n: usize, second: usize, h: usize, len: usize, c: usize, x: usize)
-    requires { ⌜ Work n len (now p) × (h < len) × (second < 16) × Paired c × (x < 65536) ⌝ }
+    requires { ⌜ Work n len (now p) × (h < len) × (second < positions) × Paired c × (x < wordValues) ⌝ }
     ensures { λ _. ⌜ Notes n c x (OfEntry (now (p .entry)) n 0 h) (OfEntry (now (p .entry)) n second h) (now (p .entry)) (now (p .exit)) ⌝ }
 {
     let v = p[Part::NODES * n + h] as usize;
@@ -39,7 +40,7 @@ pub fn note_entries(
     c: usize,
     x: usize,
 )
-    requires { ⌜ Work n len (now p) × (from ≤ len) × (second < 16) × Paired c × (x < 65536) ⌝ }
+    requires { ⌜ Work n len (now p) × (from ≤ len) × (second < positions) × Paired c × (x < wordValues) ⌝ }
     ensures { λ _. ⌜ Notes n c x (OfEntries (now (p .entry)) n 0 from len) (OfEntries (now (p .entry)) n second from len) (now (p .entry)) (now (p .exit)) ⌝ }
 {
     let mut h = from;

@@ -7,6 +7,7 @@ use plain::ranges::Range;
 use plain::ranges::ordered;
 ghost use mathlib.Core.Path.{_≡_};
 ghost use Prim.Native.Nat.{_≤_, _<_};
+ghost use Rattle.limits.specs.Limits.{wordValues};
 ghost use Rattle.links.specs.Table.{Room};
 ghost use Rattle.walks.specs.Part.{Space};
 ghost use Rattle.plain.specs.Plain.{Answered};
@@ -16,7 +17,7 @@ ghost use Rattle.backward.specs.Sweeps.{rangeOf};
 // The range of the first path at node `v` if `i` is 0, and of the second if `i` is 1.
 fn range_at(p: &[u16], n: usize, i: usize, v: usize) -> Range
     requires { ⌜ (i ≤ 1) × (v < n) × Room n (now p) ⌝ }
-    ensures { λ r. ⌜ (r ≡ rangeOf (now (p .entry)) n i v) × (r .least < 65536) ⌝ }
+    ensures { λ r. ⌜ (r ≡ rangeOf (now (p .entry)) n i v) × (r .least < wordValues) ⌝ }
 {
     Range {
         least: get(p, n, Column::LEAST + i, v),

@@ -3,15 +3,17 @@ use crate::list::join;
 use crate::predecessors::predecessors;
 use bits::meet;
 use bits::union;
+use limits::Rule;
 use links::table::Table;
 use links::table::get;
 use reach::expand::if_linked;
-use reach::list::Part;
 use walks::Machine;
+use walks::Part;
 ghost use mathlib.Core.Path.{_≡_};
 ghost use mathlib.Core.Bool.{true};
 ghost use mathlib.Core.Logic.{_↔_};
 ghost use Prim.Native.Nat.{ℕ, _<_};
+ghost use Rattle.limits.specs.Limits.{positions};
 ghost use Rattle.bits.specs.Sets.{bit};
 ghost use Rattle.walks.specs.Part.{Space};
 ghost use Rattle.backward.specs.Backward.{LinkedBothWays, Descends, Sources, Listed, Joined, Into, Before};
@@ -30,8 +32,8 @@ fn downward(p: &[u16], n: usize, m: Machine, v: usize, u: usize) -> u16
 }
 
 // The positions that one of `s` follows which is one of `steps` too. Mostly there is none, and then no row is looked at.
-fn sources(rows: [u16; 16], s: u16, steps: u16) -> u16
-    ensures { λ r. ⌜ ((i : ℕ) → i < 16 → (bit r i ≡ true) ↔ Sources rows s steps i) ⌝ }
+fn sources(rows: [u16; Rule::MAX_POSITIONS], s: u16, steps: u16) -> u16
+    ensures { λ r. ⌜ ((i : ℕ) → i < positions → (bit r i ≡ true) ↔ Sources rows s steps i) ⌝ }
 {
     let w = meet(s, steps);
     if w == 0 {

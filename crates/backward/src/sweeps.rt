@@ -2,18 +2,21 @@
 use crate::columns::Column;
 use crate::fill::fill;
 use crate::seeds::seed_rank;
-use reach::list::Part;
+use links::table::Table;
 use walks::Machine;
+use walks::Part;
 ghost use Prim.Native.Nat.{_<_};
+ghost use Rattle.limits.specs.Limits.{positions, wordValues};
 ghost use Rattle.walks.specs.Part.{Space};
 ghost use Rattle.plain.specs.Plain.{Small};
+ghost use Rattle.links.specs.Table.{NONE};
 ghost use Rattle.backward.specs.Backward.{LinkedBothWays};
 ghost use Rattle.skeletons.specs.Skeletons.{Buckets};
 ghost use Rattle.backward.specs.Sweeps.{LEAST, ABOVE, Paired, Blank, Blanked, Risen, Fallen, Ranges};
 
 // Nothing is seen, and `x` stands in column `c` and in the next.
 fn blank(p: &mut [u16], n: usize, c: usize, x: usize)
-    requires { ⌜ Space n (now p) × Paired c × (x < 65536) ⌝ }
+    requires { ⌜ Space n (now p) × Paired c × (x < wordValues) ⌝ }
     ensures { λ _. ⌜ Blanked n c x (now (p .entry)) (now (p .exit)) ⌝ }
 {
     fill(p, n, Part::SEEN, 0);
@@ -23,7 +26,7 @@ fn blank(p: &mut [u16], n: usize, c: usize, x: usize)
 
 // The ranks from the least on.
 fn rise(p: &mut [u16], n: usize, m: Machine)
-    requires { ⌜ Blank n LEAST 65535 (now p) × LinkedBothWays n (now p) × Buckets n (now p) × Small n (now p) × (m .second < 16) ⌝ }
+    requires { ⌜ Blank n LEAST NONE (now p) × LinkedBothWays n (now p) × Buckets n (now p) × Small n (now p) × (m .second < positions) ⌝ }
     ensures { λ _. ⌜ Risen m n (now (p .entry)) (now (p .exit)) ⌝ }
 {
     let mut len = 0;
@@ -36,7 +39,7 @@ fn rise(p: &mut [u16], n: usize, m: Machine)
 
 // The ranks from the greatest on. What is noted is one more than a rank.
 fn fall(p: &mut [u16], n: usize, m: Machine)
-    requires { ⌜ Blank n ABOVE 0 (now p) × LinkedBothWays n (now p) × Buckets n (now p) × Small n (now p) × (m .second < 16) ⌝ }
+    requires { ⌜ Blank n ABOVE 0 (now p) × LinkedBothWays n (now p) × Buckets n (now p) × Small n (now p) × (m .second < positions) ⌝ }
     ensures { λ _. ⌜ Fallen m n (now (p .entry)) (now (p .exit)) ⌝ }
 {
     let mut len = 0;
@@ -49,10 +52,10 @@ fn fall(p: &mut [u16], n: usize, m: Machine)
 
 // The ranges of the ranks where the two paths end.
 pub fn sweep(p: &mut [u16], n: usize, m: Machine)
-    requires { ⌜ Space n (now p) × LinkedBothWays n (now p) × Buckets n (now p) × Small n (now p) × (m .second < 16) ⌝ }
+    requires { ⌜ Space n (now p) × LinkedBothWays n (now p) × Buckets n (now p) × Small n (now p) × (m .second < positions) ⌝ }
     ensures { λ _. ⌜ Ranges m n (now (p .entry)) (now (p .exit)) ⌝ }
 {
-    blank(p, n, Column::LEAST, 65535);
+    blank(p, n, Column::LEAST, Table::NONE);
     rise(p, n, m);
     blank(p, n, Column::ABOVE, 0);
     fall(p, n, m);

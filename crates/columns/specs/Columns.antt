@@ -5,6 +5,7 @@ use mathlib.Core.Logic.{_≢_, _↔_}
 use mathlib.Core.Bool.{Bool, true}
 use mathlib.Core.List.{List}
 use lib.ListN.{length, getD}
+use Rattle.limits.specs.Limits.{ruleTests, wordBits}
 use Rattle.bits.specs.Sets.{bit}
 use Rattle.links.specs.Table.{word}
 
@@ -14,13 +15,13 @@ TESTS = 8
 
 -- bit k of node v
 abbrev pub held : List ℕ → ℕ → ℕ → ℕ → Bool
-held t n k v = bit (word t n (TESTS + k / 16) v) (k % 16)
+held t n k v = bit (word t n (TESTS + k / wordBits) v) (k % wordBits)
 
 -- bit k says at each node whether A holds there, and all else is as before
 pub record Settled (n k : ℕ) (A : ℕ → Type 0) (t t′ : List ℕ) : Type 0 where
   pub long : length t′ ≡ length t
   pub done : (v : ℕ) → v < n → (held t′ n k v ≡ true) ↔ A v
-  pub others : (i v : ℕ) → i < 64 → i ≢ k → v < n → held t′ n i v ≡ held t n i v
+  pub others : (i v : ℕ) → i < ruleTests → i ≢ k → v < n → held t′ n i v ≡ held t n i v
   pub front : (i : ℕ) → i < TESTS * n → getD t′ i 0 ≡ getD t i 0
   pub behind : (i : ℕ) → (TESTS + 4) * n ≤ i → getD t′ i 0 ≡ getD t i 0
 
@@ -28,6 +29,6 @@ pub record Settled (n k : ℕ) (A : ℕ → Type 0) (t t′ : List ℕ) : Type 0
 pub record Noted (n k v : ℕ) (b : Bool) (t t′ : List ℕ) : Type 0 where
   pub long : length t′ ≡ length t
   pub here : held t′ n k v ≡ b
-  pub others : (i u : ℕ) → i < 64 → u < n → ¬ ((i ≡ k) × (u ≡ v)) → held t′ n i u ≡ held t n i u
+  pub others : (i u : ℕ) → i < ruleTests → u < n → ¬ ((i ≡ k) × (u ≡ v)) → held t′ n i u ≡ held t n i u
   pub front : (i : ℕ) → i < TESTS * n → getD t′ i 0 ≡ getD t i 0
   pub behind : (i : ℕ) → (TESTS + 4) * n ≤ i → getD t′ i 0 ≡ getD t i 0

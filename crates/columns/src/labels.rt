@@ -9,6 +9,7 @@ ghost use mathlib.Core.Path.{_≡_};
 ghost use Prim.Native.Nat.{_≤_, _<_};
 ghost use lib.ListN.{length};
 ghost use lib.Seq.{slice};
+ghost use Rattle.limits.specs.Limits.{ruleTests};
 ghost use Rattle.library.specs.Library as Library;
 ghost use Rattle.library.specs.Library.{at};
 ghost use Rattle.library.specs.Verdict.{Accepts};
@@ -48,7 +49,7 @@ fn has_name(s: &[u8], rule: &[u8], t: &[u16], n: usize, v: usize, from: usize, t
 
 // Test `k` where the label is the bytes of the rule from one offset up to another.
 pub fn named(s: &[u8], rule: &[u8], t: &mut [u16], n: usize, k: usize, from: usize, to: usize)
-    requires { ⌜ Tabled (now s) n (now t) × (k < 64) × (from ≤ to) × (to ≤ length (now rule)) ⌝ }
+    requires { ⌜ Tabled (now s) n (now t) × (k < ruleTests) × (from ≤ to) × (to ≤ length (now rule)) ⌝ }
     ensures { λ _. ⌜ ((ns : List Library.Node) → Accepts (now (s .entry)) ns → Linked (now (s .entry)) ns (now (t .entry)) → Settled n k (λ v. at ns v .label ≡ slice from to (now (rule .entry))) (now (t .entry)) (now (t .exit))) ⌝ }
 {
     let mut v = 0;

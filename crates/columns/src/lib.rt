@@ -3,9 +3,11 @@ pub mod labels;
 mod notes;
 pub mod passes;
 
+use limits::Scratch;
 use links::table::get;
 ghost use mathlib.Core.Path.{_≡_};
 ghost use Prim.Native.Nat.{_<_};
+ghost use Rattle.limits.specs.Limits.{ruleTests};
 ghost use Rattle.links.specs.Table.{Room};
 ghost use Rattle.columns.specs.Columns.{held};
 
@@ -18,9 +20,9 @@ impl Tests {
 
 // Test `k` holds at node `v`.
 pub fn holds(t: &[u16], n: usize, k: usize, v: usize) -> bool
-    requires { ⌜ (k < 64) × (v < n) × Room n (now t) ⌝ }
+    requires { ⌜ (k < ruleTests) × (v < n) × Room n (now t) ⌝ }
     ensures { λ r. ⌜ r ≡ held (now (t .entry)) n k v ⌝ }
 {
-    let w = get(t, n, Tests::COLUMN + k / 16, v);
-    bits::has(w as u16, (k % 16) as u16)
+    let w = get(t, n, Tests::COLUMN + k / Scratch::WORD_BITS, v);
+    bits::has(w as u16, (k % Scratch::WORD_BITS) as u16)
 }

@@ -5,14 +5,15 @@ use links::table::Table;
 ghost use mathlib.Core.Path.{_≡_};
 ghost use mathlib.Core.Bool.{true};
 ghost use mathlib.Core.Logic.{_⊎_};
-ghost use Prim.Native.Nat.{_*_, _≤_, _<_};
+ghost use Prim.Native.Nat.{_*_, _≤_, _<_, _+_};
 ghost use lib.ListN.{length};
+ghost use Rattle.limits.specs.Limits.{ruleTests};
 ghost use Rattle.links.specs.Table.{COLUMNS, word, Room};
 ghost use Rattle.columns.specs.Columns.{held, Settled};
 
 // Test `k` where test `a` does not hold.
 pub fn deny(t: &mut [u16], n: usize, k: usize, a: usize)
-    requires { ⌜ (k < 64) × (a < 64) × Room n (now t) ⌝ }
+    requires { ⌜ (k < ruleTests) × (a < ruleTests) × Room n (now t) ⌝ }
     ensures { λ _. ⌜ Settled n k (λ v. ¬ (held (now (t .entry)) n a v ≡ true)) (now (t .entry)) (now (t .exit)) ⌝ }
 {
     let mut v = 0;
@@ -25,7 +26,7 @@ pub fn deny(t: &mut [u16], n: usize, k: usize, a: usize)
 
 // Test `k` where `a` and `b` hold.
 pub fn both(t: &mut [u16], n: usize, k: usize, a: usize, b: usize)
-    requires { ⌜ (k < 64) × (a < 64) × (b < 64) × Room n (now t) ⌝ }
+    requires { ⌜ (k < ruleTests) × (a < ruleTests) × (b < ruleTests) × Room n (now t) ⌝ }
     ensures { λ _. ⌜ Settled n k (λ v. (held (now (t .entry)) n a v ≡ true) × (held (now (t .entry)) n b v ≡ true)) (now (t .entry)) (now (t .exit)) ⌝ }
 {
     let mut v = 0;
@@ -39,7 +40,7 @@ pub fn both(t: &mut [u16], n: usize, k: usize, a: usize, b: usize)
 
 // Test `k` where `a` or `b` holds.
 pub fn either(t: &mut [u16], n: usize, k: usize, a: usize, b: usize)
-    requires { ⌜ (k < 64) × (a < 64) × (b < 64) × Room n (now t) ⌝ }
+    requires { ⌜ (k < ruleTests) × (a < ruleTests) × (b < ruleTests) × Room n (now t) ⌝ }
     ensures { λ _. ⌜ Settled n k (λ v. (held (now (t .entry)) n a v ≡ true) ⊎ (held (now (t .entry)) n b v ≡ true)) (now (t .entry)) (now (t .exit)) ⌝ }
 {
     let mut v = 0;
@@ -53,7 +54,7 @@ pub fn either(t: &mut [u16], n: usize, k: usize, a: usize, b: usize)
 
 // Test `k` where a comparison has left 1 in the first column of its part, which begins behind the table.
 pub fn take(t: &mut [u16], n: usize, k: usize)
-    requires { ⌜ (k < 64) × (17 * n ≤ length (now t)) ⌝ }
+    requires { ⌜ (k < ruleTests) × ((COLUMNS + 1) * n ≤ length (now t)) ⌝ }
     ensures { λ _. ⌜ Settled n k (λ v. word (now (t .entry)) n COLUMNS v ≡ 1) (now (t .entry)) (now (t .exit)) ⌝ }
 {
     let mut v = 0;

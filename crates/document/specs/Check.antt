@@ -1,8 +1,9 @@
 -- What the check promises, and what it knows on the way.
-use Prim.Native.Nat.{ℕ, zero, suc, _+_, _*_, _≤_, _<_}
+use Prim.Native.Nat.{ℕ, zero, suc, _+_, _*_, _≤_, _<_, _^_}
 use mathlib.Core.Path.{_≡_}
 use mathlib.Core.List.{List}
 use lib.ListN.{length, drop}
+use Rattle.limits.specs.Limits.{depthDigits}
 use Rattle.refusals.specs.Refusals.{documentLength, lineForm, nodeCount, treeRule, First}
 use Rattle.library.specs.Library as Library
 use Rattle.library.specs.Verdict.{behindLines, DepthIs, KindIs, DocumentGround, Accepts}
@@ -44,13 +45,13 @@ pub record AtDepth (s : List ℕ) (n v : ℕ) (p : Node) (i : ℕ) : Type 0 wher
   pub inside : v < n
   pub cursor : Cursor s n (4 * v + 1) i
   pub before : Before s v p
-  pub small : p .depth < 10_000
+  pub small : p .depth < 10 ^ depthDigits
 
 pub record AtKind (s : List ℕ) (n v : ℕ) (p : Node) (d i : ℕ) : Type 0 where
   pub inside : v < n
   pub cursor : Cursor s n (4 * v + 2) i
   pub before : Before s v p
-  pub small : p .depth < 10_000
+  pub small : p .depth < 10 ^ depthDigits
   pub depth : DepthIs s v d
 
 pub record AtLabel (s : List ℕ) (n v : ℕ) (x : Node) (i : ℕ) : Type 0 where

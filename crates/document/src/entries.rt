@@ -7,6 +7,7 @@ use crate::rules::Kind;
 use fields::Ending;
 use fields::Numeral;
 use fields::number_line;
+use limits::Document;
 ghost use mathlib.Core.List.{List};
 ghost use Prim.Native.Nat.{ℕ};
 ghost use Rattle.library.specs.Library as Library;
@@ -44,7 +45,7 @@ pub fn first_entry(s: &[u8]) -> usize
     requires { ⌜ ((ns : List Library.Node) × Accepts (now s) ns) ⌝ }
     ensures { λ r. ⌜ ((ns : List Library.Node) → Accepts (now (s .entry)) ns → Start (now (s .entry)) ns r) ⌝ }
 {
-    let n = number_line(s, 0, b"nodes=", 5);
+    let n = number_line(s, 0, b"nodes=", Document::MAX_COUNT_DIGITS);
     let Numeral::Value(_, at) = n else {
         return 0;
     };
@@ -56,7 +57,7 @@ pub fn read_entry(s: &[u8], at: usize) -> Entry
     requires { ⌜ ((ns : List Library.Node) × (v : ℕ) × Stands (now s) ns v at) ⌝ }
     ensures { λ r. ⌜ ((ns : List Library.Node) (v : ℕ) → Stands (now (s .entry)) ns v at → IsEntry (now (s .entry)) ns v r) ⌝ }
 {
-    let d = number_line(s, at, b"depth=", 4);
+    let d = number_line(s, at, b"depth=", Document::MAX_DEPTH_DIGITS);
     let Numeral::Value(depth, i) = d else {
         return nothing();
     };

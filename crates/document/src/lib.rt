@@ -60,7 +60,7 @@ pub fn check(s: &[u8]) -> Verdict
     if Document::MAX_BYTES < s.len() {
         return Verdict::Length;
     }
-    let r = number_line(s, 0, b"nodes=", 5);
+    let r = number_line(s, 0, b"nodes=", Document::MAX_COUNT_DIGITS);
     let Numeral::Value(n, i) = r else {
         return Verdict::Form(1);
     };

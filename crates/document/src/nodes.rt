@@ -13,6 +13,7 @@ use crate::rules::value_fits;
 use fields::Ending;
 use fields::Numeral;
 use fields::number_line;
+use limits::Document;
 ghost use Prim.Native.Nat.{ℕ};
 ghost use Rattle.document.specs.Check.{AtDepth, AtKind, AtLabel, AtValue, Stepped};
 
@@ -74,7 +75,7 @@ pub fn node(s: &[u8], at: usize, v: usize, before: Node) -> Step
     requires { ⌜ ((n : ℕ) × AtDepth (now s) n v before at) ⌝ }
     ensures { λ r. ⌜ ((n : ℕ) → AtDepth (now (s .entry)) n v before at → Stepped (now (s .entry)) n v r) ⌝ }
 {
-    let r = number_line(s, at, b"depth=", 4);
+    let r = number_line(s, at, b"depth=", Document::MAX_DEPTH_DIGITS);
     let Numeral::Value(d, j) = r else {
         return Step::Refused(Verdict::Form(4 * v + 2));
     };

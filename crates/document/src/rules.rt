@@ -2,8 +2,9 @@
 use fields::Ending;
 ghost use mathlib.Core.Path.{_≡_};
 ghost use mathlib.Core.List.{List, _++_};
-ghost use Prim.Native.Nat.{ℕ, _+_, _≤_, _<_};
+ghost use Prim.Native.Nat.{ℕ, _+_, _≤_, _<_, _^_};
 ghost use lib.ListN.{length, drop};
+ghost use Rattle.limits.specs.Limits.{documentBytes, depthDigits};
 ghost use Rattle.limits.specs.Names.{Name};
 ghost use Rattle.document.specs.Nodes.{Told, kindOf, DepthRule, KindRule};
 ghost use Rattle.library.specs.Library.{DepthBehind, KindBehind, LabelRule, ValueRule, labelLine};
@@ -22,7 +23,7 @@ pub struct Node {
 
 // Whether a node of depth `e` may stand behind one of depth `d` and kind `k`.
 fn depth_behind(d: usize, k: Kind, e: usize) -> bool
-    requires { ⌜ d < 10000 ⌝ }
+    requires { ⌜ d < 10 ^ depthDigits ⌝ }
     ensures { λ r. ⌜ Told (DepthBehind d (kindOf k) e) r ⌝ }
 {
     if e == 0 {
@@ -43,7 +44,7 @@ fn depth_behind(d: usize, k: Kind, e: usize) -> bool
 
 // Whether an attribute of depth `e` may stand behind a node of depth `d` and kind `k`.
 fn attribute_behind(d: usize, k: Kind, e: usize) -> bool
-    requires { ⌜ d < 10000 ⌝ }
+    requires { ⌜ d < 10 ^ depthDigits ⌝ }
     ensures { λ r. ⌜ Told (KindBehind d (kindOf k) e Rattle.library.specs.Library.attribute) r ⌝ }
 {
     match k {
@@ -55,7 +56,7 @@ fn attribute_behind(d: usize, k: Kind, e: usize) -> bool
 
 // The first node has depth 0, and any other may stand behind the node before it.
 pub fn depth_fits(v: usize, before: Node, d: usize) -> bool
-    requires { ⌜ before .depth < 10000 ⌝ }
+    requires { ⌜ before .depth < 10 ^ depthDigits ⌝ }
     ensures { λ r. ⌜ Told (DepthRule v before d) r ⌝ }
 {
     if v == 0 {
@@ -70,7 +71,7 @@ pub fn depth_fits(v: usize, before: Node, d: usize) -> bool
 
 // The first node is an element, and an attribute follows its element or another attribute.
 pub fn kind_fits(v: usize, before: Node, d: usize, k: Kind) -> bool
-    requires { ⌜ before .depth < 10000 ⌝ }
+    requires { ⌜ before .depth < 10 ^ depthDigits ⌝ }
     ensures { λ r. ⌜ Told (KindRule v before d k) r ⌝ }
 {
     match k {
@@ -111,7 +112,7 @@ pub fn label_fits(s: &[u8], at: usize, k: Kind) -> bool
 
 // An element's value is empty. The value line stands between two offsets.
 pub fn value_fits(k: Kind, at: usize, end: usize) -> bool
-    requires { ⌜ end ≤ 1048576 ⌝ }
+    requires { ⌜ end ≤ documentBytes ⌝ }
     ensures { λ r. ⌜ ((b : List ℕ) → end ≡ at + 7 + length b → Told (ValueRule (kindOf k) b) r) ⌝ }
 {
     match k {

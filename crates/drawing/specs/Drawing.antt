@@ -5,6 +5,7 @@ use mathlib.Core.Logic.{_↔_}
 use mathlib.Core.Bool.{true}
 use mathlib.Core.List.{List}
 use lib.ListN.{length, getD}
+use Rattle.limits.specs.Limits.{positions}
 use Rattle.bits.specs.Sets.{bit, and}
 use Rattle.xpath.specs.Syntax.{Op}
 use Rattle.xpath.specs.Meaning.{Rel}
@@ -28,9 +29,9 @@ pub record Copied (n : ℕ) (t t′ : List ℕ) : Type 0 where
 -- the positions in a set whose test, by its number, holds
 pub record Stayed (n brackets : ℕ) (numbers : List ℕ) (t t′ : List ℕ) : Type 0 where
   pub within : Within n 22 23 t t′
-  pub done : (v j : ℕ) → v < n → j < 16 → bit (word t′ n (COLUMNS + STAYS) v) j ≡ and (bit brackets j) (held t n (getD numbers j 0) v)
+  pub done : (v j : ℕ) → v < n → j < positions → bit (word t′ n (COLUMNS + STAYS) v) j ≡ and (bit brackets j) (held t n (getD numbers j 0) v)
 
 -- where the value is in the relation o to the constant c
 pub record Judged (ns : List Node) (n : ℕ) (o : Op) (c : List ℕ) (t t′ : List ℕ) : Type 0 where
-  pub within : Within n 23 24 t t′
+  pub within : Within n (COLUMNS + HIT) (COLUMNS + HIT + 1) t t′
   pub done : (v : ℕ) → v < n → (word t′ n (COLUMNS + HIT) v ≡ 1) ↔ Rel o (stringOf ns v) c

@@ -7,26 +7,29 @@ use columns::holds;
 use constants::Place;
 use constants::compare_rank;
 use constants::find_place;
+use limits::Rule;
 use links::table::Table;
 use parts::kinds::Operator;
 use relations::fits;
 ghost use mathlib.Core.List.{List};
 ghost use mathlib.Core.Logic.{_↔_};
 ghost use mathlib.Core.Path.{_≡_};
-ghost use Prim.Native.Nat.{ℕ, _*_, _≤_, _<_};
+ghost use Prim.Native.Nat.{ℕ, _*_, _≤_, _<_, _+_};
 ghost use lib.ListN.{length, getD};
 ghost use lib.Seq.{slice};
+ghost use Rattle.limits.specs.Limits.{positions, ruleTests};
 ghost use Rattle.bits.specs.Sets.{bit, and};
 ghost use Rattle.xpath.specs.Syntax.{Op};
 ghost use Rattle.xpath.specs.Meaning.{Rel};
 ghost use Rattle.library.specs.Library as Library;
 ghost use Rattle.library.specs.Binary.{stringOf};
 ghost use Rattle.library.specs.Verdict.{Accepts};
-ghost use Rattle.links.specs.Table.{Room};
+ghost use Rattle.links.specs.Table.{Room, COLUMNS};
 ghost use Rattle.ranks.specs.Ranks.{Tabled, Ranked};
 ghost use Rattle.parts.specs.Kinds.{operator};
 ghost use Rattle.columns.specs.Columns.{held};
 ghost use Rattle.constants.specs.Places.{Placed};
+ghost use Rattle.walks.specs.Part.{HIT};
 ghost use Rattle.drawing.specs.Drawing.{Copied, Stayed, Judged};
 
 // The part begins behind the table. It has the links and the ranks in the same columns as that, and then these two.
@@ -36,7 +39,7 @@ const HIT: usize = Table::COLUMNS + 7;
 
 // The links and the ranks.
 pub fn draw(t: &mut [u16], n: usize)
-    requires { ⌜ 24 * n ≤ length (now t) ⌝ }
+    requires { ⌜ (COLUMNS + HIT + 1) * n ≤ length (now t) ⌝ }
     ensures { λ _. ⌜ Copied n (now (t .entry)) (now (t .exit)) ⌝ }
 {
     let from = Table::LEFT * n;
@@ -50,13 +53,19 @@ pub fn draw(t: &mut [u16], n: usize)
 }
 
 // The positions in `brackets` whose test holds at node `v`.
-fn tests_at(t: &[u16], n: usize, v: usize, brackets: u16, numbers: [usize; 16]) -> u16
-    requires { ⌜ Room n (now t) × (v < n) × ((j : ℕ) → j < 16 → getD numbers j 0 < 64) ⌝ }
-    ensures { λ r. ⌜ ((j : ℕ) → j < 16 → bit r j ≡ and (bit brackets j) (held (now (t .entry)) n (getD numbers j 0) v)) ⌝ }
+fn tests_at(
+    t: &[u16],
+    n: usize,
+    v: usize,
+    brackets: u16,
+    numbers: [usize; Rule::MAX_POSITIONS],
+) -> u16
+    requires { ⌜ Room n (now t) × (v < n) × ((j : ℕ) → j < positions → getD numbers j 0 < ruleTests) ⌝ }
+    ensures { λ r. ⌜ ((j : ℕ) → j < positions → bit r j ≡ and (bit brackets j) (held (now (t .entry)) n (getD numbers j 0) v)) ⌝ }
 {
     let mut w = 0;
     let mut j: usize = 0;
-    while j < 16 {
+    while j < Rule::MAX_POSITIONS {
         if has(brackets, j as u16) && holds(t, n, numbers[j], v) {
             w = insert(w, j as u16);
         }
@@ -66,8 +75,8 @@ fn tests_at(t: &[u16], n: usize, v: usize, brackets: u16, numbers: [usize; 16]) 
 }
 
 // Where the bracketed tests hold; the test of position j has the number `numbers[j]`.
-pub fn draw_tests(t: &mut [u16], n: usize, brackets: u16, numbers: [usize; 16])
-    requires { ⌜ (24 * n ≤ length (now t)) × ((j : ℕ) → j < 16 → getD numbers j 0 < 64) ⌝ }
+pub fn draw_tests(t: &mut [u16], n: usize, brackets: u16, numbers: [usize; Rule::MAX_POSITIONS])
+    requires { ⌜ ((COLUMNS + HIT + 1) * n ≤ length (now t)) × ((j : ℕ) → j < positions → getD numbers j 0 < ruleTests) ⌝ }
     ensures { λ _. ⌜ Stayed n brackets numbers (now (t .entry)) (now (t .exit)) ⌝ }
 {
     let column = STAYS * n;
@@ -98,7 +107,7 @@ pub fn draw_hits(
     to: usize,
     o: Operator,
 )
-    requires { ⌜ Tabled (now s) n (now t) × (24 * n ≤ length (now t)) × (from ≤ to) × (to ≤ length (now rule)) ⌝ }
+    requires { ⌜ Tabled (now s) n (now t) × ((COLUMNS + HIT + 1) * n ≤ length (now t)) × (from ≤ to) × (to ≤ length (now rule)) ⌝ }
     ensures { λ _. ⌜ ((ns : List Library.Node) (q : Op) → Accepts (now (s .entry)) ns → Ranked ns (now (t .entry)) → o ≡ operator q → Judged ns n q (slice from to (now (rule .entry))) (now (t .entry)) (now (t .exit))) ⌝ }
 {
     let p = find_place(s, rule, t, n, from, to);

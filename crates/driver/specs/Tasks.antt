@@ -6,7 +6,7 @@ use mathlib.Core.Bool.{true}
 use mathlib.Core.List.{List}
 use lib.ListN.{length, getD}
 use lib.Seq.{slice}
-use Rattle.limits.specs.Limits.{scratchWords}
+use Rattle.limits.specs.Limits.{scratchWords, ruleTests}
 use Rattle.xpath.specs.Syntax.{Op, Test, named, not, and, or, compare, compareTo, XPath}
 use Rattle.xpath.specs.Tree.{Tree}
 use Rattle.xpath.specs.Meaning.{Holds}
@@ -99,7 +99,7 @@ pub record Answers (ns : List Node) (n : ℕ) (T : Test) (t t′ : List ℕ) : T
 pub record Decided (ns : List Node) (n k : ℕ) (T : Test) (t t′ : List ℕ) : Type 0 where
   pub long : length t′ ≡ length t
   pub tells : Tells ns n k T t′
-  pub others : (i v : ℕ) → i < 64 → i ≢ k → v < n → held t′ n i v ≡ held t n i v
+  pub others : (i v : ℕ) → i < ruleTests → i ≢ k → v < n → held t′ n i v ≡ held t n i v
   pub front : (i : ℕ) → i < TESTS * n → getD t′ i 0 ≡ getD t i 0
   pub behind : (i : ℕ) → scratchWords n ≤ i → getD t′ i 0 ≡ getD t i 0
 

@@ -9,6 +9,7 @@ use columns::passes::either;
 use columns::passes::take;
 use comparisons::compare;
 use evaluators::Evaluator;
+use limits::Rule;
 use numbering::second_test;
 use numbering::tests_of;
 use parts::kinds::TestKind;
@@ -83,7 +84,7 @@ pub fn settle_rule(e: Evaluator, s: &[u8], rule: &[u8], t: &mut [u16], n: usize)
     requires { ⌜ ((ns : List Library.Node) × (T : Test) × Scene (now s) ns n (now t) × Rule.Accepts (now rule) T) ⌝ }
     ensures { λ r. ⌜ ((ns : List Library.Node) (T : Test) → Scene (now (s .entry)) ns n (now (t .entry)) → Rule.Accepts (now (rule .entry)) T → Evaluates e ns n T (now (t .entry)) (now (t .exit)) r) ⌝ }
 {
-    let mut offsets = [0; 64];
+    let mut offsets = [0; Rule::MAX_TESTS];
     let mut k = tests_of(rule, &mut offsets);
     let mut snippets = 0;
     while 0 < k {

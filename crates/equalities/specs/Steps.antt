@@ -5,6 +5,7 @@ use mathlib.Core.Logic.{_≢_, _↔_}
 use mathlib.Core.List.{List}
 use lib.ListN.{length, getD}
 use Rattle.lists.specs.Lists.{Number}
+use Rattle.limits.specs.Limits.{positions, wordsPerDigit}
 use Rattle.xpath.specs.Syntax.{XPath}
 use Rattle.xpath.specs.Tree.{Tree}
 use Rattle.snippets.specs.Snippets.{Yielded}
@@ -26,17 +27,17 @@ pub record Zeroed (at k : ℕ) (p p′ : List ℕ) : Type 0 where
 
 -- where the snippets of a block stand, the blocks counted one behind the other
 abbrev pub rowsAt : ℕ → ℕ → ℕ
-rowsAt n l = BLOCKS * n + 64 * l + 32
+rowsAt n l = BLOCKS * n + wordsPerDigit * l + 2 * positions
 
 -- the rows of the first c blocks become 0, and all other words are as before
 pub record Cleared (n c : ℕ) (p p′ : List ℕ) : Type 0 where
   pub long : length p′ ≡ length p
-  pub other : (k : ℕ) → ((l i : ℕ) → l < c → i < 16 → k ≢ rowsAt n l + i) → getD p′ k 0 ≡ getD p k 0
-  pub zero : (l i : ℕ) → l < c → i < 16 → getD p′ (rowsAt n l + i) 0 ≡ 0
+  pub other : (k : ℕ) → ((l i : ℕ) → l < c → i < positions → k ≢ rowsAt n l + i) → getD p′ k 0 ≡ getD p k 0
+  pub zero : (l i : ℕ) → l < c → i < positions → getD p′ (rowsAt n l + i) 0 ≡ 0
 
 -- there are no snippets
 abbrev pub Empty : ℕ → ℕ → List ℕ → Type 0
-Empty n b p = (k y i : ℕ) → k < b → y < n → i < 16 → getD p (snippetAt n k y + i) 0 ≡ 0
+Empty n b p = (k y i : ℕ) → k < b → y < n → i < positions → getD p (snippetAt n k y + i) 0 ≡ 0
 
 -- ── Before the snippets ──
 -- a comparison of two paths on a tree, with its loops and its powers, which are enough

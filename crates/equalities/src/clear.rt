@@ -1,21 +1,22 @@
 // The rows of the snippets become empty: the scratch may hold those of an earlier comparison.
+use limits::Rule;
 use powers::blocks::BLOCKS;
+use powers::blocks::SNIPPETS;
 use powers::blocks::WORDS;
 ghost use Prim.Native.Nat.{_+_, _*_, _≤_, _<_};
 ghost use lib.ListN.{length};
+ghost use Rattle.limits.specs.Limits.{positions};
 ghost use Rattle.halving.specs.Halving.{BlockRoom};
 ghost use Rattle.equalities.specs.Steps.{Zeroed, Cleared};
 
 // Within a block, between the rows that lead up and the upper node.
-const SNIPPETS: usize = 32;
-
 // The 16 rows at `at`.
 fn clear_rows(p: &mut [u16], at: usize)
-    requires { ⌜ at + 16 ≤ length (now p) ⌝ }
-    ensures { λ _. ⌜ Zeroed at 16 (now (p .entry)) (now (p .exit)) ⌝ }
+    requires { ⌜ at + positions ≤ length (now p) ⌝ }
+    ensures { λ _. ⌜ Zeroed at positions (now (p .entry)) (now (p .exit)) ⌝ }
 {
     let mut i: usize = 0;
-    while i < 16 {
+    while i < Rule::MAX_POSITIONS {
         p[at + i] = 0;
         i += 1;
     }

@@ -12,6 +12,7 @@ use skeletons::buckets::buckets;
 use walks::Machine;
 ghost use Prim.Native.Nat.{_+_, _*_, _≤_, _<_};
 ghost use lib.ListN.{length};
+ghost use Rattle.limits.specs.Limits.{documentNodes, nodeDigits, wordsPerDigit};
 ghost use Rattle.xpath.specs.Syntax.{XPath};
 ghost use Rattle.xpath.specs.Tree.{Tree};
 ghost use Rattle.loops.specs.Loops.{Stage};
@@ -23,7 +24,7 @@ ghost use Rattle.equalities.specs.Steps.{Empty, Founded, Prepares, Gathe
 
 // The loops and the powers, and no snippets yet.
 fn prepare(p: &mut [u16], n: usize, b: usize, m: Machine)
-    requires { ⌜ ((P R : XPath) × (t : Tree) × Stage P R t m n (now p)) × (0 < n) × (n ≤ 4096) × (b ≤ 13) × ((BLOCKS + 64 * b) * n ≤ length (now p)) ⌝ }
+    requires { ⌜ ((P R : XPath) × (t : Tree) × Stage P R t m n (now p)) × (0 < n) × (n ≤ documentNodes) × (b ≤ nodeDigits) × ((BLOCKS + wordsPerDigit * b) * n ≤ length (now p)) ⌝ }
     ensures { λ _. ⌜ Prepares m n b (now (p .entry)) (now (p .exit)) ⌝ }
 {
     find_loops(p, n, m);
@@ -44,7 +45,7 @@ fn gather(p: &mut [u16], n: usize, b: usize, m: Machine) -> usize
 
 // The number of snippets is handed back; the answers stand in the first column.
 pub fn compare_equal(p: &mut [u16], n: usize, b: usize, m: Machine) -> usize
-    requires { ⌜ ((P R : XPath) × (t : Tree) × Stage P R t m n (now p)) × ((t : Tree) → Shape t n (now p) → Enough t b) × (0 < n) × (n ≤ 4096) × (0 < b) × (b ≤ 13) × ((BLOCKS + 64 * b) * n ≤ length (now p)) ⌝ }
+    requires { ⌜ ((P R : XPath) × (t : Tree) × Stage P R t m n (now p)) × ((t : Tree) → Shape t n (now p) → Enough t b) × (0 < n) × (n ≤ documentNodes) × (0 < b) × (b ≤ nodeDigits) × ((BLOCKS + wordsPerDigit * b) * n ≤ length (now p)) ⌝ }
     ensures { λ r. ⌜ Evaluated m n (now (p .entry)) (now (p .exit)) r ⌝ }
 {
     prepare(p, n, b, m);

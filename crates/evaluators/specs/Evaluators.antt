@@ -4,6 +4,7 @@ use mathlib.Core.Path.{_≡_}
 use mathlib.Core.List.{List}
 use lib.ListN.{length}
 use Rattle.lists.specs.Text.{binaryDigits}
+use Rattle.limits.specs.Limits.{wordsPerDigit, partWords}
 use Rattle.xpath.specs.Syntax.{Op, Test, XPath, empty, compare, compareTo}
 use Rattle.xpath.specs.Tree.{Tree}
 use Rattle.xpath.specs.Meaning.{Holds}
@@ -18,7 +19,7 @@ use Rattle.evaluators.specs.declared.Evaluator.the-variants.{Plain, Snip
 
 -- a comparison's part is all that 01 gives behind the tree's own 16 words a node
 abbrev pub PartRoom : ℕ → List ℕ → Type 0
-PartRoom n p = (112 + 64 * binaryDigits n) * n ≤ length p
+PartRoom n p = (partWords + wordsPerDigit * binaryDigits n) * n ≤ length p
 
 -- some comparison on some tree stands in the part
 abbrev pub Staged : Machine → ℕ → List ℕ → Type 0

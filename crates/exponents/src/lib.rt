@@ -1,9 +1,11 @@
 // The exponent of the largest power of two not above a length from 1 to 4,096, by a constant table with one entry for each length.
+use limits::Document;
 ghost use Prim.Native.Nat.{_≤_};
+ghost use Rattle.limits.specs.Limits.{documentNodes};
 ghost use Rattle.exponents.specs.Exponent.{Exponent};
 
 // Entry i is that of the length i + 1.
-const EXPONENTS: [u8; 4096] = [
+const EXPONENTS: [u8; Document::MAX_NODES] = [
     0,
     1,
     1,
@@ -4104,7 +4106,7 @@ const EXPONENTS: [u8; 4096] = [
 
 // The exponent for a length.
 pub fn exponent(length: usize) -> u8
-    requires { ⌜ (1 ≤ length) × (length ≤ 4096) ⌝ }
+    requires { ⌜ (1 ≤ length) × (length ≤ documentNodes) ⌝ }
     ensures { λ r. ⌜ Exponent length r ⌝ }
 {
     EXPONENTS[length - 1]

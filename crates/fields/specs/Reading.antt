@@ -7,6 +7,7 @@ use lib.ListN.{length, drop, getD}
 use lib.Dec.{T, leb, ltb, eqb}
 use Rattle.lists.specs.Lists.{All}
 use Rattle.lists.specs.Text.{bytes, decimal}
+use Rattle.limits.specs.Limits.{countDigits}
 use Rattle.fields.specs.declared.Ending.{Ending}
 use Rattle.fields.specs.declared.Ending.the-variants.{Next, Bad}
 use Rattle.fields.specs.declared.Numeral.{Numeral}
@@ -37,6 +38,10 @@ inClass Text b = isBetween 0x20 0x7e b
 abbrev pub AllIn : Class → List ℕ → ℕ → ℕ → Type 0
 AllIn k s i j = (m : ℕ) → i ≤ m → m < j → T (inClass k (getD s m 0))
 
+-- the bytes that are looked at together
+abbrev pub BLOCK : ℕ
+BLOCK = 16
+
 -- from i up to j stand bytes of a class, at most so many
 pub record Passed (k : Class) (most : ℕ) (s : List ℕ) (i j : ℕ) : Type 0 where
   pub from : i ≤ j
@@ -51,11 +56,11 @@ pub record Run (k : Class) (most : ℕ) (l : List ℕ) : Type 0 where
   pub short : length field ≤ most
   pub line : l ≡ field ++ bytes "\n"
 
--- at most five digits from i up to j
+-- at most as many digits as N has from i up to j
 pub record Digits (s : List ℕ) (i j : ℕ) : Type 0 where
   pub from : i ≤ j
   pub inside : j ≤ length s
-  pub few : j ≤ i + 5
+  pub few : j ≤ i + countDigits
   pub digits : AllIn Digit s i j
 
 -- the bytes from i up to j begin with a zero and go on

@@ -6,16 +6,19 @@ ghost use mathlib.Core.Path.{_≡_};
 ghost use mathlib.Core.Bool.{true};
 ghost use lib.ListN.{length};
 ghost use Rattle.fields.specs.declared.Class.the-variants.{Text};
-ghost use Rattle.fields.specs.Reading.{AllIn, Passed};
+ghost use Rattle.fields.specs.Reading.{BLOCK, AllIn, Passed};
 
-// Whether the 16 bytes from an offset on are text.
+// The bytes of a block: as many as a vector register has.
+const BLOCK: usize = 16;
+
+// Whether the bytes of a block are text.
 fn text_block(s: &[u8], at: usize) -> bool
-    requires { ⌜ at + 16 ≤ length (now s) ⌝ }
-    ensures { λ r. ⌜ (r ≡ true → AllIn Text (now (s .entry)) at (at + 16)) ⌝ }
+    requires { ⌜ at + BLOCK ≤ length (now s) ⌝ }
+    ensures { λ r. ⌜ (r ≡ true → AllIn Text (now (s .entry)) at (at + BLOCK)) ⌝ }
 {
     let mut all = true;
     let mut i: usize = 0;
-    while i < 16 {
+    while i < BLOCK {
         if !fits(Class::Text, s[at + i]) {
             all = false;
         }
@@ -30,14 +33,14 @@ fn text_blocks(s: &[u8], at: usize, most: usize) -> usize
     ensures { λ r. ⌜ Passed Text most (now (s .entry)) at r ⌝ }
 {
     let mut i = at;
-    while 16 <= s.len() - i {
-        if most - (i - at) < 16 {
+    while BLOCK <= s.len() - i {
+        if most - (i - at) < BLOCK {
             return i;
         }
         if !text_block(s, i) {
             return i;
         }
-        i += 16;
+        i += BLOCK;
     }
     i
 }

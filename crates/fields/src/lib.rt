@@ -5,6 +5,7 @@ use blocks::pass;
 ghost use mathlib.Core.Path.{_≡_};
 ghost use Prim.Native.Nat.{ℕ, _+_, _≤_, _<_};
 ghost use lib.ListN.{length, getD};
+ghost use Rattle.limits.specs.Limits.{countDigits};
 ghost use Rattle.fields.specs.Reading.{Ended, isBetween, inClass, Run, Digits, zeroLed, Numbered, Behind, NumberedLine};
 ghost use Rattle.lists.proofs.Numerals.{reading};
 ghost use lib.Seq.{slice};
@@ -39,17 +40,17 @@ pub fn fits(k: Class, b: u8) -> bool
     ensures { λ r. ⌜ r ≡ inClass k b ⌝ }
 {
     match k {
-        Class::Digit => between(48, 57, b),
+        Class::Digit => between(b'0', b'9', b),
         Class::Label => {
             if b == 45 {
                 return true;
             }
-            if between(48, 57, b) {
+            if between(b'0', b'9', b) {
                 return true;
             }
             between(97, 122, b)
         }
-        Class::Text => between(32, 126, b),
+        Class::Text => between(0x20, 0x7e, b),
     }
 }
 
@@ -83,7 +84,7 @@ fn value(s: &[u8], at: usize, end: usize) -> usize
     let mut n: usize = 0;
     let mut i = at;
     while i < end {
-        n = n * 10 + (s[i] - 48) as usize;
+        n = n * 10 + (s[i] - b'0') as usize;
         i += 1;
     }
     n
@@ -94,12 +95,12 @@ fn zero_led(s: &[u8], at: usize, end: usize) -> bool
     requires { ⌜ (at < end) × (end ≤ length (now s)) ⌝ }
     ensures { λ r. ⌜ r ≡ zeroLed (now (s .entry)) at end ⌝ }
 {
-    at + 1 < end && s[at] == 48
+    at + 1 < end && s[at] == b'0'
 }
 
 // A numeral of at most so many digits, and the LF that ends its line.
 pub fn read_number(s: &[u8], at: usize, most: usize) -> Numeral
-    requires { ⌜ (at ≤ length (now s)) × (0 < most) × (most ≤ 5) ⌝ }
+    requires { ⌜ (at ≤ length (now s)) × (0 < most) × (most ≤ countDigits) ⌝ }
     ensures { λ r. ⌜ Numbered most (now (s .entry)) at r ⌝ }
 {
     let r = run(s, at, Class::Digit, most);
@@ -149,7 +150,7 @@ pub fn run_line(s: &[u8], at: usize, key: &[u8], k: Class, most: usize) -> Endin
 
 // A line that is a key and then a numeral.
 pub fn number_line(s: &[u8], at: usize, key: &[u8], most: usize) -> Numeral
-    requires { ⌜ (at ≤ length (now s)) × (0 < most) × (most ≤ 5) ⌝ }
+    requires { ⌜ (at ≤ length (now s)) × (0 < most) × (most ≤ countDigits) ⌝ }
     ensures { λ r. ⌜ NumberedLine (now (key .entry)) most (now (s .entry)) at r ⌝ }
 {
     let found = read_key(s, at, key);

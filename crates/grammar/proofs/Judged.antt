@@ -1,7 +1,7 @@
 -- Where a rule is refused, one ground is first: those that apply stand in a list that is computed.
 use Prim.Native.Nat.{ℕ, _<_}
 use native.Mathlib.Omega.{arith}
-use mathlib.Core.Path.{_≡_, refl, sym, ap, subst}
+use mathlib.Core.Path.{_≡_, refl, sym, ap, subst, _∙_}
 use mathlib.Core.Logic.{_⊎_, inl, inr, _↔_, ⊎-elim}
 use mathlib.Core.Bool.{Bool, true, false}
 use mathlib.Core.Option.{Option, none, some}
@@ -14,7 +14,7 @@ use Rattle.lists.specs.Lists.{Occurs}
 use Rattle.lists.proofs.Lists.{occurs-left, occurs-right, occurs-append}
 use Rattle.refusals.specs.Refusals.{Refusal, ruleLength, unreadable, nesting, tests, steps, First}
 use Rattle.xpath.specs.Syntax.{Test}
-use Rattle.grammar.specs.Verdict.{Unreadable, TooDeep, ManyTests, ManySteps, RuleGround, Accepts}
+use Rattle.grammar.specs.Verdict.{Unreadable, TooDeep, ManyTests, ManySteps, RuleGround, Accepts, Checked}
 use Rattle.grammar.proofs.Machine.{Answer, answer, ruleStart}
 use Rattle.grammar.proofs.Least.{Settles}
 use Rattle.grammar.proofs.Grounds.{known, unreadAt, unread-settles, deepAt, deep-settles, manyTestsAt, tests-settles, manyStepsAt, steps-settles}
@@ -141,3 +141,11 @@ rule-judged s = go (verdict s) (verdict-judged s)
     go : (x : Option Refusal) → Judged s x → ((r : Refusal) × First (RuleGround s) r) ⊎ ((T : Test) × Accepts s T)
     go none h = inr h
     go (some r) h = inl (r, h)
+
+-- ── The check's contract leaves nothing open ──
+pub checked-one : (s : List ℕ) (n p n′ p′ : ℕ) → Checked s n p → Checked s n′ p′ → (n ≡ n′) × (p ≡ p′)
+checked-one s n p n′ p′ a b = go (rule-judged s)
+  where
+    go : ((r : Refusal) × First (RuleGround s) r) ⊎ ((T : Test) × Accepts s T) → (n ≡ n′) × (p ≡ p′)
+    go (inl (r, f)) = let x = a .refused r f in let y = b .refused r f in (x .0 ∙ sym (y .0), x .1 ∙ sym (y .1))
+    go (inr (T, c)) = let x = a .accepted T c in let y = b .accepted T c in (x .0 ∙ sym (y .0), x .1 ∙ sym (y .1))

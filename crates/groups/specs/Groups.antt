@@ -5,13 +5,14 @@ use mathlib.Core.Logic.{_≢_, _⊎_, _↔_}
 use mathlib.Core.Bool.{Bool, true, false}
 use mathlib.Core.List.{List}
 use lib.ListN.{length, getD}
+use Rattle.limits.specs.Limits.{documentNodes, positions, nodeDigits, wordsPerDigit}
 use Rattle.bits.specs.Sets.{bit}
 use Rattle.xpath.specs.Syntax.{XPath, size}
 use Rattle.xpath.specs.Tree.{Tree, Down}
 use Rattle.snippets.specs.Snippets.{Skeleton, Edge}
 use Rattle.snippets.proofs.Ways.{In, Above, FromChild}
 use Rattle.snippets.proofs.Direct.{Upper, Lower, Direct}
-use Rattle.links.specs.Table.{RANK, word}
+use Rattle.links.specs.Table.{RANK, word, COLUMNS}
 use Rattle.walks.specs.declared.Machine.{Machine}
 use Rattle.matrices.specs.Matrices.{Related}
 use Rattle.loops.specs.Loops.{Stage, Loops}
@@ -47,7 +48,7 @@ inward false = RIGHTIN
 -- ── What is given ──
 -- the 16 positions that are members of w are those that A holds of
 abbrev pub Exactly : ℕ → (ℕ → Type 0) → Type 0
-Exactly w A = (i : ℕ) → i < 16 → (bit w i ≡ true) ↔ A i
+Exactly w A = (i : ℕ) → i < positions → (bit w i ≡ true) ↔ A i
 
 -- a comparison of two paths on a tree with its loops and its powers, and the marks of the nodes of rank r, which have the value d
 pub record Setting (P R : XPath) (t : Tree) (d : List ℕ) (m : Machine) (n b r : ℕ) (p : List ℕ) : Type 0 where
@@ -62,9 +63,9 @@ Enough t b = (x y l : ℕ) → Down t x y l → l < 2 ^ b
 
 -- there is room for the powers below b
 pub record Sizes (n b : ℕ) (p : List ℕ) : Type 0 where
-  pub few : n ≤ 4096
-  pub low : b ≤ 13
-  pub room : (BLOCKS + 64 * b) * n ≤ length p
+  pub few : n ≤ documentNodes
+  pub low : b ≤ nodeDigits
+  pub room : (BLOCKS + wordsPerDigit * b) * n ≤ length p
 
 -- some comparison and some value are given
 pub record Given (m : Machine) (n b r : ℕ) (p : List ℕ) : Type 0 where
@@ -83,20 +84,20 @@ OfFirst P w = Exactly w (λ i. i ≤ size P)
 -- ── What may change ──
 -- k is no word of the snippets' rows
 abbrev pub Aside : ℕ → ℕ → ℕ → Type 0
-Aside n b k = (e y i : ℕ) → e < b → y < n → i < 16 → k ≢ snippetAt n e y + i
+Aside n b k = (e y i : ℕ) → e < b → y < n → i < positions → k ≢ snippetAt n e y + i
 
 -- only the columns from c on and the snippets' rows may be different
 pub record Rest (c n b : ℕ) (p p′ : List ℕ) : Type 0 where
   pub long : length p′ ≡ length p
   pub front : (k : ℕ) → k < c * n → getD p′ k 0 ≡ getD p k 0
-  pub behind : (k : ℕ) → 16 * n ≤ k → Aside n b k → getD p′ k 0 ≡ getD p k 0
+  pub behind : (k : ℕ) → COLUMNS * n ≤ k → Aside n b k → getD p′ k 0 ≡ getD p k 0
 
 -- the snippets' rows have what they had, and what A says
 pub record Gains (t : Tree) (n b : ℕ) (A : ℕ → ℕ → ℕ → ℕ → ℕ → Type 0) (p p′ : List ℕ) : Type 0 where
-  pub rows : (k x y i j : ℕ) → k < b → y < n → Down t x y (2 ^ k) → i < 16 → j < 16
+  pub rows : (k x y i j : ℕ) → k < b → y < n → Down t x y (2 ^ k) → i < positions → j < positions
       → Related p′ (snippetAt n k y) i j ↔ (Related p (snippetAt n k y) i j ⊎ A k x y i j)
   -- nothing where no node lies 2^k above y
-  pub top : (k y i : ℕ) → k < b → y < n → i < 16 → ((x : ℕ) → ¬ Down t x y (2 ^ k)) → getD p′ (snippetAt n k y + i) 0 ≡ getD p (snippetAt n k y + i) 0
+  pub top : (k y i : ℕ) → k < b → y < n → i < positions → ((x : ℕ) → ¬ Down t x y (2 ^ k)) → getD p′ (snippetAt n k y + i) 0 ≡ getD p (snippetAt n k y + i) 0
 
 -- ── What is found ──
 module _ (P R : XPath) (t : Tree) (d : List ℕ) where

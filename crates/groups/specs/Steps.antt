@@ -10,7 +10,7 @@ use Rattle.xpath.specs.Tree.{Tree, Child, Under}
 use Rattle.snippets.specs.Snippets.{Skeleton, Edge}
 use Rattle.snippets.proofs.Ways.{In, Out, Above}
 use Rattle.snippets.proofs.Direct.{Upper, Lower}
-use Rattle.links.specs.Table.{word}
+use Rattle.links.specs.Table.{word, COLUMNS}
 use Rattle.walks.specs.declared.Machine.{Machine}
 use Rattle.matrices.specs.Matrices.{Related}
 use Rattle.powers.specs.Ladder.{Ladder}
@@ -82,7 +82,7 @@ pub record EdgeAt (P R : XPath) (t : Tree) (d : List ℕ) (n b x v len first ins
 
 -- the rows gain what A says of the edge
 pub record Gained (A : XPath → XPath → Tree → List ℕ → ℕ → ℕ → ℕ → ℕ → ℕ → ℕ → Type 0) (n b v len first inside outside : ℕ) (p p′ : List ℕ) : Type 0 where
-  pub rest : Rest 16 n b p p′
+  pub rest : Rest COLUMNS n b p p′
   pub found : (P R : XPath) (t : Tree) (d : List ℕ) (x : ℕ) → EdgeAt P R t d n b x v len first inside outside p → Gains t n b (A P R t d x) p p′
 
 -- the upper part of the edge

@@ -15,6 +15,7 @@ use walks::Machine;
 ghost use mathlib.Core.Path.{_≡_};
 ghost use mathlib.Core.Bool.{true, false};
 ghost use Prim.Native.Nat.{_≤_, _<_};
+ghost use Rattle.limits.specs.Limits.{documentNodes};
 ghost use Rattle.links.specs.Table.{Room};
 ghost use Rattle.skeletons.specs.Skeletons.{Buckets};
 ghost use Rattle.groups.specs.Groups.{Base, Grounds, Added, Listed, Listing, AddedOf, AddedAll, Somewhere, Alone};
@@ -49,7 +50,7 @@ pub fn add_group(p: &mut [u16], n: usize, b: usize, m: Machine, first: u16, r: u
 
 // Whether two nodes have the rank `r`. The skeleton of one node has no edge, so it yields nothing.
 fn is_shared(p: &[u16], n: usize, r: usize) -> bool
-    requires { ⌜ Buckets n (now p) × Room n (now p) × (n ≤ 4096) × (r < n) ⌝ }
+    requires { ⌜ Buckets n (now p) × Room n (now p) × (n ≤ documentNodes) × (r < n) ⌝ }
     ensures { λ s. ⌜ (s ≡ true → Somewhere n r (now (p .entry))) × (s ≡ false → Alone n r (now (p .entry))) ⌝ }
 {
     let w = get(p, n, skeletons::Column::FIRST, r);

@@ -2,12 +2,13 @@
 use crate::Column;
 use links::table::put;
 ghost use Prim.Native.Nat.{_≤_};
+ghost use Rattle.limits.specs.Limits.{documentNodes};
 ghost use Rattle.links.specs.Table.{Room};
 ghost use Rattle.groups.specs.Steps.{Ranged};
 
 // All ranks, rising.
 pub fn list_ranks(p: &mut [u16], n: usize)
-    requires { ⌜ Room n (now p) × (n ≤ 4096) ⌝ }
+    requires { ⌜ Room n (now p) × (n ≤ documentNodes) ⌝ }
     ensures { λ _. ⌜ Ranged n n (now (p .entry)) (now (p .exit)) ⌝ }
 {
     let mut r = 0;

@@ -15,6 +15,7 @@ use walks::Machine;
 ghost use mathlib.Core.List.{List};
 ghost use Prim.Native.Nat.{ℕ, suc, _*_, _≤_, _<_};
 ghost use lib.ListN.{length};
+ghost use Rattle.limits.specs.Limits.{documentNodes};
 ghost use Rattle.xpath.specs.Syntax.{XPath};
 ghost use Rattle.xpath.specs.Tree.{Tree};
 ghost use Rattle.snippets.specs.Snippets.{Skeleton};
@@ -22,12 +23,13 @@ ghost use Rattle.snippets.proofs.Ways.{In};
 ghost use Rattle.links.specs.Table.{Room};
 ghost use Rattle.loops.specs.Loops.{Stage, Loops};
 ghost use Rattle.skeletons.specs.Skeletons.{Ranks};
+ghost use Rattle.walks.specs.Part.{PAIRS};
 ghost use Rattle.groups.specs.Groups.{Exactly, Given, Sides};
 ghost use Rattle.groups.specs.Steps.{Placed, Cleared, Handed, Rises, Rose};
 
 // Nothing has been handed up to node `v`; what stands at the nodes of an empty block is never read. The result is where to go on.
 fn clear_from(p: &mut [u16], n: usize, v: usize) -> usize
-    requires { ⌜ Room n (now p) × (v < n) × (n ≤ 4096) ⌝ }
+    requires { ⌜ Room n (now p) × (v < n) × (n ≤ documentNodes) ⌝ }
     ensures { λ u. ⌜ (v < u) × ((p₀ : List ℕ) → Cleared n v p₀ (now (p .entry)) → Cleared n u p₀ (now (p .exit))) ⌝ }
 {
     if is_empty(p, n, v) {
@@ -40,7 +42,7 @@ fn clear_from(p: &mut [u16], n: usize, v: usize) -> usize
 
 // Nothing has been handed up yet.
 fn clear(p: &mut [u16], n: usize)
-    requires { ⌜ Room n (now p) × (n ≤ 4096) ⌝ }
+    requires { ⌜ Room n (now p) × (n ≤ documentNodes) ⌝ }
     ensures { λ _. ⌜ Cleared n n (now (p .entry)) (now (p .exit)) ⌝ }
 {
     let mut v = 0;
@@ -51,7 +53,7 @@ fn clear(p: &mut [u16], n: usize)
 
 // The positions that at node `v` end at or below it.
 fn gathered(p: &[u16], n: usize, m: Machine, v: usize, r: usize) -> u16
-    requires { ⌜ (v < n) × (n ≤ 4096) × (32 * n ≤ length (now p)) ⌝ }
+    requires { ⌜ (v < n) × (n ≤ documentNodes) × (PAIRS * n ≤ length (now p)) ⌝ }
     ensures { λ w. ⌜ ((P R : XPath) (t : Tree) (d : List ℕ) → Stage P R t m n (now (p .entry)) → Loops P R t n (now (p .entry)) → Ranks t d n r (now (p .entry)) → Skeleton t d v → Sides P R t d n (now (p .entry)) (suc v) → Exactly w (In t P R d v)) ⌝ }
 {
     let here = own(p, n, m, v, r);

@@ -18,7 +18,9 @@ ghost use mathlib.Core.List.{List};
 ghost use mathlib.Core.Logic.{_≢_, _⊎_};
 ghost use Prim.Native.Nat.{ℕ, _*_, _≤_, _<_};
 ghost use lib.ListN.{length};
+ghost use Rattle.limits.specs.Limits.{documentNodes};
 ghost use Rattle.links.specs.Table.{LEFT, word, Room};
+ghost use Rattle.walks.specs.Part.{PAIRS};
 ghost use Rattle.groups.specs.Groups.{LEFTIN, RIGHTIN, Given};
 ghost use Rattle.groups.specs.Steps.{Placed, Outside, Sinks, SinksBy, Sank};
 ghost use Rattle.skeletons.specs.Skeletons.{Ascent};
@@ -36,7 +38,7 @@ fn beside(p: &[u16], n: usize, x: usize, child: usize) -> u16
 
 // The positions that at node `x` end outside what is under `child`.
 fn outside(p: &[u16], n: usize, m: Machine, x: usize, child: usize, r: usize) -> u16
-    requires { ⌜ (x < n) × (n ≤ 4096) × (32 * n ≤ length (now p)) ⌝ }
+    requires { ⌜ (x < n) × (n ≤ documentNodes) × (PAIRS * n ≤ length (now p)) ⌝ }
     ensures { λ w. ⌜ Outside m n r x child w (now (p .entry)) ⌝ }
 {
     let up = get(p, n, Column::ABOVE, x) as u16;

@@ -2,21 +2,20 @@
 use crate::rows::add_rows;
 use exponents::exponent;
 use powers::above;
+use powers::blocks::SNIPPETS;
 use powers::blocks::block_at;
 use powers::lift;
 use powers::lower;
 ghost use mathlib.Core.Path.{_≡_};
 ghost use Prim.Native.Nat.{_^_, _<_};
+ghost use Rattle.limits.specs.Limits.{nodeDigits};
 ghost use Rattle.exponents.specs.Exponent.{Exponent};
 ghost use Rattle.powers.specs.Ladder.{Stretch};
 ghost use Rattle.groups.specs.Steps.{Gained, UpperPart, LowerPart, BothParts};
 
-// Behind the rows that lead down and up: the snippets' rows of a block.
-const SNIPPETS: usize = 32;
-
 // 2^k.
 fn two_to(k: usize) -> usize
-    requires { ⌜ k < 13 ⌝ }
+    requires { ⌜ k < nodeDigits ⌝ }
     ensures { λ r. ⌜ r ≡ 2 ^ k ⌝ }
 {
     1 << k

@@ -5,6 +5,7 @@ use mathlib.Core.Logic.{_≢_, _↔_}
 use mathlib.Core.List.{List}
 use lib.ListN.{length, getD}
 use Rattle.lists.specs.Lists.{Number}
+use Rattle.limits.specs.Limits.{documentNodes, positions, nodeDigits, comparisonSteps, wordsPerDigit}
 use Rattle.xpath.specs.Syntax.{XPath, size}
 use Rattle.xpath.specs.Tree.{Tree, WellFormed, Down}
 use Rattle.positions.specs.Positions.{Comes}
@@ -18,9 +19,9 @@ Family = ℕ → ℕ → ℕ → ℕ → ℕ → Type 0
 
 -- the part has room for the blocks of n nodes and all exponents below b
 pub record BlockRoom (n b : ℕ) (p : List ℕ) : Type 0 where
-  pub few : n ≤ 4096
-  pub low : b ≤ 13
-  pub room : (BLOCKS + 64 * b) * n ≤ length p
+  pub few : n ≤ documentNodes
+  pub low : b ≤ nodeDigits
+  pub room : (BLOCKS + wordsPerDigit * b) * n ≤ length p
 
 -- ── A set and its words ──
 module _ (t : Tree) (n b : ℕ) where
@@ -29,8 +30,8 @@ module _ (t : Tree) (n b : ℕ) where
     pub power : k < b
     pub lower : y < n
     pub apart : Down t x y (2 ^ k)
-    pub first : i < 16
-    pub second : j < 16
+    pub first : i < positions
+    pub second : j < positions
 
   -- all snippets of S keep to the bounds
   abbrev pub Within : Family → Type 0
@@ -39,7 +40,7 @@ module _ (t : Tree) (n b : ℕ) where
   module _ (p : List ℕ) where
     -- the words are those of S: where no node lies 2^k above y, they have nothing
     pub record Sets (S : Family) : Type 0 where
-      pub same : (k y i j : ℕ) → k < b → y < n → i < 16 → j < 16
+      pub same : (k y i j : ℕ) → k < b → y < n → i < positions → j < positions
           → Related p (snippetAt n k y) i j ↔ ((x : ℕ) × Down t x y (2 ^ k) × S k x y i j)
 
     -- the words have the snippet
@@ -49,7 +50,7 @@ module _ (t : Tree) (n b : ℕ) where
 
     -- the words have nothing where no node lies 2^k above y
     pub record Topped : Type 0 where
-      pub top : (k y i j : ℕ) → k < b → y < n → i < 16 → j < 16 → Related p (snippetAt n k y) i j → (x : ℕ) × Down t x y (2 ^ k)
+      pub top : (k y i j : ℕ) → k < b → y < n → i < positions → j < positions → Related p (snippetAt n k y) i j → (x : ℕ) × Down t x y (2 ^ k)
 
 -- ── Halving ──
 -- D, and all that is yielded by halving: the last two rules of `Yielded`
@@ -64,14 +65,14 @@ pub data Halved (P R : XPath) (t : Tree) (D : Family) : ℕ → ℕ → ℕ → 
 pub record Prepared (P R : XPath) (t : Tree) (n b : ℕ) (p : List ℕ) : Type 0 where
   pub formed : WellFormed t
   pub whole : t .size ≡ n
-  pub few : size P + size R ≤ 14
+  pub few : size P + size R ≤ comparisonSteps
   pub powers : Powers P R t n p b
   pub topped : Topped t n b p
 
 -- the snippets that stand in p are halved in p′, and no word but theirs may be different
 pub record Halving (n b : ℕ) (p p′ : List ℕ) : Type 0 where
   pub long : length p′ ≡ length p
-  pub other : (l : ℕ) → ((k y i : ℕ) → k < b → y < n → i < 16 → l ≢ snippetAt n k y + i) → getD p′ l 0 ≡ getD p l 0
+  pub other : (l : ℕ) → ((k y i : ℕ) → k < b → y < n → i < positions → l ≢ snippetAt n k y + i) → getD p′ l 0 ≡ getD p l 0
   pub sets : (P R : XPath) (t : Tree) → Prepared P R t n b p → Sets t n b p′ (Halved P R t (Marked t n b p))
 
 -- ── The number of snippets ──

@@ -4,6 +4,7 @@ use mathlib.Core.Path.{_≡_}
 use mathlib.Core.Logic.{_≢_, _⊎_, _↔_}
 use mathlib.Core.List.{List}
 use lib.ListN.{length, getD}
+use Rattle.limits.specs.Limits.{positions}
 use Rattle.matrices.specs.Matrices.{Related, Image, Before}
 use Rattle.powers.specs.Powers.{downAt, upAt, snippetAt, upperAt}
 
@@ -32,13 +33,13 @@ module _ (n k : ℕ) where
 
   -- no word of a snippet of power k
   abbrev pub Elsewhere : ℕ → Type 0
-  Elsewhere l = (z i : ℕ) → z < n → i < 16 → l ≢ snippetAt n k z + i
+  Elsewhere l = (z i : ℕ) → z < n → i < positions → l ≢ snippetAt n k z + i
 
   -- the snippets of power k have N added, and all other words are as before
   pub record Grown (N : ℕ → ℕ → ℕ → Type 0) (p p′ : List ℕ) : Type 0 where
     pub long : length p′ ≡ length p
     pub other : (l : ℕ) → Elsewhere l → getD p′ l 0 ≡ getD p l 0
-    pub rows : (z i j : ℕ) → z < n → i < 16 → j < 16 → Related p′ (snippetAt n k z) i j ↔ (Related p (snippetAt n k z) i j ⊎ N z i j)
+    pub rows : (z i j : ℕ) → z < n → i < positions → j < positions → Related p′ (snippetAt n k z) i j ↔ (Related p (snippetAt n k z) i j ⊎ N z i j)
 
   -- what the nodes below m hand down
   abbrev pub Handed : List ℕ → ℕ → ℕ → ℕ → ℕ → Type 0

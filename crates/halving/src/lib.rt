@@ -2,9 +2,9 @@
 mod passes;
 
 use matrices::size;
-use passes::SNIPPETS;
 use passes::pass;
 use powers::blocks::BLOCKS;
+use powers::blocks::SNIPPETS;
 use powers::blocks::WORDS;
 ghost use Rattle.halving.specs.Halving.{BlockRoom, Halving, Counts};
 

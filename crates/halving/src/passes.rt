@@ -1,27 +1,28 @@
 // One pass: the snippets of exponent k + 1 are handed down to exponent k.
 use bits::union;
+use limits::Rule;
 use matrices::before;
 use matrices::image;
 use matrices::is_empty;
+use powers::blocks::SNIPPETS;
 use powers::blocks::UP;
 use powers::blocks::block_at;
 use powers::blocks::upper;
 ghost use Prim.Native.Nat.{_+_, _≤_, _<_};
 ghost use lib.ListN.{length};
+ghost use Rattle.limits.specs.Limits.{positions};
 ghost use Rattle.matrices.specs.Matrices.{Apart, Drawing};
 ghost use Rattle.halving.specs.Halving.{BlockRoom};
 ghost use Rattle.halving.specs.Passes.{Upper, Lower, With, Hands, Grown, Handed};
 
 // Within a block, between the rows that lead up and the upper node.
-pub const SNIPPETS: usize = 32;
-
 // The matrix at `to` gets the upper halves of the snippets at `source`: each second position is taken back along `down`.
 fn add_upper(p: &mut [u16], source: usize, down: usize, to: usize)
-    requires { ⌜ Apart source to × Apart down to × (source + 16 ≤ length (now p)) × (down + 16 ≤ length (now p)) × (to + 16 ≤ length (now p)) ⌝ }
-    ensures { λ _. ⌜ Drawing (With (now (p .entry)) to (Upper (now (p .entry)) source down)) to 16 (now (p .entry)) (now (p .exit)) ⌝ }
+    requires { ⌜ Apart source to × Apart down to × (source + positions ≤ length (now p)) × (down + positions ≤ length (now p)) × (to + positions ≤ length (now p)) ⌝ }
+    ensures { λ _. ⌜ Drawing (With (now (p .entry)) to (Upper (now (p .entry)) source down)) to positions (now (p .entry)) (now (p .exit)) ⌝ }
 {
     let mut i: usize = 0;
-    while i < 16 {
+    while i < Rule::MAX_POSITIONS {
         let w = p[source + i];
         let new = before(p, down, w);
         p[to + i] = union(p[to + i], new);
@@ -31,11 +32,11 @@ fn add_upper(p: &mut [u16], source: usize, down: usize, to: usize)
 
 // The matrix at `to` gets the lower halves of the snippets at `source`: each first position is taken on along `up`.
 fn add_lower(p: &mut [u16], source: usize, up: usize, to: usize)
-    requires { ⌜ Apart source to × Apart up to × (source + 16 ≤ length (now p)) × (up + 16 ≤ length (now p)) × (to + 16 ≤ length (now p)) ⌝ }
-    ensures { λ _. ⌜ Drawing (With (now (p .entry)) to (Lower (now (p .entry)) source up)) to 16 (now (p .entry)) (now (p .exit)) ⌝ }
+    requires { ⌜ Apart source to × Apart up to × (source + positions ≤ length (now p)) × (up + positions ≤ length (now p)) × (to + positions ≤ length (now p)) ⌝ }
+    ensures { λ _. ⌜ Drawing (With (now (p .entry)) to (Lower (now (p .entry)) source up)) to positions (now (p .entry)) (now (p .exit)) ⌝ }
 {
     let mut i: usize = 0;
-    while i < 16 {
+    while i < Rule::MAX_POSITIONS {
         let w = p[up + i];
         let new = image(p, source, w);
         p[to + i] = union(p[to + i], new);

@@ -5,7 +5,8 @@ use links::table::put;
 ghost use mathlib.Core.List.{[], _∷_};
 ghost use mathlib.Core.Logic.{_⊎_};
 ghost use mathlib.Core.Path.{_≡_};
-ghost use Prim.Native.Nat.{suc, _≤_, _<_};
+ghost use Prim.Native.Nat.{suc, _≤_, _<_, _-_};
+ghost use Rattle.limits.specs.Limits.{wordValues};
 ghost use Rattle.xpath.specs.Tree.{Tree};
 ghost use Rattle.links.specs.Table.{PARENT, cell, word, Room, Wrote};
 ghost use Rattle.skeletons.specs.Shape.{Shape};
@@ -16,7 +17,7 @@ const LEVEL: usize = 8;
 
 // Node `v` lies one level below its parent, whose level is known. Its own level is handed back.
 fn enter(p: &mut [u16], n: usize, v: usize) -> usize
-    requires { ⌜ Room n (now p) × (v < n) × (word (now p) n PARENT v < n) × (word (now p) n LEVEL (word (now p) n PARENT v) < 65535) ⌝ }
+    requires { ⌜ Room n (now p) × (v < n) × (word (now p) n PARENT v < n) × (word (now p) n LEVEL (word (now p) n PARENT v) < wordValues - 1) ⌝ }
     ensures { λ r. ⌜ (r ≡ suc (word (now (p .entry)) n LEVEL (word (now (p .entry)) n PARENT v))) × Wrote ((cell n LEVEL v, r) ∷ []) (now (p .entry)) (now (p .exit)) ⌝ }
 {
     let u = parent(p, n, v);

@@ -1,6 +1,6 @@
 -- Every document is refused by a first ground or is the spelling of one legal library, and never both.
 use Prim.Native.Nat.{ℕ, zero, suc, _+_, _*_, _≤_, _<_}
-use mathlib.Core.Path.{_≡_, refl}
+use mathlib.Core.Path.{_≡_, refl, sym, _∙_}
 use mathlib.Core.Logic.{_⊎_, inl, inr, ⊎-elim, _↔_}
 use mathlib.Core.List.{List, [], _∷_, _++_, List-discrete}
 use native.Mathlib.Omega.{arith}
@@ -9,7 +9,7 @@ use lib.ListN.{length}
 use Rattle.limits.specs.Limits.{documentBytes, documentNodes}
 use Rattle.refusals.specs.Refusals.{Refusal, documentLength, lineForm, nodeCount, treeRule, First}
 use Rattle.library.specs.Library.{Node, Legal, spell}
-use Rattle.library.specs.Verdict.{line, CountIs, Breaks, DocumentGround, Accepts}
+use Rattle.library.specs.Verdict.{line, CountIs, Breaks, DocumentGround, Accepts, Checked}
 use Rattle.library.proofs.Lines.{line-none}
 use Rattle.library.proofs.Fields.{Field, depth, kind, label, value, lineOf, Formed, Ruled}
 use Rattle.library.proofs.Grounds.{first-long, first-uncounted, first-number}
@@ -89,3 +89,11 @@ module _ (s : List ℕ) where
   -- 01: a document is accepted if no number that judges it applies
   pub document-accepts : ((r : Refusal) → ¬ DocumentGround s r) ↔ ((ns : List Node) × Accepts s ns)
   document-accepts = (λ h. ⊎-elim (λ (r, f). absurd (h r (f .applies))) (λ a. a) document-judged, λ (ns, a). accepted-unrefused s ns a)
+
+  -- ── The check's contract leaves nothing open ──
+  pub checked-one : (n p k n′ p′ k′ : ℕ) → Checked s n p k → Checked s n′ p′ k′ → (n ≡ n′) × (p ≡ p′) × (k ≡ k′)
+  checked-one n p k n′ p′ k′ a b = go document-judged
+    where
+      go : Refused ⊎ ((ns : List Node) × Accepts s ns) → (n ≡ n′) × (p ≡ p′) × (k ≡ k′)
+      go (inl (r, f)) = let x = a .refused r f in let y = b .refused r f in (x .0 ∙ sym (y .0), x .1 ∙ sym (y .1), x .2 ∙ sym (y .2))
+      go (inr (ns, c)) = let x = a .accepted ns c in let y = b .accepted ns c in (x .0 ∙ sym (y .0), x .1 ∙ sym (y .1), x .2 ∙ sym (y .2))

@@ -1,12 +1,12 @@
 -- When a document is refused: numbers 1 to 4 of 01.
-use Prim.Native.Nat.{ℕ, zero, suc, _+_, _-_, _*_, _≤_, _<_}
+use Prim.Native.Nat.{ℕ, zero, suc, _+_, _-_, _*_, _≤_, _<_, _^_}
 use mathlib.Core.Path.{_≡_}
 use mathlib.Core.Logic.{_⊎_, _≢_}
 use mathlib.Core.Bool.{true, false}
 use mathlib.Core.List.{List, [], _∷_}
 use lib.ListN.{length}
 use lib.Dec.{eqb}
-use Rattle.limits.specs.Limits.{documentBytes, documentNodes}
+use Rattle.limits.specs.Limits.{documentBytes, documentNodes, countDigits, depthDigits}
 use Rattle.limits.specs.Names.{Name}
 use Rattle.refusals.specs.Refusals.{Refusal, documentLength, lineForm, nodeCount, treeRule, number, place, First}
 use Rattle.library.specs.Library.{Node, Kind, element, Value, DepthBehind, KindBehind, LabelRule, ValueRule, Legal, nodesLine, depthLine, kindLine, labelLine, valueLine, spell}
@@ -33,10 +33,10 @@ module _ (s : List ℕ) where
   -- ── What a line of the form due there says: N, and the fields of node v ──
   -- N has 1 to 5 digits and D 1 to 4
   abbrev pub CountIs : ℕ → Type 0
-  CountIs n = (n < 100_000) × (line s 1 ≡ nodesLine n)
+  CountIs n = (n < 10 ^ countDigits) × (line s 1 ≡ nodesLine n)
 
   abbrev pub DepthIs : ℕ → ℕ → Type 0
-  DepthIs v d = (d < 10_000) × (line s (4 * v + 2) ≡ depthLine d)
+  DepthIs v d = (d < 10 ^ depthDigits) × (line s (4 * v + 2) ≡ depthLine d)
 
   abbrev pub KindIs : ℕ → Kind → Type 0
   KindIs v k = line s (4 * v + 3) ≡ kindLine k

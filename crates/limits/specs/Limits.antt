@@ -1,5 +1,5 @@
 -- The limits of document 01, each named with the thing that it limits.
-use Prim.Native.Nat.{ℕ, zero, suc, _+_, _*_, _-_, _/_}
+use Prim.Native.Nat.{ℕ, zero, suc, _+_, _*_, _-_, _/_, _^_}
 use Rattle.lists.specs.Text.{binaryDigits}
 
 -- a document has at most 1,048,576 bytes, and N is 1 to 4,096
@@ -53,7 +53,7 @@ abbrev pub wordBits : ℕ
 wordBits = 16
 
 abbrev pub wordValues : ℕ
-wordValues = 65_536
+wordValues = 2 ^ wordBits
 
 abbrev pub wordsPerDigit : ℕ
 wordsPerDigit = 64
@@ -64,6 +64,13 @@ wordsPerNode = 128
 unfoldable pub scratchWords : ℕ → ℕ
 scratchWords n = n * (wordsPerDigit * binaryDigits n + wordsPerNode)
 
+-- the tree's own words of each node; a comparison works in a part that begins behind them
+abbrev pub treeWords : ℕ
+treeWords = 16
+
+abbrev pub partWords : ℕ
+partWords = wordsPerNode - treeWords
+
 -- B of the most nodes, by halving: nodeDigits computes, and is binaryDigits documentNodes (proofs/Digits)
 abbrev pub halvings : ℕ → ℕ → ℕ
 halvings zero n = zero
@@ -72,10 +79,6 @@ halvings (suc fuel) (suc n) = suc (halvings fuel (suc n / 2))
 
 abbrev pub nodeDigits : ℕ
 nodeDigits = halvings documentNodes documentNodes
-
--- the word that stands for no node
-abbrev pub noNode : ℕ
-noNode = wordValues - 1
 
 -- the program reads up to 65,536 bytes, and lends 32,768 words and 4,096 marks
 abbrev pub programInput : ℕ

@@ -2,7 +2,7 @@
 ghost use mathlib.Core.Path.{_≡_};
 ghost use Prim.Native.Nat.{_<_, _≤_};
 ghost use Rattle.lists.specs.Text.{binaryDigits};
-ghost use Rattle.limits.specs.Limits.{documentBytes, documentNodes, countDigits, depthDigits, labelBytes, valueBytes, ruleBytes, ruleTests, ruleNesting, comparisonSteps, positions, constantBytes, wordsPerDigit, wordsPerNode, wordValues, noNode, scratchWords, programInput, programWords, programMarks};
+ghost use Rattle.limits.specs.Limits.{documentBytes, documentNodes, countDigits, depthDigits, labelBytes, valueBytes, ruleBytes, ruleTests, ruleNesting, comparisonSteps, positions, constantBytes, wordsPerDigit, wordsPerNode, treeWords, partWords, wordBits, wordValues, scratchWords, programInput, programWords, programMarks};
 
 pub struct Document {
     pub nodes: usize,
@@ -63,11 +63,15 @@ impl Scratch {
 
     pub const WORDS_PER_NODE: usize = 128;
 
-    // How many values a word of the scratch can have: it has 16 bits.
-    pub const WORD_VALUES: usize = 65536;
+    // The first words of each node are the tree's own; a comparison's part has the others.
+    pub const TREE_WORDS: usize = 16;
 
-    // The word that stands for no node.
-    pub const NO_NODE: usize = Scratch::WORD_VALUES - 1;
+    pub const PART_WORDS: usize = Scratch::WORDS_PER_NODE - Scratch::TREE_WORDS;
+
+    // A word has 16 bits, and so many values.
+    pub const WORD_BITS: usize = 16;
+
+    pub const WORD_VALUES: usize = 65536;
 
     // The words that a document of so many nodes needs.
     pub fn needed(nodes: usize) -> usize
@@ -109,8 +113,10 @@ fn rule_agrees()
 fn scratch_agrees()
     ensures { λ _. do ⌜ (← ⟦Scratch::WORDS_PER_DIGIT⟧ .entry) ≡ wordsPerDigit ⌝ }
     ensures { λ _. do ⌜ (← ⟦Scratch::WORDS_PER_NODE⟧ .entry) ≡ wordsPerNode ⌝ }
+    ensures { λ _. do ⌜ (← ⟦Scratch::TREE_WORDS⟧ .entry) ≡ treeWords ⌝ }
+    ensures { λ _. do ⌜ (← ⟦Scratch::PART_WORDS⟧ .entry) ≡ partWords ⌝ }
+    ensures { λ _. do ⌜ (← ⟦Scratch::WORD_BITS⟧ .entry) ≡ wordBits ⌝ }
     ensures { λ _. do ⌜ (← ⟦Scratch::WORD_VALUES⟧ .entry) ≡ wordValues ⌝ }
-    ensures { λ _. do ⌜ (← ⟦Scratch::NO_NODE⟧ .entry) ≡ noNode ⌝ }
 {}
 
 fn program_agrees()

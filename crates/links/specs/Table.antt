@@ -1,15 +1,16 @@
 -- The table of a tree of n nodes, the first 16 × n words of a scratch: word v of column c stands at c × n + v.
-use Prim.Native.Nat.{ℕ, _+_, _*_, _≤_}
+use Prim.Native.Nat.{ℕ, _+_, _*_, _≤_, _-_}
 use mathlib.Core.Path.{_≡_}
 use mathlib.Core.Logic.{_≢_}
 use mathlib.Core.Bool.{Bool, true, false}
 use mathlib.Core.List.{List}
 use lib.ListN.{length, getD}
 use Rattle.lists.specs.Lists.{All}
+use Rattle.limits.specs.Limits.{wordValues, treeWords}
 
 -- ── The columns ──
 abbrev pub COLUMNS : ℕ
-COLUMNS = 16
+COLUMNS = treeWords
 
 -- the offset of a node's lines is LOW + 65536 × HIGH
 abbrev pub LOW : ℕ
@@ -34,9 +35,9 @@ RANK = 5
 abbrev pub LAST : ℕ
 LAST = 6
 
--- the word that stands for no node
+-- the word that stands for none: no node, or no rank
 abbrev pub NONE : ℕ
-NONE = 65_535
+NONE = wordValues - 1
 
 -- the children on a side
 abbrev pub column : Bool → ℕ
@@ -51,7 +52,7 @@ abbrev pub word : List ℕ → ℕ → ℕ → ℕ → ℕ
 word t n c v = getD t (cell n c v) 0
 
 abbrev pub offsetOf : List ℕ → ℕ → ℕ → ℕ
-offsetOf t n v = word t n LOW v + 65_536 * word t n HIGH v
+offsetOf t n v = word t n LOW v + wordValues * word t n HIGH v
 
 -- the scratch has room for the table
 abbrev pub Room : ℕ → List ℕ → Type 0

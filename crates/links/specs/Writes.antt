@@ -2,11 +2,12 @@
 use Prim.Native.Nat.{ℕ, _-_, _/_, _%_}
 use mathlib.Core.Bool.{Bool}
 use mathlib.Core.List.{List, [], _∷_}
+use Rattle.limits.specs.Limits.{wordValues}
 use Rattle.library.specs.Binary.{pick}
 use Rattle.links.specs.Table.{LOW, HIGH, LEFT, RIGHT, PARENT, LAST, NONE, column, cell, word}
 
 abbrev pub placed : ℕ → ℕ → ℕ → List (ℕ × ℕ)
-placed n v at = (cell n HIGH v, at / 65_536) ∷ (cell n LOW v, at % 65_536) ∷ []
+placed n v at = (cell n HIGH v, at / wordValues) ∷ (cell n LOW v, at % wordValues) ∷ []
 
 -- node v at an offset, of depth d, with the parent u
 abbrev pub entered : ℕ → ℕ → ℕ → ℕ → ℕ → List (ℕ × ℕ)

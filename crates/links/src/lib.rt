@@ -3,6 +3,7 @@ pub mod table;
 
 use document::entries::first_entry;
 use document::entries::read_entry;
+use limits::Scratch;
 use table::Table;
 use table::get;
 use table::put;
@@ -11,6 +12,7 @@ ghost use mathlib.Core.List.{List};
 ghost use Prim.Native.Nat.{_*_, _≤_, _<_};
 ghost use lib.ListN.{length};
 ghost use lib.Dec.{ltb};
+ghost use Rattle.limits.specs.Limits.{wordValues};
 ghost use Rattle.library.specs.Library as Library;
 ghost use Rattle.library.specs.Verdict.{Accepts};
 ghost use Rattle.links.specs.Table.{LAST, word, Room, Wrote};
@@ -19,16 +21,16 @@ ghost use Rattle.links.specs.Links.{Built};
 
 // The offset of a node's lines, in two words.
 fn place(t: &mut [u16], n: usize, v: usize, at: usize)
-    requires { ⌜ (v < n) × Room n (now t) × (at < 65536 * 65536) ⌝ }
+    requires { ⌜ (v < n) × Room n (now t) × (at < wordValues * wordValues) ⌝ }
     ensures { λ _. ⌜ Wrote (placed n v at) (now (t .entry)) (now (t .exit)) ⌝ }
 {
-    put(t, n, Table::LOW, v, at % 65536);
-    put(t, n, Table::HIGH, v, at / 65536);
+    put(t, n, Table::LOW, v, at % Scratch::WORD_VALUES);
+    put(t, n, Table::HIGH, v, at / Scratch::WORD_VALUES);
 }
 
 // Node `v` of a depth with its parent `up`: it has no child so far, and is the last node of its depth.
 fn enter(t: &mut [u16], n: usize, v: usize, at: usize, depth: usize, up: usize)
-    requires { ⌜ (v < n) × (n < 65536) × Room n (now t) × (at < 65536 * 65536) × (depth < n) × (up < 65536) ⌝ }
+    requires { ⌜ (v < n) × (n < wordValues) × Room n (now t) × (at < wordValues * wordValues) × (depth < n) × (up < wordValues) ⌝ }
     ensures { λ _. ⌜ Wrote (entered n v at depth up) (now (t .entry)) (now (t .exit)) ⌝ }
 {
     place(t, n, v, at);
@@ -40,7 +42,7 @@ fn enter(t: &mut [u16], n: usize, v: usize, at: usize, depth: usize, up: usize)
 
 // Node `v` behind a node of depth `before`: it is that node's left child if it lies deeper, and else the right child of the last node of its own depth.
 fn step(t: &mut [u16], n: usize, v: usize, at: usize, depth: usize, before: usize)
-    requires { ⌜ (0 < v) × (v < n) × (n < 65536) × Room n (now t) × (at < 65536 * 65536) × (depth < n) × (depth ≤ before → word (now t) n LAST depth < v) ⌝ }
+    requires { ⌜ (0 < v) × (v < n) × (n < wordValues) × Room n (now t) × (at < wordValues * wordValues) × (depth < n) × (depth ≤ before → word (now t) n LAST depth < v) ⌝ }
     ensures { λ _. ⌜ Wrote (hung n v at depth (ltb before depth) (parentBy (now (t .entry)) n v depth (ltb before depth))) (now (t .entry)) (now (t .exit)) ⌝ }
 {
     let prior = v - 1;

@@ -1,7 +1,9 @@
 // The table of the tree: 16 columns of N words, one for each thing that is told of a node.
+use limits::Scratch;
 ghost use mathlib.Core.Path.{_≡_};
 ghost use mathlib.Core.List.{[], _∷_};
 ghost use Prim.Native.Nat.{_<_};
+ghost use Rattle.limits.specs.Limits.{wordValues};
 ghost use Rattle.links.specs.Table.{COLUMNS, LEFT, RIGHT, PARENT, cell, word, offsetOf, Room, Wrote};
 
 pub struct Table;
@@ -23,15 +25,15 @@ impl Table {
     // While the tree is built: the last node so far of a depth.
     pub const LAST: usize = 6;
 
-    pub const COLUMNS: usize = 16;
+    pub const COLUMNS: usize = Scratch::TREE_WORDS;
 
-    // The word that stands for no node.
-    pub const NONE: usize = 65535;
+    // The word that stands for none: no node, or no rank.
+    pub const NONE: usize = Scratch::WORD_VALUES - 1;
 }
 
 // Column `c` of node `v` becomes `x`.
 pub fn put(t: &mut [u16], n: usize, c: usize, v: usize, x: usize)
-    requires { ⌜ (c < COLUMNS) × (v < n) × Room n (now t) × (x < 65536) ⌝ }
+    requires { ⌜ (c < COLUMNS) × (v < n) × Room n (now t) × (x < wordValues) ⌝ }
     ensures { λ _. ⌜ Wrote ((cell n c v, x) ∷ []) (now (t .entry)) (now (t .exit)) ⌝ }
 {
     t[c * n + v] = x as u16;
@@ -40,7 +42,7 @@ pub fn put(t: &mut [u16], n: usize, c: usize, v: usize, x: usize)
 // Column `c` of node `v`.
 pub fn get(t: &[u16], n: usize, c: usize, v: usize) -> usize
     requires { ⌜ (c < COLUMNS) × (v < n) × Room n (now t) ⌝ }
-    ensures { λ r. ⌜ (r ≡ word (now (t .entry)) n c v) × (r < 65536) ⌝ }
+    ensures { λ r. ⌜ (r ≡ word (now (t .entry)) n c v) × (r < wordValues) ⌝ }
 {
     t[c * n + v] as usize
 }
@@ -50,13 +52,13 @@ pub fn offset(t: &[u16], n: usize, v: usize) -> usize
     requires { ⌜ (v < n) × Room n (now t) ⌝ }
     ensures { λ r. ⌜ r ≡ offsetOf (now (t .entry)) n v ⌝ }
 {
-    get(t, n, Table::LOW, v) + 65536 * get(t, n, Table::HIGH, v)
+    get(t, n, Table::LOW, v) + Scratch::WORD_VALUES * get(t, n, Table::HIGH, v)
 }
 
 // The left child of node `v`, or none.
 pub fn left(t: &[u16], n: usize, v: usize) -> usize
     requires { ⌜ (v < n) × Room n (now t) ⌝ }
-    ensures { λ r. ⌜ (r ≡ word (now (t .entry)) n LEFT v) × (r < 65536) ⌝ }
+    ensures { λ r. ⌜ (r ≡ word (now (t .entry)) n LEFT v) × (r < wordValues) ⌝ }
 {
     get(t, n, Table::LEFT, v)
 }
@@ -64,7 +66,7 @@ pub fn left(t: &[u16], n: usize, v: usize) -> usize
 // The right child of node `v`, or none.
 pub fn right(t: &[u16], n: usize, v: usize) -> usize
     requires { ⌜ (v < n) × Room n (now t) ⌝ }
-    ensures { λ r. ⌜ (r ≡ word (now (t .entry)) n RIGHT v) × (r < 65536) ⌝ }
+    ensures { λ r. ⌜ (r ≡ word (now (t .entry)) n RIGHT v) × (r < wordValues) ⌝ }
 {
     get(t, n, Table::RIGHT, v)
 }
@@ -72,7 +74,7 @@ pub fn right(t: &[u16], n: usize, v: usize) -> usize
 // The parent of node `v`, or none for the root.
 pub fn parent(t: &[u16], n: usize, v: usize) -> usize
     requires { ⌜ (v < n) × Room n (now t) ⌝ }
-    ensures { λ r. ⌜ (r ≡ word (now (t .entry)) n PARENT v) × (r < 65536) ⌝ }
+    ensures { λ r. ⌜ (r ≡ word (now (t .entry)) n PARENT v) × (r < wordValues) ⌝ }
 {
     get(t, n, Table::PARENT, v)
 }

@@ -5,6 +5,7 @@ use mathlib.Core.Logic.{_≢_}
 use mathlib.Core.Bool.{Bool, true, false}
 use mathlib.Core.List.{List}
 use lib.ListN.{getD}
+use Rattle.limits.specs.Limits.{positions}
 use Rattle.bits.specs.Sets.{bit}
 use Rattle.links.specs.Table.{LEFT, PARENT, word}
 use Rattle.matrices.specs.Matrices.{Related}
@@ -35,8 +36,8 @@ pub record Goes (m : Machine) (w i j : ℕ) : Type 0 where
 pub record Detour (m : Machine) (p : List ℕ) (at w w′ i j : ℕ) : Type 0 where
   pub first : ℕ
   pub last : ℕ
-  pub firstFew : first < 16
-  pub lastFew : last < 16
+  pub firstFew : first < positions
+  pub lastFew : last < positions
   pub leave : Goes m w i first
   pub within : Related p at first last
   pub back : Goes m w′ last j
@@ -44,15 +45,15 @@ pub record Detour (m : Machine) (p : List ℕ) (at w w′ i j : ℕ) : Type 0 wh
 -- the matrix of each node v, which stands at loopAt n v, holds
 pub record Closed (m : Machine) (n : ℕ) (p : List ℕ) : Type 0 where
   -- no step
-  pub reflexive : (v i : ℕ) → v < n → i < 16 → Related p (loopAt n v) i i
+  pub reflexive : (v i : ℕ) → v < n → i < positions → Related p (loopAt n v) i i
   -- one after the other
-  pub transitive : (v i j k : ℕ) → v < n → i < 16 → j < 16 → k < 16
+  pub transitive : (v i j k : ℕ) → v < n → i < positions → j < positions → k < positions
       → Related p (loopAt n v) i j → Related p (loopAt n v) j k → Related p (loopAt n v) i k
   -- a step that stays
-  pub bracket : (v i j : ℕ) → v < n → i < 16 → j < 16 → Goes m (word p n STAYS v) i j → Related p (loopAt n v) i j
+  pub bracket : (v i j : ℕ) → v < n → i < positions → j < positions → Goes m (word p n STAYS v) i j → Related p (loopAt n v) i j
   -- from the parent of v by a detour over v, which is on a side
-  pub upwards : (side : Bool) (v i j : ℕ) → 0 < v → v < n → OnSide p n v side → i < 16 → j < 16
+  pub upwards : (side : Bool) (v i j : ℕ) → 0 < v → v < n → OnSide p n v side → i < positions → j < positions
       → Detour m p (loopAt n v) (downs m side) (ups m side) i j → Related p (loopAt n (word p n PARENT v)) i j
   -- from v by a detour over its parent
-  pub downwards : (side : Bool) (v i j : ℕ) → 0 < v → v < n → OnSide p n v side → i < 16 → j < 16
+  pub downwards : (side : Bool) (v i j : ℕ) → 0 < v → v < n → OnSide p n v side → i < positions → j < positions
       → Detour m p (loopAt n (word p n PARENT v)) (ups m side) (downs m side) i j → Related p (loopAt n v) i j

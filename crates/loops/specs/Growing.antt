@@ -5,21 +5,22 @@ use mathlib.Core.Logic.{_⊎_, _≢_, _↔_}
 use mathlib.Core.Bool.{Bool, true}
 use mathlib.Core.List.{List}
 use lib.ListN.{length, getD}
+use Rattle.limits.specs.Limits.{documentNodes, positions}
 use Rattle.bits.specs.Sets.{bit, or, size}
 use Rattle.xpath.specs.Syntax.{XPath}
 use Rattle.xpath.specs.Tree.{Tree}
 use Rattle.links.specs.Table.{PARENT, word}
 use Rattle.matrices.specs.Matrices.{Related, Chain, Redrawn, Drawing, pairs}
 use Rattle.walks.specs.declared.Machine.{Machine}
-use Rattle.walks.specs.Part.{STAYS}
+use Rattle.walks.specs.Part.{STAYS, LOOPS, PAIRS}
 use Rattle.loops.specs.Loops.{Stage, loopAt}
 use Rattle.loops.specs.Closed.{downs, ups, OnSide, Goes, Detour}
 use Rattle.loops.specs.Sound.{Sound}
 
 -- the part has room for the matrices, and each node but the root has its parent before it
 pub record Ready (n : ℕ) (p : List ℕ) : Type 0 where
-  pub few : n ≤ 4096
-  pub room : 32 * n ≤ length p
+  pub few : n ≤ documentNodes
+  pub room : PAIRS * n ≤ length p
   pub parents : (v : ℕ) → 0 < v → v < n → word p n PARENT v < v
 
 -- ── One matrix ──
@@ -29,7 +30,7 @@ pub record Joined (at w : ℕ) (p p′ : List ℕ) (r : ℕ) : Type 0 where
   pub here : (j : ℕ) → bit (getD p′ at 0) j ≡ or (bit (getD p at 0) j) (bit w j)
   pub other : (k : ℕ) → k ≢ at → getD p′ k 0 ≡ getD p k 0
   pub small : r ≤ 1
-  pub count : r + size 16 (getD p at 0) ≤ size 16 (getD p′ at 0)
+  pub count : r + size positions (getD p at 0) ≤ size positions (getD p′ at 0)
   pub still : r ≡ 0 → p′ ≡ p
 
 -- what is related already, or by a detour over the matrix that stands elsewhere
@@ -46,9 +47,9 @@ pub record Widening (A : ℕ → ℕ → Type 0) (at k : ℕ) (p p′ : List ℕ
 -- the matrix becomes the closure of A, by at least r pairs; r is 0 if it has all of A already, and then nothing changes
 pub record Visited (A : ℕ → ℕ → Type 0) (at : ℕ) (p p′ : List ℕ) (r : ℕ) : Type 0 where
   pub only : Redrawn at p p′
-  pub closed : 0 < r → (i j : ℕ) → i < 16 → j < 16 → Related p′ at i j ↔ Chain A i j
-  pub full : r ≡ 0 → (i j : ℕ) → i < 16 → j < 16 → A i j → Related p at i j
-  pub count : r + pairs p at 16 ≤ pairs p′ at 16
+  pub closed : 0 < r → (i j : ℕ) → i < positions → j < positions → Related p′ at i j ↔ Chain A i j
+  pub full : r ≡ 0 → (i j : ℕ) → i < positions → j < positions → A i j → Related p at i j
+  pub count : r + pairs p at positions ≤ pairs p′ at positions
   pub still : r ≡ 0 → p′ ≡ p
 
 -- j is in row i and one of the steps w
@@ -58,7 +59,7 @@ Steps rows w i j = (bit (getD rows i 0) j ≡ true) × (bit w j ≡ true)
 -- the matrix of node v becomes the closure of the steps that stay there
 pub record Begun (m : Machine) (n v : ℕ) (p p′ : List ℕ) : Type 0 where
   pub only : Redrawn (loopAt n v) p p′
-  pub closed : (i j : ℕ) → i < 16 → j < 16 → Related p′ (loopAt n v) i j ↔ Chain (Goes m (word p n STAYS v)) i j
+  pub closed : (i j : ℕ) → i < positions → j < positions → Related p′ (loopAt n v) i j ↔ Chain (Goes m (word p n STAYS v)) i j
 
 -- ── The matrices of the nodes below k ──
 -- what they relate comes back to its node
@@ -67,15 +68,15 @@ SoundBelow P R t n k p = (v : ℕ) → v < k → Sound P R t p (loopAt n v) v
 
 -- they are reflexive and transitive, and have the steps that stay
 pub record Woven (m : Machine) (n k : ℕ) (p : List ℕ) : Type 0 where
-  pub reflexive : (v i : ℕ) → v < k → i < 16 → Related p (loopAt n v) i i
-  pub transitive : (v i j l : ℕ) → v < k → i < 16 → j < 16 → l < 16
+  pub reflexive : (v i : ℕ) → v < k → i < positions → Related p (loopAt n v) i i
+  pub transitive : (v i j l : ℕ) → v < k → i < positions → j < positions → l < positions
       → Related p (loopAt n v) i j → Related p (loopAt n v) j l → Related p (loopAt n v) i l
-  pub bracket : (v i j : ℕ) → v < k → i < 16 → j < 16 → Goes m (word p n STAYS v) i j → Related p (loopAt n v) i j
+  pub bracket : (v i j : ℕ) → v < k → i < positions → j < positions → Goes m (word p n STAYS v) i j → Related p (loopAt n v) i j
 
 -- they are drawn from the steps that stay, and all other words are as before
 pub record Started (m : Machine) (n k : ℕ) (p p′ : List ℕ) : Type 0 where
   pub long : length p′ ≡ length p
-  pub front : (l : ℕ) → l < 16 * n → getD p′ l 0 ≡ getD p l 0
+  pub front : (l : ℕ) → l < LOOPS * n → getD p′ l 0 ≡ getD p l 0
   pub behind : (l : ℕ) → loopAt n k ≤ l → getD p′ l 0 ≡ getD p l 0
   pub woven : Woven m n k p′
   pub sound : (P R : XPath) (t : Tree) → Stage P R t m n p → SoundBelow P R t n k p′
@@ -83,14 +84,14 @@ pub record Started (m : Machine) (n k : ℕ) (p p′ : List ℕ) : Type 0 where
 -- ── All matrices ──
 -- how many pairs they have
 abbrev pub total : ℕ → List ℕ → ℕ
-total n p = pairs p (16 * n) (16 * n)
+total n p = pairs p (LOOPS * n) (positions * n)
 
 -- at least r pairs are added, each of them sound; r is 0 only if nothing changes
 pub record Grown (m : Machine) (n : ℕ) (p p′ : List ℕ) (r : ℕ) : Type 0 where
   pub long : length p′ ≡ length p
-  pub front : (k : ℕ) → k < 16 * n → getD p′ k 0 ≡ getD p k 0
-  pub behind : (k : ℕ) → 32 * n ≤ k → getD p′ k 0 ≡ getD p k 0
-  pub grow : (v i j : ℕ) → v < n → i < 16 → j < 16 → Related p (loopAt n v) i j → Related p′ (loopAt n v) i j
+  pub front : (k : ℕ) → k < LOOPS * n → getD p′ k 0 ≡ getD p k 0
+  pub behind : (k : ℕ) → PAIRS * n ≤ k → getD p′ k 0 ≡ getD p k 0
+  pub grow : (v i j : ℕ) → v < n → i < positions → j < positions → Related p (loopAt n v) i j → Related p′ (loopAt n v) i j
   pub woven : Woven m n n p → Woven m n n p′
   pub sound : (P R : XPath) (t : Tree) → Stage P R t m n p → SoundBelow P R t n n p → SoundBelow P R t n n p′
   pub count : r + total n p ≤ total n p′
@@ -103,12 +104,12 @@ pub record Passed (B : Type 0) (m : Machine) (n : ℕ) (p p′ : List ℕ) (r : 
 
 -- what the detours over v find is in the matrix of its parent
 abbrev pub Rises : Machine → ℕ → List ℕ → ℕ → Type 0
-Rises m n p v = (side : Bool) (i j : ℕ) → OnSide p n v side → i < 16 → j < 16
+Rises m n p v = (side : Bool) (i j : ℕ) → OnSide p n v side → i < positions → j < positions
     → Detour m p (loopAt n v) (downs m side) (ups m side) i j → Related p (loopAt n (word p n PARENT v)) i j
 
 -- what the detours over its parent find is in the matrix of v
 abbrev pub Falls : Machine → ℕ → List ℕ → ℕ → Type 0
-Falls m n p v = (side : Bool) (i j : ℕ) → OnSide p n v side → i < 16 → j < 16
+Falls m n p v = (side : Bool) (i j : ℕ) → OnSide p n v side → i < positions → j < positions
     → Detour m p (loopAt n (word p n PARENT v)) (ups m side) (downs m side) i j → Related p (loopAt n v) i j
 
 -- at every node that has a parent

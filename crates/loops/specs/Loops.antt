@@ -4,12 +4,14 @@ use mathlib.Core.Path.{_≡_}
 use mathlib.Core.Logic.{_↔_}
 use mathlib.Core.List.{List}
 use lib.ListN.{length, getD}
+use Rattle.limits.specs.Limits.{positions}
 use Rattle.xpath.specs.Syntax.{XPath}
 use Rattle.xpath.specs.Tree.{Tree, WellFormed}
 use Rattle.positions.specs.Positions.{Comes}
 use Rattle.matrices.specs.Matrices.{Related}
 use Rattle.walks.specs.declared.Machine.{Machine}
 use Rattle.walks.specs.Meaning.{IsMachine, Drawn}
+use Rattle.walks.specs.Part.{LOOPS, PAIRS}
 
 -- a comparison of two paths on a tree, and the words that stand for them
 pub record Stage (P R : XPath) (t : Tree) (m : Machine) (n : ℕ) (p : List ℕ) : Type 0 where
@@ -19,15 +21,15 @@ pub record Stage (P R : XPath) (t : Tree) (m : Machine) (n : ℕ) (p : List ℕ)
 
 -- behind the 16 columns at the front of a part: the matrix of node v
 abbrev pub loopAt : ℕ → ℕ → ℕ
-loopAt n v = 16 * n + 16 * v
+loopAt n v = LOOPS * n + positions * v
 
 -- i at v comes to j at v
 abbrev pub Loops : XPath → XPath → Tree → ℕ → List ℕ → Type 0
-Loops P R t n p = (v i j : ℕ) → v < n → i < 16 → j < 16 → Related p (loopAt n v) i j ↔ Comes P R t i v j v
+Loops P R t n p = (v i j : ℕ) → v < n → i < positions → j < positions → Related p (loopAt n v) i j ↔ Comes P R t i v j v
 
 -- all other words are as before
 pub record Looped (P R : XPath) (t : Tree) (n : ℕ) (p p′ : List ℕ) : Type 0 where
   pub long : length p′ ≡ length p
-  pub front : (k : ℕ) → k < 16 * n → getD p′ k 0 ≡ getD p k 0
-  pub behind : (k : ℕ) → 32 * n ≤ k → getD p′ k 0 ≡ getD p k 0
+  pub front : (k : ℕ) → k < LOOPS * n → getD p′ k 0 ≡ getD p k 0
+  pub behind : (k : ℕ) → PAIRS * n ≤ k → getD p′ k 0 ≡ getD p k 0
   pub loops : Loops P R t n p′

@@ -1,9 +1,12 @@
 // Where the matrices stand, behind the 16 columns of the part, and where a node hangs.
+use limits::Rule;
 use links::table::Table;
 use links::table::get;
+use walks::Part;
 ghost use mathlib.Core.Path.{_≡_};
 ghost use mathlib.Core.Bool.{true, false};
 ghost use Prim.Native.Nat.{_+_, _≤_, _<_};
+ghost use Rattle.limits.specs.Limits.{documentNodes, positions};
 ghost use Rattle.links.specs.Table.{PARENT, word};
 ghost use Rattle.loops.specs.Loops.{loopAt};
 ghost use Rattle.loops.specs.Closed.{OnSide};
@@ -11,16 +14,16 @@ ghost use Rattle.loops.specs.Growing.{Ready};
 
 // The offset of the matrix of node `v`.
 pub fn loop_at(n: usize, v: usize) -> usize
-    requires { ⌜ (n ≤ 4096) × (v ≤ n) ⌝ }
+    requires { ⌜ (n ≤ documentNodes) × (v ≤ n) ⌝ }
     ensures { λ r. ⌜ r ≡ loopAt n v ⌝ }
 {
-    16 * n + 16 * v
+    Part::LOOPS * n + Rule::MAX_POSITIONS * v
 }
 
 // The offset of the matrix of its parent.
 pub fn above(p: &[u16], n: usize, v: usize) -> usize
     requires { ⌜ Ready n (now p) × (0 < v) × (v < n) ⌝ }
-    ensures { λ r. ⌜ (r ≡ loopAt n (word (now (p .entry)) n PARENT v)) × (r + 16 ≤ loopAt n v) ⌝ }
+    ensures { λ r. ⌜ (r ≡ loopAt n (word (now (p .entry)) n PARENT v)) × (r + positions ≤ loopAt n v) ⌝ }
 {
     let u = get(p, n, Table::PARENT, v);
     loop_at(n, u)

@@ -1,11 +1,13 @@
 // The matrices at the start: the steps that stay at their node, closed.
 use crate::place::loop_at;
 use bits::meet;
+use limits::Rule;
 use links::table::get;
 use matrices::close;
 use walks::Machine;
 ghost use Prim.Native.Nat.{_+_, _≤_, _<_};
 ghost use lib.ListN.{length};
+ghost use Rattle.limits.specs.Limits.{positions};
 ghost use Rattle.matrices.specs.Matrices.{Drawing};
 ghost use Rattle.loops.specs.Growing.{Ready, Steps, Begun, Started};
 
@@ -13,12 +15,12 @@ ghost use Rattle.loops.specs.Growing.{Ready, Steps, Begun, Started};
 const STAYS: usize = 6;
 
 // The matrix at `at` becomes the steps of `w`.
-fn draw(p: &mut [u16], rows: [u16; 16], at: usize, w: u16)
-    requires { ⌜ at + 16 ≤ length (now p) ⌝ }
-    ensures { λ _. ⌜ Drawing (Steps rows w) at 16 (now (p .entry)) (now (p .exit)) ⌝ }
+fn draw(p: &mut [u16], rows: [u16; Rule::MAX_POSITIONS], at: usize, w: u16)
+    requires { ⌜ at + positions ≤ length (now p) ⌝ }
+    ensures { λ _. ⌜ Drawing (Steps rows w) at positions (now (p .entry)) (now (p .exit)) ⌝ }
 {
     let mut i: usize = 0;
-    while i < 16 {
+    while i < Rule::MAX_POSITIONS {
         p[at + i] = meet(rows[i], w);
         i += 1;
     }

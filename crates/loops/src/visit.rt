@@ -1,6 +1,7 @@
 // One matrix grows by the detours over another: by a step that leaves, by that matrix, and by a step back.
 use bits::meet;
 use bits::union;
+use limits::Rule;
 use matrices::close;
 use matrices::followers::followers;
 use matrices::image;
@@ -11,6 +12,7 @@ ghost use mathlib.Core.Bool.{true};
 ghost use mathlib.Core.Logic.{_↔_};
 ghost use Prim.Native.Nat.{ℕ, _+_, _≤_, _<_};
 ghost use lib.ListN.{length};
+ghost use Rattle.limits.specs.Limits.{positions};
 ghost use Rattle.bits.specs.Sets.{bit};
 ghost use Rattle.matrices.specs.Matrices.{Apart};
 ghost use Rattle.loops.specs.Closed.{Detour};
@@ -18,8 +20,8 @@ ghost use Rattle.loops.specs.Growing.{Joined, Widened, Widening, Visited
 
 // Where `i` comes to by a step of `leave`, by the matrix at `over` and by a step of `back`.
 fn detour(p: &[u16], m: Machine, over: usize, leave: u16, back: u16, i: usize) -> u16
-    requires { ⌜ (over + 16 ≤ length (now p)) × (i < 16) ⌝ }
-    ensures { λ r. ⌜ ((j : ℕ) → j < 16 → (bit r j ≡ true) ↔ Detour m (now (p .entry)) over leave back i j) ⌝ }
+    requires { ⌜ (over + positions ≤ length (now p)) × (i < positions) ⌝ }
+    ensures { λ r. ⌜ ((j : ℕ) → j < positions → (bit r j ≡ true) ↔ Detour m (now (p .entry)) over leave back i j) ⌝ }
 {
     let rows = m.rows;
     let left = meet(rows[i], leave);
@@ -42,12 +44,12 @@ fn add(p: &mut [u16], at: usize, w: u16) -> usize
 
 // Adds the detours over the matrix at `over` to the one at `at`. Gives the number of rows that are new.
 fn widen(p: &mut [u16], m: Machine, over: usize, at: usize, leave: u16, back: u16) -> usize
-    requires { ⌜ Apart over at × (over + 16 ≤ length (now p)) × (at + 16 ≤ length (now p)) ⌝ }
-    ensures { λ r. ⌜ Widening (Widened m (now (p .entry)) over at leave back) at 16 (now (p .entry)) (now (p .exit)) r ⌝ }
+    requires { ⌜ Apart over at × (over + positions ≤ length (now p)) × (at + positions ≤ length (now p)) ⌝ }
+    ensures { λ r. ⌜ Widening (Widened m (now (p .entry)) over at leave back) at positions (now (p .entry)) (now (p .exit)) r ⌝ }
 {
     let mut r: usize = 0;
     let mut i: usize = 0;
-    while i < 16 {
+    while i < Rule::MAX_POSITIONS {
         let w = detour(p, m, over, leave, back, i);
         r += add(p, at + i, w);
         i += 1;
@@ -57,7 +59,7 @@ fn widen(p: &mut [u16], m: Machine, over: usize, at: usize, leave: u16, back: u1
 
 // The same, and the matrix is closed again. What has no new row is closed already.
 pub fn visit(p: &mut [u16], m: Machine, over: usize, at: usize, leave: u16, back: u16) -> usize
-    requires { ⌜ Apart over at × (over + 16 ≤ length (now p)) × (at + 16 ≤ length (now p)) ⌝ }
+    requires { ⌜ Apart over at × (over + positions ≤ length (now p)) × (at + positions ≤ length (now p)) ⌝ }
     ensures { λ r. ⌜ Visited (Widened m (now (p .entry)) over at leave back) at (now (p .entry)) (now (p .exit)) r ⌝ }
 {
     let r = widen(p, m, over, at, leave, back);

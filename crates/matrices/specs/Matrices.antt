@@ -5,6 +5,7 @@ use mathlib.Core.Logic.{_⊎_, _↔_}
 use mathlib.Core.Bool.{true}
 use mathlib.Core.List.{List}
 use lib.ListN.{length, getD}
+use Rattle.limits.specs.Limits.{positions}
 use Rattle.bits.specs.Sets.{bit, size}
 
 -- i is related to j, by the matrix that stands at an offset
@@ -13,38 +14,38 @@ Related p at i j = bit (getD p (at + i) 0) j ≡ true
 
 -- j is related to by a member of w
 abbrev pub Image : List ℕ → ℕ → ℕ → ℕ → Type 0
-Image p at w j = (i : ℕ) × (i < 16) × (bit w i ≡ true) × Related p at i j
+Image p at w j = (i : ℕ) × (i < positions) × (bit w i ≡ true) × Related p at i j
 
 -- i is related to a member of w
 abbrev pub Before : List ℕ → ℕ → ℕ → ℕ → Type 0
-Before p at w i = (j : ℕ) × (j < 16) × (bit w j ≡ true) × Related p at i j
+Before p at w i = (j : ℕ) × (j < positions) × (bit w j ≡ true) × Related p at i j
 
 -- zero or more times
 pub data Chain (A : ℕ → ℕ → Type 0) : ℕ → ℕ → Type 0 where
   none : {i : ℕ} → Chain A i i
-  more : {i j k : ℕ} → j < 16 → A i j → Chain A j k → Chain A i k
+  more : {i j k : ℕ} → j < positions → A i j → Chain A j k → Chain A i k
 
 -- only the 16 words from an offset on may be different
 pub record Redrawn (at : ℕ) (p p′ : List ℕ) : Type 0 where
   pub long : length p′ ≡ length p
   pub front : (k : ℕ) → k < at → getD p′ k 0 ≡ getD p k 0
-  pub behind : (k : ℕ) → at + 16 ≤ k → getD p′ k 0 ≡ getD p k 0
+  pub behind : (k : ℕ) → at + positions ≤ k → getD p′ k 0 ≡ getD p k 0
 
 -- two matrices have no word in common
 abbrev pub Apart : ℕ → ℕ → Type 0
-Apart a c = (a + 16 ≤ c) ⊎ (c + 16 ≤ a)
+Apart a c = (a + positions ≤ c) ⊎ (c + positions ≤ a)
 
 -- how many pairs the first k rows have
 unfoldable pub pairs : List ℕ → ℕ → ℕ → ℕ
 pairs p at zero = 0
-pairs p at (suc k) = pairs p at k + size 16 (getD p (at + k) 0)
+pairs p at (suc k) = pairs p at k + size positions (getD p (at + k) 0)
 
 -- the first k rows of a matrix become those of the relation A, and all other words are as before
 pub record Drawing (A : ℕ → ℕ → Type 0) (at k : ℕ) (p p′ : List ℕ) : Type 0 where
   pub long : length p′ ≡ length p
   pub front : (l : ℕ) → l < at → getD p′ l 0 ≡ getD p l 0
   pub behind : (l : ℕ) → at + k ≤ l → getD p′ l 0 ≡ getD p l 0
-  pub done : (i j : ℕ) → i < k → j < 16 → Related p′ at i j ↔ A i j
+  pub done : (i j : ℕ) → i < k → j < positions → Related p′ at i j ↔ A i j
 
 -- with itself, too
 abbrev pub Reflexive : (ℕ → ℕ → Type 0) → ℕ → ℕ → Type 0
@@ -56,4 +57,4 @@ Through A k i j = A i j ⊎ (A i k × A k j)
 
 -- by one and then the other
 abbrev pub Composed : (ℕ → ℕ → Type 0) → (ℕ → ℕ → Type 0) → ℕ → ℕ → Type 0
-Composed A B i j = (k : ℕ) × (k < 16) × A i k × B k j
+Composed A B i j = (k : ℕ) × (k < positions) × A i k × B k j

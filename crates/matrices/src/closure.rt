@@ -2,21 +2,23 @@
 use bits::has;
 use bits::insert;
 use bits::union;
+use limits::Rule;
 ghost use mathlib.Core.Path.{_≡_};
 ghost use mathlib.Core.Bool.{true};
 ghost use mathlib.Core.Logic.{_⊎_, _↔_};
 ghost use Prim.Native.Nat.{ℕ, _+_, _≤_, _<_};
 ghost use lib.ListN.{length};
+ghost use Rattle.limits.specs.Limits.{positions};
 ghost use Rattle.bits.specs.Sets.{bit};
 ghost use Rattle.matrices.specs.Matrices.{Related, Drawing, Reflexive, Through};
 
 // Each position is related to itself, too.
 pub fn reflect(p: &mut [u16], at: usize)
-    requires { ⌜ at + 16 ≤ length (now p) ⌝ }
-    ensures { λ _. ⌜ Drawing (Reflexive (Related (now (p .entry)) at)) at 16 (now (p .entry)) (now (p .exit)) ⌝ }
+    requires { ⌜ at + positions ≤ length (now p) ⌝ }
+    ensures { λ _. ⌜ Drawing (Reflexive (Related (now (p .entry)) at)) at positions (now (p .entry)) (now (p .exit)) ⌝ }
 {
     let mut i: usize = 0;
-    while i < 16 {
+    while i < Rule::MAX_POSITIONS {
         p[at + i] = insert(p[at + i], i as u16);
         i += 1;
     }
@@ -24,7 +26,7 @@ pub fn reflect(p: &mut [u16], at: usize)
 
 // A row with the row of `k` added, where it has `k`.
 fn widened(row: u16, k: u16, added: u16) -> u16
-    requires { ⌜ k < 16 ⌝ }
+    requires { ⌜ k < positions ⌝ }
     ensures { λ r. ⌜ ((j : ℕ) → (bit r j ≡ true) ↔ ((bit row j ≡ true) ⊎ ((bit row k ≡ true) × (bit added j ≡ true)))) ⌝ }
 {
     if has(row, k) {
@@ -35,12 +37,12 @@ fn widened(row: u16, k: u16, added: u16) -> u16
 
 // What is related by way of `k` is related.
 pub fn join(p: &mut [u16], at: usize, k: usize)
-    requires { ⌜ (at + 16 ≤ length (now p)) × (k < 16) ⌝ }
-    ensures { λ _. ⌜ Drawing (Through (Related (now (p .entry)) at) k) at 16 (now (p .entry)) (now (p .exit)) ⌝ }
+    requires { ⌜ (at + positions ≤ length (now p)) × (k < positions) ⌝ }
+    ensures { λ _. ⌜ Drawing (Through (Related (now (p .entry)) at) k) at positions (now (p .entry)) (now (p .exit)) ⌝ }
 {
     let added = p[at + k];
     let mut i: usize = 0;
-    while i < 16 {
+    while i < Rule::MAX_POSITIONS {
         p[at + i] = widened(p[at + i], k as u16, added);
         i += 1;
     }

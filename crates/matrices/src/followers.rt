@@ -3,16 +3,18 @@ use crate::sets::first;
 use crate::sets::without;
 use bits::insert;
 use bits::union;
+use limits::Rule;
 ghost use mathlib.Core.Path.{_≡_};
 ghost use mathlib.Core.Bool.{true};
 ghost use mathlib.Core.Logic.{_↔_};
 ghost use Prim.Native.Nat.{ℕ, _<_};
 ghost use lib.ListN.{getD};
+ghost use Rattle.limits.specs.Limits.{positions};
 ghost use Rattle.bits.specs.Sets.{bit};
 
 // The positions that follow a member of `w`. Each turn takes one member out, so that few members take few turns.
-pub fn followers(rows: [u16; 16], w: u16) -> u16
-    ensures { λ r. ⌜ ((j : ℕ) → j < 16 → (bit r j ≡ true) ↔ ((i : ℕ) × (i < 16) × (bit w i ≡ true) × (bit (getD rows i 0) j ≡ true))) ⌝ }
+pub fn followers(rows: [u16; Rule::MAX_POSITIONS], w: u16) -> u16
+    ensures { λ r. ⌜ ((j : ℕ) → j < positions → (bit r j ≡ true) ↔ ((i : ℕ) × (i < positions) × (bit w i ≡ true) × (bit (getD rows i 0) j ≡ true))) ⌝ }
 {
     let mut r = 0;
     let mut rest = w;

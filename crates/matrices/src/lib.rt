@@ -8,6 +8,7 @@ use bits::insert;
 use bits::union;
 use closure::join;
 use closure::reflect;
+use limits::Rule;
 use sets::first;
 use sets::touches;
 use sets::without;
@@ -16,13 +17,14 @@ ghost use mathlib.Core.Bool.{true};
 ghost use mathlib.Core.Logic.{_↔_};
 ghost use Prim.Native.Nat.{ℕ, _+_, _≤_, _<_};
 ghost use lib.ListN.{length};
+ghost use Rattle.limits.specs.Limits.{positions};
 ghost use Rattle.bits.specs.Sets.{bit};
 ghost use Rattle.matrices.specs.Matrices.{Related, Image, Before, Chain, Redrawn, Apart, pairs};
 
 // What the members of `w` are related to. Each turn takes one member out, so that few members take few turns.
 pub fn image(p: &[u16], at: usize, w: u16) -> u16
-    requires { ⌜ at + 16 ≤ length (now p) ⌝ }
-    ensures { λ r. ⌜ ((j : ℕ) → j < 16 → (bit r j ≡ true) ↔ Image (now (p .entry)) at w j) ⌝ }
+    requires { ⌜ at + positions ≤ length (now p) ⌝ }
+    ensures { λ r. ⌜ ((j : ℕ) → j < positions → (bit r j ≡ true) ↔ Image (now (p .entry)) at w j) ⌝ }
 {
     let mut r = 0;
     let mut rest = w;
@@ -36,15 +38,15 @@ pub fn image(p: &[u16], at: usize, w: u16) -> u16
 
 // What is related to a member of `w`. Nothing is related to a member of the empty set, which is a frequent one.
 pub fn before(p: &[u16], at: usize, w: u16) -> u16
-    requires { ⌜ at + 16 ≤ length (now p) ⌝ }
-    ensures { λ r. ⌜ ((i : ℕ) → i < 16 → (bit r i ≡ true) ↔ Before (now (p .entry)) at w i) ⌝ }
+    requires { ⌜ at + positions ≤ length (now p) ⌝ }
+    ensures { λ r. ⌜ ((i : ℕ) → i < positions → (bit r i ≡ true) ↔ Before (now (p .entry)) at w i) ⌝ }
 {
     if w == 0 {
         return 0;
     }
     let mut r = 0;
     let mut i: usize = 0;
-    while i < 16 {
+    while i < Rule::MAX_POSITIONS {
         if touches(p[at + i], w) {
             r = insert(r, i as u16);
         }
@@ -55,12 +57,12 @@ pub fn before(p: &[u16], at: usize, w: u16) -> u16
 
 // The matrix becomes its reflexive and transitive closure.
 pub fn close(p: &mut [u16], at: usize)
-    requires { ⌜ at + 16 ≤ length (now p) ⌝ }
-    ensures { λ _. ⌜ Redrawn at (now (p .entry)) (now (p .exit)) × ((i j : ℕ) → i < 16 → j < 16 → Related (now (p .exit)) at i j ↔ Chain (λ i j. Related (now (p .entry)) at i j) i j) ⌝ }
+    requires { ⌜ at + positions ≤ length (now p) ⌝ }
+    ensures { λ _. ⌜ Redrawn at (now (p .entry)) (now (p .exit)) × ((i j : ℕ) → i < positions → j < positions → Related (now (p .exit)) at i j ↔ Chain (λ i j. Related (now (p .entry)) at i j) i j) ⌝ }
 {
     reflect(p, at);
     let mut k = 0;
-    while k < 16 {
+    while k < Rule::MAX_POSITIONS {
         join(p, at, k);
         k += 1;
     }
@@ -68,11 +70,11 @@ pub fn close(p: &mut [u16], at: usize)
 
 // The matrix at `c` becomes the one at `a` followed by the one at `b`.
 pub fn compose(p: &mut [u16], a: usize, b: usize, c: usize)
-    requires { ⌜ Apart a c × Apart b c × (a + 16 ≤ length (now p)) × (b + 16 ≤ length (now p)) × (c + 16 ≤ length (now p)) ⌝ }
-    ensures { λ _. ⌜ Redrawn c (now (p .entry)) (now (p .exit)) × ((i j : ℕ) → i < 16 → j < 16 → Related (now (p .exit)) c i j ↔ ((k : ℕ) × (k < 16) × Related (now (p .entry)) a i k × Related (now (p .entry)) b k j)) ⌝ }
+    requires { ⌜ Apart a c × Apart b c × (a + positions ≤ length (now p)) × (b + positions ≤ length (now p)) × (c + positions ≤ length (now p)) ⌝ }
+    ensures { λ _. ⌜ Redrawn c (now (p .entry)) (now (p .exit)) × ((i j : ℕ) → i < positions → j < positions → Related (now (p .exit)) c i j ↔ ((k : ℕ) × (k < positions) × Related (now (p .entry)) a i k × Related (now (p .entry)) b k j)) ⌝ }
 {
     let mut i: usize = 0;
-    while i < 16 {
+    while i < Rule::MAX_POSITIONS {
         let w = p[a + i];
         p[c + i] = image(p, b, w);
         i += 1;
@@ -81,12 +83,12 @@ pub fn compose(p: &mut [u16], a: usize, b: usize, c: usize)
 
 // Whether no two positions are related. No row ends the loop, so that the machine reads many rows at once.
 pub fn is_empty(p: &[u16], at: usize) -> bool
-    requires { ⌜ at + 16 ≤ length (now p) ⌝ }
-    ensures { λ r. ⌜ (r ≡ true → (i j : ℕ) → i < 16 → ¬ Related (now (p .entry)) at i j) ⌝ }
+    requires { ⌜ at + positions ≤ length (now p) ⌝ }
+    ensures { λ r. ⌜ (r ≡ true → (i j : ℕ) → i < positions → ¬ Related (now (p .entry)) at i j) ⌝ }
 {
     let mut all = 0;
     let mut i: usize = 0;
-    while i < 16 {
+    while i < Rule::MAX_POSITIONS {
         all = union(all, p[at + i]);
         i += 1;
     }
@@ -95,15 +97,15 @@ pub fn is_empty(p: &[u16], at: usize) -> bool
 
 // The number of pairs. The rows are counted one by one only where there are any.
 pub fn size(p: &[u16], at: usize) -> usize
-    requires { ⌜ at + 16 ≤ length (now p) ⌝ }
-    ensures { λ r. ⌜ r ≡ pairs (now (p .entry)) at 16 ⌝ }
+    requires { ⌜ at + positions ≤ length (now p) ⌝ }
+    ensures { λ r. ⌜ r ≡ pairs (now (p .entry)) at positions ⌝ }
 {
     if is_empty(p, at) {
         return 0;
     }
     let mut r: usize = 0;
     let mut i: usize = 0;
-    while i < 16 {
+    while i < Rule::MAX_POSITIONS {
         r += count(p[at + i]) as usize;
         i += 1;
     }

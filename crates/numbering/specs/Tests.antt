@@ -2,6 +2,7 @@
 use Prim.Native.Nat.{ℕ, _+_, _≤_}
 use mathlib.Core.List.{List, [], _∷_, _++_}
 use lib.ListN.{getD}
+use Rattle.limits.specs.Limits.{comparisonSteps}
 use Rattle.xpath.specs.Syntax.{Test, named, not, and, or, compare, compareTo, XPath, empty, one, seq, union, star, Step, toLeft, toRight, fromLeft, fromRight, stay, size}
 
 unfoldable mutual
@@ -37,5 +38,5 @@ Light (named a) = Unit {0}
 Light (not T) = Unit {0}
 Light (and T U) = Unit {0}
 Light (or T U) = Unit {0}
-Light (compare o P R) = size P + size R ≤ 14
-Light (compareTo o P c) = size P ≤ 14
+Light (compare o P R) = size P + size R ≤ comparisonSteps
+Light (compareTo o P c) = size P ≤ comparisonSteps

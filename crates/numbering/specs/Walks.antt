@@ -3,6 +3,7 @@ use Prim.Native.Nat.{ℕ, _+_, _≤_, _<_}
 use mathlib.Core.Path.{_≡_}
 use mathlib.Core.List.{List, [], _++_}
 use lib.ListN.{length, getD}
+use Rattle.limits.specs.Limits.{positions, ruleTests}
 use Rattle.xpath.specs.Syntax.{Test, named, not, and, or, compare, compareTo, XPath, Step, stay, steps, size}
 use Rattle.positions.specs.Positions.{Numbered}
 use Rattle.parts.specs.Standing.{TestAt, PathAt}
@@ -29,11 +30,11 @@ pub record Written (s : List ℕ) (Ts : List Test) (k : ℕ) (before after : Lis
 module _ {A : Type 0} (At : A → ℕ → ℕ → Type 0) (tests : A → List Test) (at k : ℕ) where
   -- one stands at the offset, and its tests have numbers below 64 from k on
   abbrev pub Room : Type 0
-  Room = (x : A) × (j : ℕ) × At x at j × (k + length (tests x) ≤ 64)
+  Room = (x : A) × (j : ℕ) × At x at j × (k + length (tests x) ≤ ruleTests)
 
   -- whatever stands there, its tests are written from number k on
   abbrev pub Lists : List ℕ → List ℕ → List ℕ → ℕ → Type 0
-  Lists s before after r = (x : A) (j : ℕ) → At x at j → k + length (tests x) ≤ 64 → Written s (tests x) k before after r
+  Lists s before after r = (x : A) (j : ℕ) → At x at j → k + length (tests x) ≤ ruleTests → Written s (tests x) k before after r
 
 -- ── Brackets ──
 -- the steps xs are numbered from b and their tests Ts from k: each bracket has the number of its test
@@ -42,7 +43,7 @@ Bracketed xs Ts b k numbers =
     (i : ℕ) (T : Test) → Numbered b xs i (stay T) → (e : ℕ) × (getD numbers i 0 ≡ k + e) × (e < length Ts) × (test Ts e ≡ T)
 
 abbrev pub Small : List ℕ → Type 0
-Small numbers = (i : ℕ) → i < 16 → getD numbers i 0 < 64
+Small numbers = (i : ℕ) → i < positions → getD numbers i 0 < ruleTests
 
 -- the numbers below b are as they were, and r has the next step and the next test
 pub record Walked (xs : List Step) (Ts : List Test) (b k : ℕ) (before after : List ℕ) (r : Next) : Type 0 where
@@ -55,8 +56,8 @@ pub record Walked (xs : List Step) (Ts : List Test) (b k : ℕ) (before after : 
 module _ (s : List ℕ) (at b k : ℕ) where
   -- a path stands at the offset, its steps have numbers below 16 and its tests below 64
   abbrev pub PathRoom : Type 0
-  PathRoom = (P : XPath) × (j : ℕ) × PathAt s P at j × (b + size P ≤ 16) × (k + length (pathTests P) ≤ 64)
+  PathRoom = (P : XPath) × (j : ℕ) × PathAt s P at j × (b + size P ≤ positions) × (k + length (pathTests P) ≤ ruleTests)
 
   -- whatever path stands there
   abbrev pub Walks : List ℕ → List ℕ → Next → Type 0
-  Walks before after r = (P : XPath) (j : ℕ) → PathAt s P at j → b + size P ≤ 16 → k + length (pathTests P) ≤ 64 → Walked (steps P) (pathTests P) b k before after r
+  Walks before after r = (P : XPath) (j : ℕ) → PathAt s P at j → b + size P ≤ positions → k + length (pathTests P) ≤ ruleTests → Walked (steps P) (pathTests P) b k before after r

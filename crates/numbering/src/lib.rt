@@ -1,4 +1,5 @@
 // The tests of an accepted rule, numbered by their first bytes.
+use limits::Rule;
 use parts::kinds::PathKind;
 use parts::kinds::TestKind;
 use parts::kinds::path_kind;
@@ -12,6 +13,7 @@ ghost use mathlib.Core.Path.{_≡_};
 ghost use mathlib.Core.List.{List};
 ghost use Prim.Native.Nat.{ℕ, suc, _+_, _≤_, _<_};
 ghost use lib.ListN.{length};
+ghost use Rattle.limits.specs.Limits.{positions, ruleTests, ruleBytes};
 ghost use Rattle.xpath.specs.Syntax.{Test, and, or};
 ghost use Rattle.grammar.specs.Verdict.{Accepts};
 ghost use Rattle.parts.specs.Standing.{TestAt, PathAt};
@@ -21,7 +23,7 @@ ghost use Rattle.numbering.specs.Walks.{inside, Room, Lists, PathRoom, W
 
 // The offsets of the test at an offset and of the tests inside it, numbered from k; the next number is handed back.
 fn list_test(s: &[u8], at: usize, k: usize, offsets: &mut [usize]) -> usize
-    requires { ⌜ Room (TestAt (now s)) testsOf at k × (64 ≤ length (now offsets)) ⌝ }
+    requires { ⌜ Room (TestAt (now s)) testsOf at k × (ruleTests ≤ length (now offsets)) ⌝ }
     ensures { λ r. ⌜ Lists (TestAt (now (s .entry))) testsOf at k (now (s .entry)) (now (offsets .entry)) (now (offsets .exit)) r ⌝ }
 {
     offsets[k] = at;
@@ -30,7 +32,7 @@ fn list_test(s: &[u8], at: usize, k: usize, offsets: &mut [usize]) -> usize
 
 // The same for the tests inside the test at an offset. The first part is read twice, to find the second: a rule is short.
 fn list_inside(s: &[u8], at: usize, k: usize, offsets: &mut [usize]) -> usize
-    requires { ⌜ Room (TestAt (now s)) inside at k × (64 ≤ length (now offsets)) ⌝ }
+    requires { ⌜ Room (TestAt (now s)) inside at k × (ruleTests ≤ length (now offsets)) ⌝ }
     ensures { λ r. ⌜ Lists (TestAt (now (s .entry))) inside at k (now (s .entry)) (now (offsets .entry)) (now (offsets .exit)) r ⌝ }
 {
     let kind = test_kind(s, at);
@@ -56,7 +58,7 @@ fn list_inside(s: &[u8], at: usize, k: usize, offsets: &mut [usize]) -> usize
 
 // The same for the tests in the path at an offset.
 fn list_path(s: &[u8], at: usize, k: usize, offsets: &mut [usize]) -> usize
-    requires { ⌜ Room (PathAt (now s)) pathTests at k × (64 ≤ length (now offsets)) ⌝ }
+    requires { ⌜ Room (PathAt (now s)) pathTests at k × (ruleTests ≤ length (now offsets)) ⌝ }
     ensures { λ r. ⌜ Lists (PathAt (now (s .entry))) pathTests at k (now (s .entry)) (now (offsets .entry)) (now (offsets .exit)) r ⌝ }
 {
     let kind = path_kind(s, at);
@@ -74,7 +76,7 @@ fn list_path(s: &[u8], at: usize, k: usize, offsets: &mut [usize]) -> usize
 
 // The offsets of all tests; their number is handed back.
 pub fn tests_of(s: &[u8], offsets: &mut [usize]) -> usize
-    requires { ⌜ ((T : Test) × Accepts (now s) T) × (64 ≤ length (now offsets)) ⌝ }
+    requires { ⌜ ((T : Test) × Accepts (now s) T) × (ruleTests ≤ length (now offsets)) ⌝ }
     ensures { λ r. ⌜ ((T : Test) → Accepts (now (s .entry)) T → Listed (now (s .entry)) T (now (offsets .exit)) r) ⌝ }
 {
     list_test(s, 0, 0, offsets)
@@ -83,7 +85,7 @@ pub fn tests_of(s: &[u8], offsets: &mut [usize]) -> usize
 // The number of the second test inside the test `k` that stands at an offset.
 // Where no such test stands the readers promise nothing, and what they answer is not used.
 pub fn second_test(s: &[u8], at: usize, k: usize) -> usize
-    requires { ⌜ (at < length (now s)) × (length (now s) ≤ 1024) × (k < 64) ⌝ }
+    requires { ⌜ (at < length (now s)) × (length (now s) ≤ ruleBytes) × (k < ruleTests) ⌝ }
     ensures { λ r. ⌜ ((T U : Test) (j : ℕ) → TestAt (now (s .entry)) (and T U) at j → r ≡ suc k + length (testsOf T)) × ((T U : Test) (j : ℕ) → TestAt (now (s .entry)) (or T U) at j → r ≡ suc k + length (testsOf T)) ⌝ }
 {
     let behind = skip_test(s, at + 1);
@@ -108,7 +110,7 @@ struct Next {
 
 // The number of the test in each bracket of the path at an offset, whose steps are numbered from b and its tests from k.
 fn number(s: &[u8], at: usize, b: usize, k: usize, numbers: &mut [usize]) -> Next
-    requires { ⌜ PathRoom (now s) at b k × (16 ≤ length (now numbers)) ⌝ }
+    requires { ⌜ PathRoom (now s) at b k × (positions ≤ length (now numbers)) ⌝ }
     ensures { λ r. ⌜ Walks (now (s .entry)) at b k (now (numbers .entry)) (now (numbers .exit)) r ⌝ }
 {
     let kind = path_kind(s, at);
@@ -137,11 +139,11 @@ fn number(s: &[u8], at: usize, b: usize, k: usize, numbers: &mut [usize]) -> Nex
 }
 
 // The number of the test in each bracket of two paths, whose tests are numbered from `k` on.
-pub fn bracket_tests(s: &[u8], at: usize, behind: usize, k: usize) -> [usize; 16]
+pub fn bracket_tests(s: &[u8], at: usize, behind: usize, k: usize) -> [usize; Rule::MAX_POSITIONS]
     requires { ⌜ TwoNumbered (now s) at behind k ⌝ }
     ensures { λ r. ⌜ NumbersTwo (now (s .entry)) at behind k r ⌝ }
 {
-    let mut numbers = [0; 16];
+    let mut numbers = [0; Rule::MAX_POSITIONS];
     let p = number(s, at, 1, k, &mut numbers);
     let b = p.step;
     let n = p.test;
@@ -150,11 +152,11 @@ pub fn bracket_tests(s: &[u8], at: usize, behind: usize, k: usize) -> [usize; 16
 }
 
 // The same for one path.
-pub fn bracket_tests_of_one(s: &[u8], at: usize, k: usize) -> [usize; 16]
+pub fn bracket_tests_of_one(s: &[u8], at: usize, k: usize) -> [usize; Rule::MAX_POSITIONS]
     requires { ⌜ OneNumbered (now s) at k ⌝ }
     ensures { λ r. ⌜ NumbersOne (now (s .entry)) at k r ⌝ }
 {
-    let mut numbers = [0; 16];
+    let mut numbers = [0; Rule::MAX_POSITIONS];
     number(s, at, 1, k, &mut numbers);
     numbers
 }

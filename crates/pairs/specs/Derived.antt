@@ -4,14 +4,16 @@ use mathlib.Core.Path.{_≡_}
 use mathlib.Core.Logic.{_⊎_}
 use mathlib.Core.Bool.{Bool, true, false}
 use mathlib.Core.List.{List}
+use Rattle.limits.specs.Limits.{positions}
 use Rattle.links.specs.Table.{PARENT, word}
 use Rattle.matrices.specs.Matrices.{Related, Before}
 use Rattle.loops.specs.Loops.{loopAt}
 use Rattle.powers.specs.Powers.{downAt, upAt, snippetAt}
+use Rattle.walks.specs.Part.{PAIRS}
 
 -- behind the loops: the pairs of node v, a position of the first path to a row and those of the second in it
 abbrev pub pairAt : ℕ → ℕ → ℕ
-pairAt n v = 32 * n + 16 * v
+pairAt n v = PAIRS * n + positions * v
 
 -- the matrix at an offset, from row to column or back
 abbrev pub Turned : Bool → List ℕ → ℕ → ℕ → ℕ → Type 0
@@ -22,8 +24,8 @@ Turned true p at i j = Related p at j i
 pub record Over (A : ℕ → ℕ → Type 0) (p : List ℕ) (from to a b : ℕ) : Type 0 where
   pub first : ℕ
   pub second : ℕ
-  pub firstFew : first < 16
-  pub secondFew : second < 16
+  pub firstFew : first < positions
+  pub secondFew : second < positions
   pub left : Related p from a first
   pub pair : A first second
   pub right : Related p to b second
@@ -53,9 +55,9 @@ module _ (n : ℕ) (p : List ℕ) where
     -- the pairs that the words tell
     pub data Derived : ℕ → ℕ → ℕ → Type 0 where
       -- both end at v
-      ended : {v a b : ℕ} → v < n → a < 16 → b < 16 → EndsAt v a b → Derived v a b
+      ended : {v a b : ℕ} → v < n → a < positions → b < positions → EndsAt v a b → Derived v a b
       -- they meet a snippet of the edge that v sees
-      met : {v a b : ℕ} (y up down : ℕ) → v < n → 0 < y → y < n → a < 16 → b < 16 → Sees y v up down → MeetsBy p (snippetAt n 0 y) up down a b → Derived v a b
+      met : {v a b : ℕ} (y up down : ℕ) → v < n → 0 < y → y < n → a < positions → b < positions → Sees y v up down → MeetsBy p (snippetAt n 0 y) up down a b → Derived v a b
       -- they come over an edge to a pair of its other end
-      led : {v u a b i j : ℕ} (y at : ℕ) → 0 < y → y < n → a < 16 → b < 16 → i < 16 → j < 16 → LeadsOver y v u at
+      led : {v u a b i j : ℕ} (y at : ℕ) → 0 < y → y < n → a < positions → b < positions → i < positions → j < positions → LeadsOver y v u at
           → Related p at a i → Related p at b j → Derived u i j → Derived v a b

@@ -5,12 +5,13 @@ use mathlib.Core.Logic.{_↔_}
 use mathlib.Core.Bool.{Bool}
 use mathlib.Core.List.{List}
 use lib.ListN.{length, getD}
+use Rattle.limits.specs.Limits.{positions}
 use Rattle.xpath.specs.Syntax.{XPath}
 use Rattle.xpath.specs.Tree.{Tree, Child}
 use Rattle.links.specs.Table.{word}
 use Rattle.matrices.specs.Matrices.{Related}
 use Rattle.walks.specs.declared.Machine.{Machine}
-use Rattle.walks.specs.Part.{ANSWER}
+use Rattle.walks.specs.Part.{ANSWER, PAIRS, REST}
 use Rattle.loops.specs.Loops.{Stage, Loops}
 use Rattle.powers.specs.Powers.{Powers, snippetAt}
 use Rattle.pairs.specs.Pairs.{Settles}
@@ -19,15 +20,15 @@ use Rattle.pairs.specs.Pairs.{Settles}
 pub record Marked (t : Tree) (n : ℕ) (p : List ℕ) (x y i j : ℕ) : Type 0 where
   pub side : Bool
   pub child : Child t side x y
-  pub upperFew : i < 16
-  pub lowerFew : j < 16
+  pub upperFew : i < positions
+  pub lowerFew : j < positions
   pub marked : Related p (snippetAt n 0 y) i j
 
 pub record Settled (m : Machine) (n : ℕ) (p p′ : List ℕ) : Type 0 where
   -- all words but the answers and the pairs are as before
   pub long : length p′ ≡ length p
-  pub columns : (k : ℕ) → n ≤ k → k < 32 * n → getD p′ k 0 ≡ getD p k 0
-  pub behind : (k : ℕ) → 48 * n ≤ k → getD p′ k 0 ≡ getD p k 0
+  pub columns : (k : ℕ) → n ≤ k → k < PAIRS * n → getD p′ k 0 ≡ getD p k 0
+  pub behind : (k : ℕ) → REST * n ≤ k → getD p′ k 0 ≡ getD p k 0
   -- an answer is 0 or 1
   pub small : (v : ℕ) → v < n → word p′ n ANSWER v ≤ 1
   -- it is 1 where the snippets settle the two starts

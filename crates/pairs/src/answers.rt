@@ -2,9 +2,11 @@
 use crate::place::pair_at;
 use bits::has;
 use links::table::put;
+use walks::Part;
 ghost use mathlib.Core.Path.{_≡_};
 ghost use mathlib.Core.List.{[], _∷_};
 ghost use Prim.Native.Nat.{_≤_, _<_};
+ghost use Rattle.limits.specs.Limits.{positions};
 ghost use Rattle.bits.specs.Sets.{bit, one};
 ghost use lib.ListN.{getD};
 ghost use Rattle.links.specs.Table.{cell, Wrote};
@@ -12,16 +14,9 @@ ghost use Rattle.walks.specs.Part.{ANSWER};
 ghost use Rattle.pairs.specs.Derived.{pairAt};
 ghost use Rattle.pairs.specs.Growing.{Ready, Answering};
 
-pub struct Part;
-
-impl Part {
-    // 1 where the comparison holds, and else 0.
-    pub const ANSWER: usize = 0;
-}
-
 // 1 if `w` has `b`, and else 0.
 fn one_if_has(w: u16, b: usize) -> usize
-    requires { ⌜ b < 16 ⌝ }
+    requires { ⌜ b < positions ⌝ }
     ensures { λ r. ⌜ (r ≡ one (bit w b)) × (r ≤ 1) ⌝ }
 {
     if has(w, b as u16) {
@@ -32,7 +27,7 @@ fn one_if_has(w: u16, b: usize) -> usize
 
 // The answer of node `v`.
 fn answer_at(p: &mut [u16], n: usize, second: usize, v: usize)
-    requires { ⌜ Ready n (now p) × (second < 16) × (v < n) ⌝ }
+    requires { ⌜ Ready n (now p) × (second < positions) × (v < n) ⌝ }
     ensures { λ _. ⌜ Wrote ((cell n ANSWER v, one (bit (getD (now (p .entry)) (pairAt n v) 0) second)) ∷ []) (now (p .entry)) (now (p .exit)) ⌝ }
 {
     let w = p[pair_at(n, v)];
@@ -41,7 +36,7 @@ fn answer_at(p: &mut [u16], n: usize, second: usize, v: usize)
 
 // The answer of each node.
 pub fn answer(p: &mut [u16], n: usize, second: usize)
-    requires { ⌜ Ready n (now p) × (second < 16) ⌝ }
+    requires { ⌜ Ready n (now p) × (second < positions) ⌝ }
     ensures { λ _. ⌜ Answering second n n (now (p .entry)) (now (p .exit)) ⌝ }
 {
     let mut v = 0;

@@ -10,13 +10,14 @@ use links::table::get;
 use matrices::is_empty;
 ghost use Prim.Native.Nat.{_+_, _≤_, _<_};
 ghost use lib.ListN.{length};
+ghost use Rattle.limits.specs.Limits.{positions};
 ghost use Rattle.matrices.specs.Matrices.{Apart, Drawing};
 ghost use Rattle.pairs.specs.Growing.{Ready, Planted, Grown, Met, Everywhere};
 
 // Adds to the matrix at `at` the pairs that meet a snippet of the matrix at `by`, where the matrix at `up` leads to its upper end and the one at `down` to its lower end.
 fn plant(p: &mut [u16], by: usize, up: usize, down: usize, at: usize)
-    requires { ⌜ Apart by at × Apart up at × Apart down at × (by + 16 ≤ length (now p)) × (up + 16 ≤ length (now p)) × (down + 16 ≤ length (now p)) × (at + 16 ≤ length (now p)) ⌝ }
-    ensures { λ _. ⌜ Drawing (Planted (now (p .entry)) at by up down) at 16 (now (p .entry)) (now (p .exit)) ⌝ }
+    requires { ⌜ Apart by at × Apart up at × Apart down at × (by + positions ≤ length (now p)) × (up + positions ≤ length (now p)) × (down + positions ≤ length (now p)) × (at + positions ≤ length (now p)) ⌝ }
+    ensures { λ _. ⌜ Drawing (Planted (now (p .entry)) at by up down) at positions (now (p .entry)) (now (p .exit)) ⌝ }
 {
     widen(p, up, by, false, down, at);
     widen(p, down, by, true, up, at);

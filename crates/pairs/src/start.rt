@@ -2,12 +2,14 @@
 use crate::place::loop_at;
 use crate::place::pair_at;
 use bits::has;
+use limits::Rule;
 use matrices::before;
 ghost use mathlib.Core.Path.{_≡_};
 ghost use mathlib.Core.Bool.{true};
 ghost use mathlib.Core.Logic.{_↔_};
 ghost use Prim.Native.Nat.{ℕ, _+_, _≤_, _<_};
 ghost use lib.ListN.{length};
+ghost use Rattle.limits.specs.Limits.{positions};
 ghost use Rattle.bits.specs.Sets.{bit};
 ghost use Rattle.matrices.specs.Matrices.{Drawing};
 ghost use Rattle.pairs.specs.Derived.{pairAt, EndsAt};
@@ -15,7 +17,7 @@ ghost use Rattle.pairs.specs.Growing.{Ready, Square, Started};
 
 // The set `w` if it has `a`, and else the empty set.
 fn if_has(w: u16, a: usize) -> u16
-    requires { ⌜ a < 16 ⌝ }
+    requires { ⌜ a < positions ⌝ }
     ensures { λ r. ⌜ ((b : ℕ) → (bit r b ≡ true) ↔ Square w a b) ⌝ }
 {
     if has(w, a as u16) {
@@ -26,11 +28,11 @@ fn if_has(w: u16, a: usize) -> u16
 
 // The matrix at `at` becomes the pairs of two members of `w`.
 fn square(p: &mut [u16], at: usize, w: u16)
-    requires { ⌜ at + 16 ≤ length (now p) ⌝ }
-    ensures { λ _. ⌜ Drawing (Square w) at 16 (now (p .entry)) (now (p .exit)) ⌝ }
+    requires { ⌜ at + positions ≤ length (now p) ⌝ }
+    ensures { λ _. ⌜ Drawing (Square w) at positions (now (p .entry)) (now (p .exit)) ⌝ }
 {
     let mut a: usize = 0;
-    while a < 16 {
+    while a < Rule::MAX_POSITIONS {
         p[at + a] = if_has(w, a);
         a += 1;
     }
@@ -39,7 +41,7 @@ fn square(p: &mut [u16], at: usize, w: u16)
 // The pairs of node `v`.
 fn begin(p: &mut [u16], n: usize, last: u16, v: usize)
     requires { ⌜ Ready n (now p) × (v < n) ⌝ }
-    ensures { λ _. ⌜ Drawing (EndsAt n (now (p .entry)) last v) (pairAt n v) 16 (now (p .entry)) (now (p .exit)) ⌝ }
+    ensures { λ _. ⌜ Drawing (EndsAt n (now (p .entry)) last v) (pairAt n v) positions (now (p .entry)) (now (p .exit)) ⌝ }
 {
     let w = before(p, loop_at(n, v), last);
     square(p, pair_at(n, v), w);

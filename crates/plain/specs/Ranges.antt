@@ -4,6 +4,7 @@ use mathlib.Core.Path.{_≡_}
 use mathlib.Core.Logic.{_⊎_}
 use Rattle.parts.specs.declared.kinds.Operator.{Operator}
 use Rattle.parts.specs.declared.kinds.Operator.the-variants.{Equal, Unequal, Less, LessEqual, Greater, GreaterEqual}
+use Rattle.links.specs.Table.{NONE}
 use Rattle.plain.specs.declared.ranges.Range.{Range}
 
 -- a node below n that E holds of
@@ -14,7 +15,7 @@ Some n E B = (w : ℕ) × (w < n) × E w × B w
 pub record Ranged (n : ℕ) (E : ℕ → Type 0) (rank : ℕ → ℕ) (a : Range) : Type 0 where
   -- none is less, and one is the least, if there is any
   pub low : (w : ℕ) → w < n → E w → a .least ≤ rank w
-  pub least : (a .least ≡ 65_535) ⊎ Some n E (λ w. rank w ≡ a .least)
+  pub least : (a .least ≡ NONE) ⊎ Some n E (λ w. rank w ≡ a .least)
   -- none is as great, and one is the last below, if there is any
   pub high : (w : ℕ) → w < n → E w → rank w < a .above
   pub greatest : (a .above ≡ 0) ⊎ Some n E (λ w. suc (rank w) ≡ a .above)

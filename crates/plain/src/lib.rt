@@ -16,6 +16,7 @@ ghost use mathlib.Core.List.{[], _∷_};
 ghost use mathlib.Core.Logic.{_↔_};
 ghost use mathlib.Core.Path.{_≡_};
 ghost use Prim.Native.Nat.{_≤_, _<_};
+ghost use Rattle.limits.specs.Limits.{positions};
 ghost use Rattle.bits.specs.Sets.{one};
 ghost use Rattle.xpath.specs.Syntax.{Op};
 ghost use Rattle.links.specs.Table.{cell, Wrote};
@@ -27,7 +28,7 @@ ghost use Rattle.plain.specs.Ends.{Steady};
 
 // Whether the comparison of the two paths holds at node `v`.
 fn meets_at(p: &mut [u16], n: usize, m: Machine, v: usize, o: Operator) -> bool
-    requires { ⌜ Space n (now p) × Small n (now p) × (m .second < 16) × (v < n) ⌝ }
+    requires { ⌜ Space n (now p) × Small n (now p) × (m .second < positions) × (v < n) ⌝ }
     ensures { λ r. ⌜ Steady n (now (p .entry)) (now (p .exit)) × ((q : Op) → o ≡ operator q → (r ≡ true) ↔ Meets m n (now (p .entry)) q v) ⌝ }
 {
     match o {
@@ -62,7 +63,7 @@ pub fn answer(p: &mut [u16], n: usize, v: usize, b: bool)
 
 // The two paths of a comparison.
 pub fn compare_paths(p: &mut [u16], n: usize, m: Machine, o: Operator)
-    requires { ⌜ Space n (now p) × Small n (now p) × (m .second < 16) ⌝ }
+    requires { ⌜ Space n (now p) × Small n (now p) × (m .second < positions) ⌝ }
     ensures { λ _. ⌜ ((q : Op) → o ≡ operator q → Answered n (Meets m n (now (p .entry)) q) (now (p .entry)) (now (p .exit))) ⌝ }
 {
     let mut v = 0;

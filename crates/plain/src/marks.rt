@@ -10,6 +10,7 @@ ghost use mathlib.Core.Bool.{true};
 ghost use mathlib.Core.Logic.{_↔_};
 ghost use mathlib.Core.Path.{_≡_};
 ghost use Prim.Native.Nat.{ℕ, _<_};
+ghost use Rattle.limits.specs.Limits.{positions};
 ghost use Rattle.xpath.specs.Syntax.{eq};
 ghost use Rattle.links.specs.Table.{RANK, Room, word};
 ghost use Rattle.walks.specs.Part.{MARK, Space};
@@ -82,7 +83,7 @@ fn any_marked(p: &[u16], n: usize, last: u16) -> bool
 
 // Whether the paths from node `v` end at nodes of one rank.
 pub fn equal_at(p: &mut [u16], n: usize, m: Machine, v: usize) -> bool
-    requires { ⌜ Space n (now p) × Small n (now p) × (m .second < 16) × (v < n) ⌝ }
+    requires { ⌜ Space n (now p) × Small n (now p) × (m .second < positions) × (v < n) ⌝ }
     ensures { λ r. ⌜ Steady n (now (p .entry)) (now (p .exit)) × ((r ≡ true) ↔ Meets m n (now (p .entry)) eq v) ⌝ }
 {
     clear_marks(p, n);

@@ -9,6 +9,7 @@ ghost use mathlib.Core.Bool.{true};
 ghost use mathlib.Core.Logic.{_⊎_, _↔_, _≢_};
 ghost use mathlib.Core.Path.{_≡_};
 ghost use Prim.Native.Nat.{suc, _≤_, _<_};
+ghost use Rattle.limits.specs.Limits.{positions, wordValues};
 ghost use Rattle.xpath.specs.Syntax.{Op, eq};
 ghost use Rattle.parts.specs.Kinds.{operator};
 ghost use Rattle.links.specs.Table.{RANK, Room, word};
@@ -57,7 +58,7 @@ fn rank_range(p: &[u16], n: usize, last: u16) -> Range
     ensures { λ r. ⌜ Ranged n (Ended n last (now (p .entry))) (word (now (p .entry)) n RANK) r ⌝ }
 {
     let mut a = Range {
-        least: 65535,
+        least: Table::NONE,
         above: 0,
     };
     let mut w = 0;
@@ -70,7 +71,7 @@ fn rank_range(p: &[u16], n: usize, last: u16) -> Range
 
 // Whether some rank of the first range is less than some rank of the second.
 fn under(a: Range, b: Range) -> bool
-    requires { ⌜ a .least < 65536 ⌝ }
+    requires { ⌜ a .least < wordValues ⌝ }
     ensures { λ r. ⌜ (r ≡ true) ↔ Under a b ⌝ }
 {
     a.least + 1 < b.above
@@ -78,7 +79,7 @@ fn under(a: Range, b: Range) -> bool
 
 // Whether the sign stands between some rank of the first range and some rank of the second. Ranges tell nothing of equal ranks: `=` is not asked here.
 pub fn ordered(a: Range, b: Range, o: Operator) -> bool
-    requires { ⌜ (a .least < 65536) × (b .least < 65536) ⌝ }
+    requires { ⌜ (a .least < wordValues) × (b .least < wordValues) ⌝ }
     ensures { λ r. ⌜ (r ≡ true) ↔ Across o a b ⌝ }
 {
     match o {
@@ -93,7 +94,7 @@ pub fn ordered(a: Range, b: Range, o: Operator) -> bool
 
 // Whether the paths from node `v` end at nodes whose ranks are in the relation of a sign other than =. Where the first ends nowhere, the second is not walked.
 pub fn ordered_at(p: &mut [u16], n: usize, m: Machine, v: usize, o: Operator) -> bool
-    requires { ⌜ Space n (now p) × Small n (now p) × (m .second < 16) × (v < n) ⌝ }
+    requires { ⌜ Space n (now p) × Small n (now p) × (m .second < positions) × (v < n) ⌝ }
     ensures { λ r. ⌜ Steady n (now (p .entry)) (now (p .exit)) × ((q : Op) → q ≢ eq → o ≡ operator q → (r ≡ true) ↔ Meets m n (now (p .entry)) q v) ⌝ }
 {
     reach(p, n, m, 0, v);

@@ -5,6 +5,7 @@ use mathlib.Core.Logic.{_↔_}
 use mathlib.Core.Bool.{true}
 use mathlib.Core.List.{List}
 use lib.ListN.{length, getD}
+use Rattle.limits.specs.Limits.{documentNodes, positions, nodeDigits, comparisonSteps, wordsPerDigit}
 use Rattle.bits.specs.Sets.{bit}
 use Rattle.xpath.specs.Syntax.{XPath, size}
 use Rattle.xpath.specs.Tree.{Tree, WellFormed}
@@ -16,15 +17,15 @@ use Rattle.powers.specs.Powers.{blockAt, downAt, upAt, upperAt, Power, P
 -- there is room for the words of exponent k and node y
 pub record Fits (n k y : ℕ) (p : List ℕ) : Type 0 where
   pub node : y < n
-  pub few : n ≤ 4096
-  pub low : k < 13
-  pub room : blockAt n k y + 64 ≤ length p
+  pub few : n ≤ documentNodes
+  pub low : k < nodeDigits
+  pub room : blockAt n k y + wordsPerDigit ≤ length p
 
 -- only the 64 words of exponent k and node y may be different
 pub record Only (n k y : ℕ) (p p′ : List ℕ) : Type 0 where
   pub long : length p′ ≡ length p
   pub front : (l : ℕ) → l < blockAt n k y → getD p′ l 0 ≡ getD p l 0
-  pub behind : (l : ℕ) → blockAt n k y + 64 ≤ l → getD p′ l 0 ≡ getD p l 0
+  pub behind : (l : ℕ) → blockAt n k y + wordsPerDigit ≤ l → getD p′ l 0 ≡ getD p l 0
 
 -- l follows k, by the rows, and is one of the steps w
 abbrev pub Steps : List ℕ → ℕ → ℕ → ℕ → Type 0
@@ -38,8 +39,8 @@ Crossed rows p a w b = Composed (Related p a) (Composed (Steps rows w) (Related 
 pub record Block (n k y x : ℕ) (A B : ℕ → ℕ → Type 0) (p p′ : List ℕ) : Type 0 where
   pub only : Only n k y p p′
   pub upper : getD p′ (upperAt n k y) 0 ≡ x
-  pub down : (i j : ℕ) → i < 16 → j < 16 → Related p′ (downAt n k y) i j ↔ A i j
-  pub up : (i j : ℕ) → i < 16 → j < 16 → Related p′ (upAt n k y) i j ↔ B i j
+  pub down : (i j : ℕ) → i < positions → j < positions → Related p′ (downAt n k y) i j ↔ A i j
+  pub up : (i j : ℕ) → i < positions → j < positions → Related p′ (upAt n k y) i j ↔ B i j
 
 -- by a machine's step between two nodes, whose loops stand in the part
 abbrev pub Edge : Machine → ℕ → ℕ → ℕ → ℕ → ℕ → List ℕ → List ℕ → Type 0
@@ -57,7 +58,7 @@ pub record Ready (P R : XPath) (t : Tree) (m : Machine) (n : ℕ) (p : List ℕ)
 -- power k + 1 of y is found, by powers k
 pub record Doubled (n k y : ℕ) (p p′ : List ℕ) : Type 0 where
   pub only : Only n (k + 1) y p p′
-  pub power : (P R : XPath) (t : Tree) → WellFormed t → size P + size R ≤ 14 → Powers P R t n p (k + 1) → Power P R t n p′ (k + 1) y
+  pub power : (P R : XPath) (t : Tree) → WellFormed t → size P + size R ≤ comparisonSteps → Powers P R t n p (k + 1) → Power P R t n p′ (k + 1) y
 
 -- power k of y is found, by the powers below k
 pub record Found (m : Machine) (n k y : ℕ) (p p′ : List ℕ) : Type 0 where

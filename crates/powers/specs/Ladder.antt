@@ -3,6 +3,7 @@ use Prim.Native.Nat.{ℕ, _+_, _-_, _*_, _^_, _≤_, _<_}
 use mathlib.Core.Path.{_≡_}
 use mathlib.Core.List.{List}
 use lib.ListN.{length, getD}
+use Rattle.limits.specs.Limits.{documentNodes, nodeDigits, comparisonSteps, wordsPerDigit}
 use Rattle.xpath.specs.Syntax.{XPath, size}
 use Rattle.xpath.specs.Tree.{Tree, WellFormed, Down}
 use Rattle.loops.specs.Loops.{Loops}
@@ -11,7 +12,7 @@ use Rattle.powers.specs.Powers.{BLOCKS, upperAt, Powers}
 -- the loops and the powers below b of two paths on a tree
 pub record Ladder (P R : XPath) (t : Tree) (n b : ℕ) (p : List ℕ) : Type 0 where
   pub formed : WellFormed t
-  pub few : size P + size R ≤ 14
+  pub few : size P + size R ≤ comparisonSteps
   pub loops : Loops P R t n p
   pub powers : Powers P R t n p b
 
@@ -24,10 +25,10 @@ pub record Stretch (n b y len : ℕ) (p : List ℕ) : Type 0 where
   pub ladder : Ladder first second tree n b p
   pub down : Down tree top y len
   pub node : y < n
-  pub few : n ≤ 4096
-  pub low : b ≤ 13
+  pub few : n ≤ documentNodes
+  pub low : b ≤ nodeDigits
   pub short : len < 2 ^ b
-  pub room : (BLOCKS + 64 * b) * n ≤ length p
+  pub room : (BLOCKS + wordsPerDigit * b) * n ≤ length p
 
 -- by a power k to the node over y, with the rest still to go
 pub record Hops (n y len k over rest : ℕ) (p : List ℕ) : Type 0 where

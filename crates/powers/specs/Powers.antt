@@ -5,6 +5,7 @@ use mathlib.Core.Logic.{_↔_}
 use mathlib.Core.Bool.{true}
 use mathlib.Core.List.{List}
 use lib.ListN.{length, getD}
+use Rattle.limits.specs.Limits.{positions, wordsPerDigit, partWords}
 use Rattle.bits.specs.Sets.{bit}
 use Rattle.xpath.specs.Syntax.{XPath}
 use Rattle.xpath.specs.Tree.{Tree, Down}
@@ -14,10 +15,10 @@ use Rattle.matrices.specs.Matrices.{Related}
 
 -- ── The part behind its first 112 columns: 64 words for each exponent and node ──
 abbrev pub BLOCKS : ℕ
-BLOCKS = 112
+BLOCKS = partWords
 
 abbrev pub blockAt : ℕ → ℕ → ℕ → ℕ
-blockAt n k y = BLOCKS * n + 64 * (k * n + y)
+blockAt n k y = BLOCKS * n + wordsPerDigit * (k * n + y)
 
 -- a position at the upper node and one at y
 abbrev pub downAt : ℕ → ℕ → ℕ → ℕ
@@ -25,22 +26,22 @@ downAt n k y = blockAt n k y
 
 -- a position at y and one at the upper node
 abbrev pub upAt : ℕ → ℕ → ℕ → ℕ
-upAt n k y = blockAt n k y + 16
+upAt n k y = blockAt n k y + positions
 
 -- the snippets of power k whose lower node is y: p at the upper node and q at y
 abbrev pub snippetAt : ℕ → ℕ → ℕ → ℕ
-snippetAt n k y = blockAt n k y + 32
+snippetAt n k y = blockAt n k y + 2 * positions
 
 -- the upper node, or none
 abbrev pub upperAt : ℕ → ℕ → ℕ → ℕ
-upperAt n k y = blockAt n k y + 48
+upperAt n k y = blockAt n k y + 3 * positions
 
 module _ (P R : XPath) (t : Tree) (n : ℕ) (p : List ℕ) where
   -- the words of exponent k and node y
   pub record Power (k y : ℕ) : Type 0 where
     pub upper : Points (λ x. Down t x y (2 ^ k)) (getD p (upperAt n k y) 0)
-    pub down : (x i j : ℕ) → Down t x y (2 ^ k) → i < 16 → j < 16 → Related p (downAt n k y) i j ↔ Comes P R t i x j y
-    pub up : (x i j : ℕ) → Down t x y (2 ^ k) → i < 16 → j < 16 → Related p (upAt n k y) i j ↔ Comes P R t i y j x
+    pub down : (x i j : ℕ) → Down t x y (2 ^ k) → i < positions → j < positions → Related p (downAt n k y) i j ↔ Comes P R t i x j y
+    pub up : (x i j : ℕ) → Down t x y (2 ^ k) → i < positions → j < positions → Related p (upAt n k y) i j ↔ Comes P R t i y j x
 
   -- all exponents below b
   abbrev pub Powers : ℕ → Type 0
@@ -55,4 +56,4 @@ pub record Powered (P R : XPath) (t : Tree) (n b : ℕ) (p p′ : List ℕ) : Ty
 -- ── Along a stretch of any length below 2^b ──
 -- the positions that at x come to a member of S at y
 abbrev pub Lifts : XPath → XPath → Tree → ℕ → ℕ → ℕ → ℕ → Type 0
-Lifts P R t x y S r = (i : ℕ) → i < 16 → (bit r i ≡ true) ↔ ((j : ℕ) × (j < 16) × (bit S j ≡ true) × Comes P R t i x j y)
+Lifts P R t x y S r = (i : ℕ) → i < positions → (bit r i ≡ true) ↔ ((j : ℕ) × (j < positions) × (bit S j ≡ true) × Comes P R t i x j y)

@@ -1,36 +1,40 @@
 // The words of a power: 64 for each exponent and node, behind the first 112 columns of the part.
 use bits::meet;
+use limits::Rule;
+use limits::Scratch;
+use links::table::Table;
 use matrices::compose;
 use matrices::followers::followers;
 use matrices::image;
 use walks::Machine;
+use walks::Part;
 ghost use mathlib.Core.Path.{_≡_};
 ghost use mathlib.Core.Logic.{_↔_};
 ghost use Prim.Native.Nat.{ℕ, _+_, _≤_, _<_};
 ghost use lib.ListN.{length, getD};
+ghost use Rattle.limits.specs.Limits.{documentNodes, positions, nodeDigits, wordValues};
 ghost use Rattle.links.specs.Table.{NONE};
 ghost use Rattle.loops.specs.Loops.{loopAt};
 ghost use Rattle.matrices.specs.Matrices.{Related, Redrawn};
 ghost use Rattle.powers.specs.Powers.{blockAt, upperAt};
 ghost use Rattle.powers.specs.Blocks.{Fits, Only, Crossed, Edge, Twice};
 
-pub const BLOCKS: usize = 112;
+pub const BLOCKS: usize = Scratch::PART_WORDS;
 
-pub const WORDS: usize = 64;
+pub const WORDS: usize = Scratch::WORDS_PER_DIGIT;
 
-// Within a block: the rows that lead down, those that lead up, and the upper node.
+// Within a block: the rows that lead down, those that lead up, the snippets, and the upper node.
 pub const DOWN: usize = 0;
 
-pub const UP: usize = 16;
+pub const UP: usize = Rule::MAX_POSITIONS;
 
-pub const UPPER: usize = 48;
+pub const SNIPPETS: usize = 2 * Rule::MAX_POSITIONS;
 
-// The word that stands for no node.
-const NO_NODE: u16 = 65535;
+pub const UPPER: usize = 3 * Rule::MAX_POSITIONS;
 
 // Where the words of exponent `k` and node `y` begin.
 pub fn block_at(n: usize, k: usize, y: usize) -> usize
-    requires { ⌜ (y < n) × (n ≤ 4096) × (k < 13) ⌝ }
+    requires { ⌜ (y < n) × (n ≤ documentNodes) × (k < nodeDigits) ⌝ }
     ensures { λ r. ⌜ r ≡ blockAt n k y ⌝ }
 {
     BLOCKS * n + WORDS * (k * n + y)
@@ -38,16 +42,16 @@ pub fn block_at(n: usize, k: usize, y: usize) -> usize
 
 // Where the loops of node `v` begin.
 pub fn loop_at(n: usize, v: usize) -> usize
-    requires { ⌜ (v < n) × (n ≤ 4096) ⌝ }
+    requires { ⌜ (v < n) × (n ≤ documentNodes) ⌝ }
     ensures { λ r. ⌜ r ≡ loopAt n v ⌝ }
 {
-    16 * n + 16 * v
+    Part::LOOPS * n + Rule::MAX_POSITIONS * v
 }
 
 // The node 2^k above node `y`, or none.
 pub fn upper(p: &[u16], n: usize, k: usize, y: usize) -> usize
     requires { ⌜ Fits n k y (now p) ⌝ }
-    ensures { λ r. ⌜ (r ≡ getD (now (p .entry)) (upperAt n k y) 0) × (r < 65536) ⌝ }
+    ensures { λ r. ⌜ (r ≡ getD (now (p .entry)) (upperAt n k y) 0) × (r < wordValues) ⌝ }
 {
     let at = block_at(n, k, y);
     p[at + UPPER] as usize
@@ -59,16 +63,16 @@ pub fn none(p: &mut [u16], n: usize, k: usize, y: usize)
     ensures { λ _. ⌜ Only n k y (now (p .entry)) (now (p .exit)) × (getD (now (p .exit)) (upperAt n k y) 0 ≡ NONE) ⌝ }
 {
     let at = block_at(n, k, y);
-    p[at + UPPER] = NO_NODE;
+    p[at + UPPER] = Table::NONE as u16;
 }
 
 // The matrix at `c` becomes the one at `a`, followed by the steps of `w`, followed by the one at `b`.
-fn cross(p: &mut [u16], rows: [u16; 16], a: usize, w: u16, b: usize, c: usize)
-    requires { ⌜ (a + 16 ≤ c) × (b + 16 ≤ c) × (c + 16 ≤ length (now p)) ⌝ }
-    ensures { λ _. ⌜ Redrawn c (now (p .entry)) (now (p .exit)) × ((i j : ℕ) → i < 16 → j < 16 → Related (now (p .exit)) c i j ↔ Crossed rows (now (p .entry)) a w b i j) ⌝ }
+fn cross(p: &mut [u16], rows: [u16; Rule::MAX_POSITIONS], a: usize, w: u16, b: usize, c: usize)
+    requires { ⌜ (a + positions ≤ c) × (b + positions ≤ c) × (c + positions ≤ length (now p)) ⌝ }
+    ensures { λ _. ⌜ Redrawn c (now (p .entry)) (now (p .exit)) × ((i j : ℕ) → i < positions → j < positions → Related (now (p .exit)) c i j ↔ Crossed rows (now (p .entry)) a w b i j) ⌝ }
 {
     let mut i: usize = 0;
-    while i < 16 {
+    while i < Rule::MAX_POSITIONS {
         let next = meet(followers(rows, p[a + i]), w);
         p[c + i] = image(p, b, next);
         i += 1;

@@ -3,6 +3,7 @@ use crate::blocks::upper;
 use exponents::exponent;
 ghost use mathlib.Core.Path.{_≡_};
 ghost use Prim.Native.Nat.{_^_, _<_};
+ghost use Rattle.limits.specs.Limits.{nodeDigits};
 ghost use Rattle.powers.specs.Ladder.{Stretch, Hops};
 
 // The node over, 2^exponent above, and how many edges are left from there.
@@ -14,7 +15,7 @@ pub struct Hop {
 
 // 2^k.
 fn two_to(k: usize) -> usize
-    requires { ⌜ k < 13 ⌝ }
+    requires { ⌜ k < nodeDigits ⌝ }
     ensures { λ r. ⌜ r ≡ 2 ^ k ⌝ }
 {
     1 << k

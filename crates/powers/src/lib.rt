@@ -14,6 +14,7 @@ use walks::Machine;
 ghost use mathlib.Core.Path.{_≡_};
 ghost use Prim.Native.Nat.{ℕ, _+_, _*_, _≤_, _<_};
 ghost use lib.ListN.{length};
+ghost use Rattle.limits.specs.Limits.{documentNodes, nodeDigits, wordsPerDigit};
 ghost use Rattle.xpath.specs.Syntax.{XPath};
 ghost use Rattle.xpath.specs.Tree.{Tree, Down};
 ghost use Rattle.loops.specs.Loops.{Stage, Loops};
@@ -22,7 +23,7 @@ ghost use Rattle.powers.specs.Ladder.{Ladder, Stretch};
 
 // The powers of all nodes, for the exponents below `b`.
 pub fn find_powers(p: &mut [u16], n: usize, b: usize, m: Machine)
-    requires { ⌜ ((P R : XPath) × (t : Tree) × Stage P R t m n (now p) × Loops P R t n (now p)) × (0 < n) × (n ≤ 4096) × (b ≤ 13) × ((BLOCKS + 64 * b) * n ≤ length (now p)) ⌝ }
+    requires { ⌜ ((P R : XPath) × (t : Tree) × Stage P R t m n (now p) × Loops P R t n (now p)) × (0 < n) × (n ≤ documentNodes) × (b ≤ nodeDigits) × ((BLOCKS + wordsPerDigit * b) * n ≤ length (now p)) ⌝ }
     ensures { λ _. ⌜ ((P R : XPath) (t : Tree) → Stage P R t m n (now (p .entry)) → Loops P R t n (now (p .entry)) → Powered P R t n b (now (p .entry)) (now (p .exit))) ⌝ }
 {
     let mut k = 0;

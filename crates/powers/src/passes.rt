@@ -8,6 +8,7 @@ use links::table::parent;
 use walks::Machine;
 ghost use Prim.Native.Nat.{_+_, _*_, _≤_, _<_};
 ghost use lib.ListN.{length};
+ghost use Rattle.limits.specs.Limits.{documentNodes, nodeDigits, wordsPerDigit};
 ghost use Rattle.powers.specs.Powers.{BLOCKS};
 ghost use Rattle.powers.specs.Blocks.{Fits, Doubled, Found, Passed};
 
@@ -56,7 +57,7 @@ fn power(p: &mut [u16], n: usize, m: Machine, k: usize, y: usize)
 
 // Power `k` of all nodes.
 pub fn pass(p: &mut [u16], n: usize, m: Machine, k: usize)
-    requires { ⌜ (n ≤ 4096) × (k < 13) × ((BLOCKS + 64 * (k + 1)) * n ≤ length (now p)) ⌝ }
+    requires { ⌜ (n ≤ documentNodes) × (k < nodeDigits) × ((BLOCKS + wordsPerDigit * (k + 1)) * n ≤ length (now p)) ⌝ }
     ensures { λ _. ⌜ Passed m n k n (now (p .entry)) (now (p .exit)) ⌝ }
 {
     let mut y = 0;

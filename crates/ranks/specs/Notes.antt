@@ -3,6 +3,7 @@ use Prim.Native.Nat.{ℕ, suc, _+_, _*_, _≤_, _<_}
 use mathlib.Core.Path.{_≡_}
 use mathlib.Core.Logic.{_⊎_}
 use mathlib.Core.List.{List, [], _∷_}
+use Rattle.limits.specs.Limits.{wordValues}
 use Rattle.library.specs.Library.{Node}
 use Rattle.library.specs.Binary.{stringOf}
 use Rattle.library.specs.Verdict.{Accepts}
@@ -38,12 +39,12 @@ noted n v x = (cell n LENGTH v, x .length) ∷ (cell n HIGH v, x .high) ∷ (cel
 
 -- each number is a word
 abbrev pub Words : Note → Type 0
-Words x = (x .first < 65_536) × (x .low < 65_536) × (x .high < 65_536) × (x .length < 65_536)
+Words x = (x .first < wordValues) × (x .low < wordValues) × (x .high < wordValues) × (x .length < wordValues)
 
 -- ── What they tell ──
 -- the bytes of a note with a length
 abbrev pub span : Note → Span
-span x = record { from = x .low + 65_536 * x .high; to = x .low + 65_536 * x .high + x .length }
+span x = record { from = x .low + wordValues * x .high; to = x .low + wordValues * x .high + x .length }
 
 -- the value of node v is that of one node, or empty, and lies in one span; or it has no length, and is the text of several nodes inside the element v
 abbrev pub Held : List ℕ → List Node → ℕ → Note → Type 0

@@ -1,5 +1,6 @@
 // The order of the string values of two nodes. Where both begin at the same node they need not be read: then one begins with the other, and how far they go decides.
 use crate::notes::get_note;
+use limits::Scratch;
 use links::table::Table;
 use links::table::offset;
 use values::order::Order;
@@ -30,7 +31,7 @@ fn open_texts(t: &[u16], n: usize, first: usize, depth: usize) -> Reading
     ensures { λ r. ⌜ ((s : List ℕ) (ns : List Library.Node) (v last : ℕ) → Marked s n 0 (now (t .entry)) → Accepts s ns → first < last → Inside ns v depth first last → Comes s ns r (stringOf ns v)) ⌝ }
 {
     let x = get_note(t, n, first);
-    let from = x.low + 65536 * x.high;
+    let from = x.low + Scratch::WORD_VALUES * x.high;
     let behind = first + 1;
     let next = offset(t, n, behind);
     Reading {
@@ -56,7 +57,7 @@ pub fn value_of(t: &[u16], n: usize, v: usize) -> Value
             reading,
         };
     }
-    let from = x.low + 65536 * x.high;
+    let from = x.low + Scratch::WORD_VALUES * x.high;
     Value {
         first: x.first,
         last: x.first,

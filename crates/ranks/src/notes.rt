@@ -2,6 +2,7 @@
 use crate::texts::Texts;
 use document::entries::Entry;
 use document::rules::Kind;
+use limits::Scratch;
 use links::table::Table;
 use links::table::get;
 use links::table::put;
@@ -69,8 +70,8 @@ fn own_note(e: Entry, v: usize) -> Note
         let length = p.to - p.from;
         return Note {
             first: v,
-            low: p.from % 65536,
-            high: p.from / 65536,
+            low: p.from % Scratch::WORD_VALUES,
+            high: p.from / Scratch::WORD_VALUES,
             length,
         };
     }

@@ -5,6 +5,7 @@ use mathlib.Core.Logic.{_↔_}
 use mathlib.Core.Bool.{true}
 use mathlib.Core.List.{List}
 use lib.ListN.{length, getD}
+use Rattle.limits.specs.Limits.{positions}
 use Rattle.bits.specs.Sets.{bit}
 use Rattle.links.specs.Table.{word}
 use Rattle.walks.specs.declared.Machine.{Machine}
@@ -15,4 +16,4 @@ use Rattle.walks.specs.Walks.{Walk}
 pub record Reached (m : Machine) (n i v : ℕ) (p p′ : List ℕ) : Type 0 where
   pub long : length p′ ≡ length p
   pub front : (k : ℕ) → k < SEEN * n → getD p′ k 0 ≡ getD p k 0
-  pub seen : (j w : ℕ) → j < 16 → w < n → (bit (word p′ n SEEN w) j ≡ true) ↔ Walk m n p i v j w
+  pub seen : (j w : ℕ) → j < positions → w < n → (bit (word p′ n SEEN w) j ≡ true) ↔ Walk m n p i v j w

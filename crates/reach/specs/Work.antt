@@ -5,6 +5,7 @@ use mathlib.Core.Logic.{_⊎_, _↔_}
 use mathlib.Core.Bool.{true}
 use mathlib.Core.List.{List, [], _∷_}
 use lib.ListN.{length, getD}
+use Rattle.limits.specs.Limits.{positions}
 use Rattle.bits.specs.Sets.{bit, size}
 use Rattle.links.specs.Table.{LEFT, RIGHT, cell, word}
 use Rattle.walks.specs.declared.Machine.{Machine}
@@ -26,7 +27,7 @@ Has p n k j = bit (word p n POSITIONS k) j ≡ true
 -- how many positions are seen at the nodes below v
 unfoldable pub total : List ℕ → ℕ → ℕ → ℕ
 total p n zero = 0
-total p n (suc v) = total p n v + size 16 (word p n SEEN v)
+total p n (suc v) = total p n v + size positions (word p n SEEN v)
 
 -- the list has len entries
 pub record Work (n len : ℕ) (p : List ℕ) : Type 0 where
@@ -34,9 +35,9 @@ pub record Work (n len : ℕ) (p : List ℕ) : Type 0 where
   -- each entry is of a node
   pub nodes : (k : ℕ) → k < len → nodeOf p n k < n
   -- what an entry has is seen at its node
-  pub told : (k j : ℕ) → k < len → j < 16 → Has p n k j → Seen p n (nodeOf p n k) j
+  pub told : (k j : ℕ) → k < len → j < positions → Has p n k j → Seen p n (nodeOf p n k) j
   -- what is seen at a node is in an entry of it
-  pub listed : (u j : ℕ) → u < n → j < 16 → Seen p n u j → (k : ℕ) × (k < len) × (nodeOf p n k ≡ u) × Has p n k j
+  pub listed : (u j : ℕ) → u < n → j < positions → Seen p n u j → (k : ℕ) × (k < len) × (nodeOf p n k ≡ u) × Has p n k j
   -- there are no more entries than positions that are seen: so 16 for each node are enough
   pub count : len ≤ total p n n
 
@@ -51,7 +52,7 @@ pub record Added (R : ℕ → ℕ → Type 0) (n len len′ : ℕ) (p p′ : Lis
   pub nodes : (k : ℕ) → k < len → nodeOf p′ n k ≡ nodeOf p n k
   pub sets : (k : ℕ) → k < len → word p′ n POSITIONS k ≡ word p n POSITIONS k
   -- those positions are seen too now, and no others
-  pub seen : (u j : ℕ) → u < n → j < 16 → Seen p′ n u j ↔ (Seen p n u j ⊎ R u j)
+  pub seen : (u j : ℕ) → u < n → j < positions → Seen p′ n u j ↔ (Seen p n u j ⊎ R u j)
 
 -- what is written for an entry: all that is seen at node u now, and what was new
 abbrev pub entered : ℕ → ℕ → ℕ → ℕ → ℕ → List (ℕ × ℕ)
@@ -79,4 +80,4 @@ module _ (m : Machine) (n : ℕ) (p : List ℕ) where
 
   -- a position of entry k is followed by j, which leads from the entry's node to u
   abbrev pub After : ℕ → ℕ → ℕ → Type 0
-  After k u j = (i : ℕ) × (i < 16) × Has p n k i × (bit (getD (m .rows) i 0) j ≡ true) × Leads m n p (nodeOf p n k) j u
+  After k u j = (i : ℕ) × (i < positions) × Has p n k i × (bit (getD (m .rows) i 0) j ≡ true) × Leads m n p (nodeOf p n k) j u

@@ -1,5 +1,4 @@
 // One entry of the work list: its positions' followers, each taken from the entry's node where its step leads.
-use crate::list::Part;
 use crate::list::add;
 use bits::meet;
 use bits::union;
@@ -7,6 +6,7 @@ use links::table::Table;
 use links::table::get;
 use matrices::followers::followers;
 use walks::Machine;
+use walks::Part;
 ghost use mathlib.Core.Path.{_≡_};
 ghost use mathlib.Core.Bool.{true};
 ghost use mathlib.Core.Logic.{_↔_};

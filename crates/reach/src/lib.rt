@@ -8,12 +8,13 @@ use list::add;
 use list::clear;
 use walks::Machine;
 ghost use Prim.Native.Nat.{_<_};
+ghost use Rattle.limits.specs.Limits.{positions};
 ghost use Rattle.walks.specs.Part.{Space};
 ghost use Rattle.reach.specs.Reached.{Reached};
 
 // What `i` at node `v` comes to, at every node.
 pub fn reach(p: &mut [u16], n: usize, m: Machine, i: usize, v: usize)
-    requires { ⌜ Space n (now p) × (i < 16) × (v < n) ⌝ }
+    requires { ⌜ Space n (now p) × (i < positions) × (v < n) ⌝ }
     ensures { λ _. ⌜ Reached m n i v (now (p .entry)) (now (p .exit)) ⌝ }
 {
     clear(p, n);

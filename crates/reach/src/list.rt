@@ -2,25 +2,12 @@
 use bits::union;
 use links::table::put;
 use matrices::sets::without;
+use walks::Part;
 ghost use Prim.Native.Nat.{_*_, _<_};
+ghost use Rattle.limits.specs.Limits.{positions};
 ghost use Rattle.links.specs.Table.{Wrote};
 ghost use Rattle.walks.specs.Part.{Space};
 ghost use Rattle.reach.specs.Work.{Work, Added, At, Cleared, entered};
-
-pub struct Part;
-
-impl Part {
-    // The positions whose bracketed test holds at the node.
-    pub const STAYS: usize = 6;
-
-    // The positions that were come to at the node.
-    pub const SEEN: usize = 8;
-
-    // The nodes of the entries, and their positions: 16 columns each.
-    pub const NODES: usize = 16;
-
-    pub const POSITIONS: usize = 32;
-}
 
 // Nothing is seen anywhere.
 pub fn clear(p: &mut [u16], n: usize)
@@ -36,7 +23,7 @@ pub fn clear(p: &mut [u16], n: usize)
 
 // Entry `len`: node `u` and the positions that are new there. `seen` are all that are seen there now.
 pub fn enter(p: &mut [u16], n: usize, u: usize, seen: u16, new: u16, len: usize)
-    requires { ⌜ Space n (now p) × (u < n) × (len < 16 * n) ⌝ }
+    requires { ⌜ Space n (now p) × (u < n) × (len < positions * n) ⌝ }
     ensures { λ _. ⌜ Wrote (entered n u seen new len) (now (p .entry)) (now (p .exit)) ⌝ }
 {
     p[Part::SEEN * n + u] = seen;

@@ -1,11 +1,11 @@
 -- What a reader answers: it goes along the rule as the machine does that reads rules byte by byte.
-use Prim.Native.Nat.{ℕ, suc, _+_, _≤_, _<_}
+use Prim.Native.Nat.{ℕ, suc, _+_, _≤_, _<_, _-_}
 use mathlib.Core.Path.{_≡_}
 use mathlib.Core.Logic.{inl, inr, _≢_}
 use mathlib.Core.Bool.{Bool, true, false}
 use mathlib.Core.List.{List, [], _∷_}
 use lib.ListN.{length, drop}
-use Rattle.limits.specs.Limits.{ruleNesting}
+use Rattle.limits.specs.Limits.{labelBytes, ruleNesting}
 use Rattle.lists.specs.Lists.{All}
 use Rattle.xpath.specs.Syntax.{Op, Test, size}
 use Rattle.grammar.specs.Spelling.{sign, spellTest, spellPath}
@@ -131,7 +131,7 @@ module _ (s : List ℕ) where
     pub value : List ℕ
     pub inside : j ≤ length s
     pub long : j ≡ i + length value
-    pub returns : Returns (tail 15) value [] i (drop i s) j (drop j s)
+    pub returns : Returns (tail (labelBytes - 1)) value [] i (drop i s) j (drop j s)
 
   -- what stands at i for x goes on at j for y
   pub record Turns (x y : Symbol) (g : Value y → Value x) (i j : ℕ) : Type 0 where

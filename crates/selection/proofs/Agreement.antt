@@ -135,3 +135,14 @@ plain-one t T n m h g = h ∙ sym g
 
 pub snippets-one : (t : Tree) (T : Test) (n m : ℕ) → SnippetCount t T n → SnippetCount t T m → n ≡ m
 snippets-one t T n m h g = counted-one t (comparisons T) n m (h .counted) (g .counted)
+
+-- ── For each evaluation, with nothing supposed ──
+pub plain-evaluation-one : (document rule scratch marks : List ℕ) (o₁ o₂ : Outcome) (scratch₁ marks₁ scratch₂ marks₂ : List ℕ)
+    → PlainEvaluation document rule scratch marks o₁ scratch₁ marks₁ → PlainEvaluation document rule scratch marks o₂ scratch₂ marks₂
+    → (o₁ ≡ o₂) × (scratch₁ ≡ scratch₂) × (marks₁ ≡ marks₂)
+plain-evaluation-one = evaluation-one NoSnippets plain-one
+
+pub snippet-evaluation-one : (document rule scratch marks : List ℕ) (o₁ o₂ : Outcome) (scratch₁ marks₁ scratch₂ marks₂ : List ℕ)
+    → SnippetEvaluation document rule scratch marks o₁ scratch₁ marks₁ → SnippetEvaluation document rule scratch marks o₂ scratch₂ marks₂
+    → (o₁ ≡ o₂) × (scratch₁ ≡ scratch₂) × (marks₁ ≡ marks₂)
+snippet-evaluation-one = evaluation-one SnippetCount snippets-one

@@ -5,6 +5,7 @@ use mathlib.Core.Logic.{_⊎_}
 use mathlib.Core.Bool.{Bool}
 use mathlib.Core.List.{List}
 use lib.ListN.{length, getD}
+use Rattle.limits.specs.Limits.{documentNodes}
 use Rattle.xpath.specs.Tree.{Tree, Child, WellFormed}
 use Rattle.links.specs.Table.{PARENT, RANK, NONE, column, word}
 use Rattle.links.specs.Links.{Points}
@@ -13,7 +14,7 @@ use Rattle.links.specs.Links.{Points}
 pub record Shape (t : Tree) (n : ℕ) (p : List ℕ) : Type 0 where
   pub formed : WellFormed t
   pub size : t .size ≡ n
-  pub few : n ≤ 4096
+  pub few : n ≤ documentNodes
   -- a word for a child is the child, or none
   pub children : (side : Bool) (v : ℕ) → v < n → Points (Child t side v) (word p n (column side) v)
   -- a word for the parent is the parent, or none for the root

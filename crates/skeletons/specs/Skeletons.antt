@@ -20,9 +20,13 @@ FIRST = 9
 abbrev pub NEXT : ℕ
 NEXT = 10
 
--- two things in one word: an odd one for a node that has a node of the group at or below it, and 2 or 3 for a block of 16 nodes that is noted
+-- two things in one word: an odd one for a node that has a node of the group at or below it, and 2 or 3 for a block of nodes that is noted
 abbrev pub MARKED : ℕ
 MARKED = 11
+
+-- the nodes of a block
+abbrev pub BLOCK : ℕ
+BLOCK = 16
 
 -- ── Groups ──
 -- w is the least node from v on that has the rank r
@@ -54,7 +58,7 @@ IsMarked p n v = word p n MARKED v % 2 ≡ 1
 
 -- v's block is noted
 abbrev pub IsNoted : List ℕ → ℕ → ℕ → Type 0
-IsNoted p n v = word p n MARKED (v / 16) / 2 ≡ 1
+IsNoted p n v = word p n MARKED (v / BLOCK) / 2 ≡ 1
 
 -- the nodes of rank r are those that have the value d, the marks are theirs, and the blocks of their skeleton are noted
 pub record Group (t : Tree) (d : List ℕ) (n r : ℕ) (p : List ℕ) : Type 0 where

@@ -5,19 +5,20 @@ use links::table::put;
 ghost use mathlib.Core.Bool.{true};
 ghost use mathlib.Core.Path.{_≡_};
 ghost use Prim.Native.Nat.{ℕ, _/_, _≤_, _<_};
+ghost use Rattle.limits.specs.Limits.{documentNodes};
 ghost use Rattle.links.specs.Table.{Room};
-ghost use Rattle.skeletons.specs.Skeletons.{IsNoted};
+ghost use Rattle.skeletons.specs.Skeletons.{IsNoted, BLOCK};
 ghost use Rattle.skeletons.specs.Steps.{Noting};
 
 // The number of nodes in a block.
-const SIZE: usize = 16;
+const BLOCK: usize = 16;
 
 // Notes the block of node `v`; the mark in the same word stays.
 pub fn note(p: &mut [u16], n: usize, v: usize)
     requires { ⌜ Room n (now p) × (v < n) ⌝ }
     ensures { λ _. ⌜ Noting n v (now (p .entry)) (now (p .exit)) ⌝ }
 {
-    let b = v / SIZE;
+    let b = v / BLOCK;
     let word = get(p, n, Column::MARKED, b);
     put(p, n, Column::MARKED, b, word % 2 + 2);
 }
@@ -27,22 +28,22 @@ pub fn is_empty(p: &[u16], n: usize, v: usize) -> bool
     requires { ⌜ Room n (now p) × (v < n) ⌝ }
     ensures { λ e. ⌜ (e ≡ true → ¬ IsNoted (now (p .entry)) n v) ⌝ }
 {
-    get(p, n, Column::MARKED, v / SIZE) < 2
+    get(p, n, Column::MARKED, v / BLOCK) < 2
 }
 
 // The first node of the block of node `v`.
 pub fn block_start(v: usize) -> usize
-    ensures { λ s. ⌜ (s ≤ v) × ((u : ℕ) → s ≤ u → u ≤ v → u / 16 ≡ v / 16) ⌝ }
+    ensures { λ s. ⌜ (s ≤ v) × ((u : ℕ) → s ≤ u → u ≤ v → u / BLOCK ≡ v / BLOCK) ⌝ }
 {
-    v / SIZE * SIZE
+    v / BLOCK * BLOCK
 }
 
 // The first node behind the block of node `v`, or the number of nodes.
 pub fn block_end(n: usize, v: usize) -> usize
-    requires { ⌜ (v < n) × (n ≤ 4096) ⌝ }
-    ensures { λ s. ⌜ (v < s) × (s ≤ n) × ((u : ℕ) → v ≤ u → u < s → u / 16 ≡ v / 16) ⌝ }
+    requires { ⌜ (v < n) × (n ≤ documentNodes) ⌝ }
+    ensures { λ s. ⌜ (v < s) × (s ≤ n) × ((u : ℕ) → v ≤ u → u < s → u / BLOCK ≡ v / BLOCK) ⌝ }
 {
-    let next = (v / SIZE + 1) * SIZE;
+    let next = (v / BLOCK + 1) * BLOCK;
     if next < n {
         return next;
     }

@@ -6,6 +6,7 @@ use mathlib.Core.List.{List, [], _∷_, _++_}
 use lib.ListN.{length}
 use Rattle.lists.specs.Lists.{Occurs, Number}
 use Rattle.lists.specs.Text.{binaryDigits}
+use Rattle.limits.specs.Limits.{snippetFactor}
 use Rattle.xpath.specs.Syntax.{Op, eq, ne, lt, le, gt, ge, Test, named, not, and, or, compare, compareTo, XPath, empty, one, seq, union, star, Step, toLeft, toRight, fromLeft, fromRight, stay}
 use Rattle.xpath.specs.Tree.{Tree}
 use Rattle.xpath.specs.Meaning.{Holds}
@@ -76,4 +77,4 @@ module _ (t : Tree) where
 -- what demand 3 says of the snippet count n of a rule on a tree
 pub record SnippetCount (t : Tree) (T : Test) (n : ℕ) : Type 0 where
   pub counted : Counted t (comparisons T) n
-  pub bounded : n ≤ 128 * t .size * binaryDigits (t .size) * length (comparisons T)
+  pub bounded : n ≤ snippetFactor * t .size * binaryDigits (t .size) * length (comparisons T)

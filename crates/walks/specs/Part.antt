@@ -1,7 +1,9 @@
 -- A comparison's part of the scratch, which begins behind the tree's own words: columns of n words, as in the table.
-use Prim.Native.Nat.{ℕ, _*_, _≤_, _<_}
+use Prim.Native.Nat.{ℕ, _*_, _≤_, _<_, _+_}
 use mathlib.Core.List.{List}
 use lib.ListN.{length}
+use Rattle.limits.specs.Limits.{documentNodes, positions}
+use Rattle.links.specs.Table.{COLUMNS}
 
 -- 1 where the comparison holds, and else 0
 abbrev pub ANSWER : ℕ
@@ -24,18 +26,28 @@ HIT = 7
 abbrev pub SEEN : ℕ
 SEEN = 8
 
--- the work list: 16 columns for the nodes of its entries, and 16 for their positions
+-- the work list, behind the columns of single words: a column for each position for the nodes of its entries, and one for their positions
 abbrev pub NODES : ℕ
-NODES = 16
+NODES = COLUMNS
 
 abbrev pub POSITIONS : ℕ
-POSITIONS = 32
+POSITIONS = NODES + positions
 
 abbrev pub SPACE : ℕ
-SPACE = 48
+SPACE = POSITIONS + positions
+
+-- in the same place the matrices of an equality, a row for each position: the loops of a node, and its settled pairs
+abbrev pub LOOPS : ℕ
+LOOPS = COLUMNS
+
+abbrev pub PAIRS : ℕ
+PAIRS = LOOPS + positions
+
+abbrev pub REST : ℕ
+REST = PAIRS + positions
 
 -- the part has room, and n is a number of nodes
 pub record Space (n : ℕ) (p : List ℕ) : Type 0 where
   pub some : 0 < n
-  pub few : n ≤ 4096
+  pub few : n ≤ documentNodes
   pub room : SPACE * n ≤ length p

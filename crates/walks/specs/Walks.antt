@@ -5,6 +5,7 @@ use mathlib.Core.Logic.{_≢_}
 use mathlib.Core.Bool.{true}
 use mathlib.Core.List.{List}
 use lib.ListN.{getD}
+use Rattle.limits.specs.Limits.{positions}
 use Rattle.bits.specs.Sets.{bit}
 use Rattle.xpath.specs.Syntax.{Op, eq, ne, lt, le, gt, ge}
 use Rattle.links.specs.Table.{LEFT, RIGHT, PARENT, RANK, word}
@@ -32,7 +33,7 @@ module _ (m : Machine) (n : ℕ) (p : List ℕ) where
   -- i at v comes to j at w
   pub data Walk : ℕ → ℕ → ℕ → ℕ → Type 0 where
     here : {i v : ℕ} → Walk i v i v
-    on : {i v j u k w : ℕ} → j < 16 → bit (getD (m .rows) i 0) j ≡ true → Leads v j u → Walk j u k w → Walk i v k w
+    on : {i v j u k w : ℕ} → j < positions → bit (getD (m .rows) i 0) j ≡ true → Leads v j u → Walk j u k w → Walk i v k w
 
   -- i at v ends at w
   abbrev pub Stops : ℕ → ℕ → ℕ → Type 0
