@@ -9,7 +9,7 @@ ghost use Prim.Native.Nat.{ℕ, _*_, _≤_, _<_};
 ghost use lib.ListN.{length};
 ghost use Rattle.xpath.specs.Syntax.{XPath};
 ghost use Rattle.xpath.specs.Tree.{Tree};
-ghost use Rattle.snippets.proofs.Ways.{Own};
+ghost use Rattle.snippets.specs.Ways.{Own};
 ghost use Rattle.loops.specs.Loops.{Stage, Loops};
 ghost use Rattle.skeletons.specs.Skeletons.{Ranks};
 ghost use Rattle.groups.specs.Groups.{Exactly};

@@ -1,12 +1,12 @@
 -- Ranks: numbers of the nodes that are in the order of their string values.
 use Prim.Native.Nat.{ℕ, _*_, _≤_, _<_}
 use mathlib.Core.Path.{_≡_}
-use mathlib.Core.Logic.{_⊎_, inl, inr, _↔_}
+use mathlib.Core.Logic.{_↔_}
 use mathlib.Core.Bool.{Bool, true, false}
-use mathlib.Core.List.{List}
+use mathlib.Core.List.{List, [], _∷_}
 use lib.ListN.{length, getD}
+use lib.Dec.{eqb, ltb}
 use Rattle.xpath.specs.Meaning.{Less}
-use Rattle.xpath.proofs.Order.{less-trichotomous}
 use Rattle.library.specs.Library.{Node}
 use Rattle.library.specs.Binary.{pick, stringOf}
 use Rattle.library.specs.Verdict.{Accepts}
@@ -49,13 +49,12 @@ pub record Written (s : List ℕ) (ns : List Node) (before after : List ℕ) : T
 abbrev pub one : Bool → ℕ
 one b = pick b 1 0
 
-abbrev pub isLeft : {A B : Type 0} → A ⊎ B → Bool
-isLeft (inl a) = true
-isLeft (inr b) = false
-
--- bs is smaller than cs: the first of the three ways in which two strings compare
+-- Less as a test: the first byte in which two strings differ tells, and a proper prefix is smaller
 unfoldable pub isLess : List ℕ → List ℕ → Bool
-isLess bs cs = isLeft (less-trichotomous bs cs)
+isLess [] [] = false
+isLess [] (c ∷ cs) = true
+isLess (b ∷ bs) [] = false
+isLess (b ∷ bs) (c ∷ cs) = pick (ltb b c) true (pick (eqb b c) (isLess bs cs) false)
 
 -- node w has a smaller value than node v
 abbrev pub isSmaller : List Node → ℕ → ℕ → Bool

@@ -24,8 +24,9 @@ use Rattle.grammar.specs.Parts.{testParts, pathParts, stepParts, parts}
 use Rattle.grammar.specs.Parts as Parts
 use Rattle.grammar.specs.Spelling.{spellTest, spellPath, spellStep}
 use Rattle.grammar.specs.Verdict as Rule
-use Rattle.grammar.proofs.Bytes.{isLetter, isNameByte, isPrintable}
-use Rattle.grammar.proofs.Machine.{Answer, read, stopped, answer, ruleStart, move, rest, over}
+use Rattle.grammar.specs.Bytes.{isLetter, isNameByte, isPrintable}
+use Rattle.grammar.specs.Machine.{Answer, read, stopped, move, rest, over}
+use Rattle.grammar.proofs.Machine.{answer, ruleStart}
 use Rattle.grammar.proofs.Begins.{answer-reads}
 use Rattle.grammar.proofs.Least.{leastOf}
 use Rattle.grammar.proofs.Grounds.{reads-one, unreadAt, deepAt, manyTestsAt, manyStepsAt}
