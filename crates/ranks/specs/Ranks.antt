@@ -2,11 +2,11 @@
 use Prim.Native.Nat.{ℕ, _*_, _≤_, _<_}
 use mathlib.Core.Path.{_≡_}
 use mathlib.Core.Logic.{_↔_}
-use mathlib.Core.Bool.{Bool, true, false}
-use mathlib.Core.List.{List, [], _∷_}
+use mathlib.Core.Bool.{Bool}
+use mathlib.Core.List.{List}
 use lib.ListN.{length, getD}
-use lib.Dec.{eqb, ltb}
 use Rattle.xpath.specs.Meaning.{Less}
+use Rattle.xpath.specs.Order.{lessb}
 use Rattle.library.specs.Library.{Node}
 use Rattle.library.specs.Binary.{pick, stringOf}
 use Rattle.library.specs.Verdict.{Accepts}
@@ -49,12 +49,9 @@ pub record Written (s : List ℕ) (ns : List Node) (before after : List ℕ) : T
 abbrev pub one : Bool → ℕ
 one b = pick b 1 0
 
--- Less as a test: the first byte in which two strings differ tells, and a proper prefix is smaller
+-- bs is smaller than cs
 unfoldable pub isLess : List ℕ → List ℕ → Bool
-isLess [] [] = false
-isLess [] (c ∷ cs) = true
-isLess (b ∷ bs) [] = false
-isLess (b ∷ bs) (c ∷ cs) = pick (ltb b c) true (pick (eqb b c) (isLess bs cs) false)
+isLess bs cs = lessb bs cs
 
 -- node w has a smaller value than node v
 abbrev pub isSmaller : List Node → ℕ → ℕ → Bool

@@ -12,7 +12,8 @@ use Rattle.limits.specs.Limits.{scratchWords}
 use Rattle.refusals.specs.Refusals.{Refusal}
 use Rattle.xpath.specs.Syntax.{Test}
 use Rattle.xpath.specs.Meaning.{Holds}
-use Rattle.xpath.proofs.Decide.{holdsb, holds-iff, someBelow, some-iff, allb, each-by, both, either, neg, sideb, side-iff, T-both, T-either, T-neg, eqb-iff, ⊎-iff, trans}
+use Rattle.xpath.specs.Order.{both, either}
+use Rattle.xpath.proofs.Decide.{holdsb, holds-iff, someBelow, some-iff, allb, each-by, neg, sideb, side-iff, T-both, T-either, T-neg, eqb-iff, ⊎-iff, trans}
 use Rattle.library.specs.Library.{Node}
 use Rattle.library.specs.Binary.{treeOf}
 use Rattle.library.specs.Example.{X, textX}
