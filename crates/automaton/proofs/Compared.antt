@@ -9,7 +9,7 @@ use lib.ListN.{replicate}
 use Rattle.bits.specs.Sets.{bit, is, or, and}
 use Rattle.xpath.specs.Syntax.{XPath, empty, size}
 use Rattle.positions.specs.Positions.{second}
-use Rattle.positions.proofs.Glushkov.{Nullable}
+use Rattle.positions.specs.Glushkov.{Nullable}
 use Rattle.positions.proofs.Chains.{follows-iff, last-iff}
 use Rattle.automaton.specs.declared.sets.Scan.{Scan}
 use Rattle.automaton.specs.declared.automaton.FirstPath.{FirstPath}

@@ -9,7 +9,7 @@ use Rattle.grammar.proofs.Bytes.{clash}
 use Rattle.bits.specs.Sets.{bit, or, and}
 use Rattle.bits.specs.Square.{cell}
 use Rattle.xpath.specs.Syntax.{XPath}
-use Rattle.positions.proofs.Glushkov.{Next}
+use Rattle.positions.specs.Glushkov.{Next}
 use Rattle.automaton.specs.Scanned.{Related}
 use Rattle.automaton.proofs.Truth.{tells-or, tells-and}
 

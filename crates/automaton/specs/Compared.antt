@@ -8,7 +8,7 @@ use Rattle.bits.specs.Sets.{bit}
 use Rattle.bits.specs.Square.{cell}
 use Rattle.xpath.specs.Syntax.{XPath, empty, size}
 use Rattle.positions.specs.Positions.{Follows, IsLast}
-use Rattle.positions.proofs.Glushkov.{Nullable, Begins, Stops, Next}
+use Rattle.positions.specs.Glushkov.{Nullable, Begins, Stops, Next}
 use Rattle.parts.specs.Standing.{PathAt}
 use Rattle.automaton.specs.declared.sets.Scan.{Scan}
 use Rattle.automaton.specs.declared.automaton.FirstPath.{FirstPath}

@@ -7,7 +7,7 @@ use mathlib.Core.List.{List}
 use Rattle.bits.specs.Sets.{bit}
 use Rattle.bits.specs.Square.{cell}
 use Rattle.xpath.specs.Syntax.{XPath, size}
-use Rattle.positions.proofs.Glushkov.{Nullable, Begins, Stops, Next}
+use Rattle.positions.specs.Glushkov.{Nullable, Begins, Stops, Next}
 use Rattle.parts.specs.Standing.{PathAt}
 use Rattle.automaton.specs.declared.sets.Scan.{Scan}
 

@@ -9,7 +9,7 @@ use Rattle.refusals.specs.Refusals.{lineForm, treeRule, First}
 use Rattle.library.specs.Library as Library
 use Rattle.library.specs.Library.{LabelRule, ValueRule, labelLine, valueLine}
 use Rattle.library.specs.Verdict.{behindLines, DepthIs, KindIs, LabelIs, ValueIs, Breaks, DocumentGround}
-use Rattle.library.proofs.Fields.{Field, depth, kind, label, value, lineOf, Formed, Ruled}
+use Rattle.library.specs.Fields.{Field, depth, kind, label, value, lineOf, Formed, Ruled}
 use Rattle.library.proofs.Good.{good-on, first-form, first-rule}
 use Rattle.library.proofs.Rules.{ruled-top, ruled-root, ruled-depth, ruled-kind, ruled-label, ruled-value}
 use Rattle.library.proofs.Cursor.{depth-here, kind-here, label-here, value-here, depth-split, kind-split, label-split, value-split}

@@ -17,9 +17,10 @@ use Rattle.xpath.specs.Tree.{Tree, Child, WellFormed, Down, here, deeper}
 use Rattle.xpath.proofs.Trees.{down-zero}
 use Rattle.snippets.specs.Snippets.{Yielded}
 use Rattle.snippets.specs.Count.{IsSnippet}
+use Rattle.snippets.specs.Direct.{Direct}
 use Rattle.snippets.proofs.Settles.{sound, yielded-down}
 use Rattle.snippets.proofs.Counting.{down-inside, ends-small}
-use Rattle.snippets.proofs.Direct.{Direct, first-iff, yielded-iff}
+use Rattle.snippets.proofs.Direct.{first-iff, yielded-iff}
 use Rattle.links.specs.Table.{word}
 use Rattle.walks.specs.declared.Machine.{Machine}
 use Rattle.walks.specs.Part.{STAYS, ANSWER}

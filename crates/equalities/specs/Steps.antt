@@ -10,7 +10,7 @@ use Rattle.xpath.specs.Syntax.{XPath}
 use Rattle.xpath.specs.Tree.{Tree}
 use Rattle.snippets.specs.Snippets.{Yielded}
 use Rattle.snippets.specs.Count.{IsSnippet}
-use Rattle.snippets.proofs.Direct.{Direct}
+use Rattle.snippets.specs.Direct.{Direct}
 use Rattle.walks.specs.declared.Machine.{Machine}
 use Rattle.loops.specs.Loops.{Stage, Loops}
 use Rattle.powers.specs.Powers.{BLOCKS, snippetAt, Powers}

@@ -9,13 +9,13 @@ use lib.Dec.{T, lit<}
 use native.Mathlib.Omega.{arith}
 use native.Mathlib.Numerals.{add-one}
 use native.Mathlib.Nat.{pow-le-pow-right}
-use Rattle.lists.proofs.Numerals.{valueFrom}
+use Rattle.lists.specs.Numerals.{valueFrom}
 use native.Mathlib.Decide.{decLt}
 use Rattle.lists.specs.Lists.{All}
 use Rattle.fields.specs.declared.Ending.the-variants.{Next, Bad}
 use Rattle.fields.specs.declared.Class.{Class}
-use Rattle.fields.proofs.Classes.{lf-out}
 use Rattle.fields.specs.Reading.{Ended, inClass, AllIn, Run}
+use Rattle.fields.proofs.Classes.{lf-out}
 
 -- what holds at each index holds of all of a list
 pub all-at : (B : ℕ → Type 0) (l : List ℕ) → ((j : ℕ) → j < length l → B (getD l j 0)) → All B l

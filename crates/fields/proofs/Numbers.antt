@@ -13,8 +13,9 @@ use lib.Dec.{lit<}
 use borrow.Author.Tests.{ltb-true, ltb-false, eqb-true, eqb-false, le-leb}
 use Rattle.lists.specs.Lists.{All}
 use Rattle.lists.specs.Text.{decimal, digits}
+use Rattle.lists.specs.Numerals.{reading}
 use Rattle.lists.proofs.Lists.{all-imp}
-use Rattle.lists.proofs.Numerals.{Digit, Decimal, reading, decimal-decimal, decimal-digits, decimal-reading, decimal-short, digits-above}
+use Rattle.lists.proofs.Numerals.{Digit, Decimal, decimal-decimal, decimal-digits, decimal-reading, decimal-short, digits-above}
 use Rattle.fields.specs.declared.Ending.the-variants.{Next, Bad}
 use Rattle.fields.specs.declared.Numeral.the-variants.{Value, NoNumeral}
 use Rattle.fields.specs.declared.Class.{Class}

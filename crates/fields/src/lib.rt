@@ -7,7 +7,7 @@ ghost use Prim.Native.Nat.{ℕ, _+_, _≤_, _<_};
 ghost use lib.ListN.{length, getD};
 ghost use Rattle.limits.specs.Limits.{countDigits};
 ghost use Rattle.fields.specs.Reading.{Ended, isBetween, inClass, Run, Digits, zeroLed, Numbered, Behind, NumberedLine};
-ghost use Rattle.lists.proofs.Numerals.{reading};
+ghost use Rattle.lists.specs.Numerals.{reading};
 ghost use lib.Seq.{slice};
 
 // The offset behind what was read, or that it does not stand there.

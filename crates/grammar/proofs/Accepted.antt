@@ -13,7 +13,8 @@ use Rattle.xpath.specs.Syntax.{Test}
 use Rattle.grammar.specs.Parts as Parts
 use Rattle.grammar.specs.Parts.{Part, parts}
 use Rattle.grammar.specs.Verdict.{Reads, RuleGround, Accepts}
-use Rattle.grammar.proofs.Machine.{Answer, read, stopped, answer, Key, ruleStart}
+use Rattle.grammar.specs.Machine.{Answer, read, stopped, Key}
+use Rattle.grammar.proofs.Machine.{answer, ruleStart}
 use Rattle.grammar.proofs.Seen.{part-read, read-part}
 use Rattle.grammar.proofs.Nesting.{climb-test}
 use Rattle.grammar.proofs.Grounds.{reads-one, Known, known, unreadAt, unread-settles, deep-exists, tests-exist, steps-exist}

@@ -12,8 +12,9 @@ use Rattle.xpath.specs.Syntax.{Test}
 use Rattle.grammar.specs.Spelling.{spellTest, LegalTest}
 use Rattle.grammar.specs.Parts.{parts}
 use Rattle.grammar.specs.Verdict.{Reads, BeginsAs, Begins}
-use Rattle.grammar.proofs.Machine.{Values, move, rest, State, advance, step, over, run, read, read-inj, read-not-stopped, closing, close, answer, Key, ruleStart}
-use Rattle.grammar.proofs.Reading.{keys}
+use Rattle.grammar.specs.Machine.{Values, move, rest, State, advance, step, over, read, closing, close, Key}
+use Rattle.grammar.specs.Readers.{keys}
+use Rattle.grammar.proofs.Machine.{run, read-inj, read-not-stopped, answer, ruleStart}
 use Rattle.grammar.proofs.Spelled.{Legal, spell, Faithful, faithful, completed, Nothing, left-empty}
 use Rattle.grammar.proofs.Unique.{answer-test}
 use Rattle.grammar.proofs.Runs.{run-cons, read-run, grows-run}

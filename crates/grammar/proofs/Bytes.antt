@@ -1,4 +1,4 @@
--- Tests that compute: choices, comparisons, and the bytes of names and constants.
+-- What the tests say that compute: choices, comparisons, and the bytes of names and constants.
 use Prim.Native.Nat.{ℕ, _≤_, _<_}
 use native.Mathlib.Omega.{arith}
 use mathlib.Core.Path.{_≡_, refl, ap}
@@ -7,28 +7,7 @@ use mathlib.Core.Bool.{Bool, true, false}
 use lib.Dec.{eqb, leb, ltb}
 use borrow.Author.Tests.{leb-true, le-leb, ltb-true, lt-ltb, eqb-true, eq-eqb}
 use Rattle.lists.specs.Text.{Printable, Letter, NameByte}
-
-abbrev pub choose {ℓ} : {A : Type ℓ} → Bool → A → A → A
-choose true a b = a
-choose false a b = b
-
-abbrev pub both : Bool → Bool → Bool
-both a b = choose a b false
-
-abbrev pub either : Bool → Bool → Bool
-either a b = choose a true b
-
-abbrev between : ℕ → ℕ → ℕ → Bool
-between low high b = both (leb low b) (leb b high)
-
-unfoldable pub isLetter : ℕ → Bool
-isLetter b = between 97 122 b
-
-unfoldable pub isNameByte : ℕ → Bool
-isNameByte b = either (between 97 122 b) (either (between 48 57 b) (eqb b 45))
-
-unfoldable pub isPrintable : ℕ → Bool
-isPrintable b = between 0x20 0x7e b
+use Rattle.grammar.specs.Bytes.{choose, both, either, between, isLetter, isNameByte, isPrintable}
 
 pub clash : {A : Type 0} → false ≡ true → A
 clash e = let z : _≡_ {A = ℕ} 0 1 = ap (λ t. choose t 1 0) e in absurd (omega arith)

@@ -8,7 +8,8 @@ use lib.Dec.{eqb, ltb}
 use Rattle.lists.specs.Lists.{Occurs}
 use Rattle.refusals.specs.Refusals.{Refusal, number, place, stage, Earlier, First}
 use Rattle.refusals.proofs.Refusals.{earlier-irrefl, earlier-trans}
-use Rattle.grammar.proofs.Bytes.{choose, both, either, both-iff, either-iff, lt-iff, eq-iff, clash}
+use Rattle.grammar.specs.Bytes.{choose, both, either}
+use Rattle.grammar.proofs.Bytes.{both-iff, either-iff, lt-iff, eq-iff, clash}
 
 unfoldable pub earlier : Refusal → Refusal → Bool
 earlier a b =

@@ -11,9 +11,10 @@ use Rattle.grammar.specs.Spelling.{spellTest, spellPath, spellStep}
 use Rattle.grammar.specs.Parts.{testParts, pathParts, stepParts, parts}
 use Rattle.grammar.specs.Parts as Parts
 use Rattle.grammar.specs.Verdict.{Reads, Accepts}
-use Rattle.grammar.proofs.Bytes.{isLetter, isNameByte, isPrintable}
-use Rattle.grammar.proofs.Machine.{move, rest, over, read, answer, ruleStart}
-use Rattle.grammar.proofs.Reading.{keys}
+use Rattle.grammar.specs.Bytes.{isLetter, isNameByte, isPrintable}
+use Rattle.grammar.specs.Machine.{move, rest, over, read}
+use Rattle.grammar.specs.Readers.{keys}
+use Rattle.grammar.proofs.Machine.{answer, ruleStart}
 use Rattle.grammar.proofs.Begins.{answer-reads}
 use Rattle.grammar.proofs.Least.{leastOf}
 use Rattle.grammar.proofs.Grounds.{reads-one, unreadAt, deepAt, manyTestsAt, manyStepsAt}

@@ -15,9 +15,10 @@ use Rattle.lists.specs.Lists.{Occurs}
 use Rattle.xpath.specs.Syntax.{Test}
 use Rattle.grammar.specs.Parts.{Part, Sort, parts, tests}
 use Rattle.grammar.specs.Verdict.{Heavy, Reads, Begins, Unreadable, IsPart, TooDeep, ManyTests, ManySteps}
+use Rattle.grammar.specs.Machine.{Answer, read, stopped, Key}
+use Rattle.grammar.specs.Readers.{key}
 use Rattle.grammar.proofs.Bytes.{clash}
-use Rattle.grammar.proofs.Machine.{Answer, read, stopped, read-not-stopped, answer, Key, ruleStart}
-use Rattle.grammar.proofs.Reading.{key}
+use Rattle.grammar.proofs.Machine.{read-not-stopped, answer, ruleStart}
 use Rattle.grammar.proofs.Unique.{spell-injective}
 use Rattle.grammar.proofs.Runs.{seenOf, Told, answer-told, answer-seen}
 use Rattle.grammar.proofs.Begins.{reads-answer, answer-reads}

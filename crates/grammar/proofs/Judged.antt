@@ -15,7 +15,8 @@ use Rattle.lists.proofs.Lists.{occurs-left, occurs-right, occurs-append}
 use Rattle.refusals.specs.Refusals.{Refusal, ruleLength, unreadable, nesting, tests, steps, First}
 use Rattle.xpath.specs.Syntax.{Test}
 use Rattle.grammar.specs.Verdict.{Unreadable, TooDeep, ManyTests, ManySteps, RuleGround, Accepts, Checked}
-use Rattle.grammar.proofs.Machine.{Answer, answer, ruleStart}
+use Rattle.grammar.specs.Machine.{Answer}
+use Rattle.grammar.proofs.Machine.{answer, ruleStart}
 use Rattle.grammar.proofs.Least.{Settles}
 use Rattle.grammar.proofs.Grounds.{known, unreadAt, unread-settles, deepAt, deep-settles, manyTestsAt, tests-settles, manyStepsAt, steps-settles}
 use Rattle.grammar.proofs.Earliest.{earliest, Earliest, earliest-first}

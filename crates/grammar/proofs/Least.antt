@@ -10,7 +10,8 @@ use mathlib.Core.List.{List, [], _∷_}
 use lib.Dec.{leb}
 use borrow.Author.Tests.{leb-true, leb-false}
 use Rattle.lists.specs.Lists.{Occurs}
-use Rattle.grammar.proofs.Bytes.{choose, clash}
+use Rattle.grammar.specs.Bytes.{choose}
+use Rattle.grammar.proofs.Bytes.{clash}
 
 -- C holds at the number found and at no other, and nowhere if none is found
 abbrev pub Settles : (ℕ → Type 0) → Option ℕ → Type 0

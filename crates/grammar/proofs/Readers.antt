@@ -11,20 +11,20 @@ use Rattle.lists.specs.Lists.{All}
 use Rattle.lists.proofs.Lists.{all-occurs, all-append, all-imp, occurs-left, occurs-right}
 use Rattle.xpath.specs.Syntax.{Test}
 use Rattle.grammar.specs.Verdict.{Reads, Unreadable, TooDeep}
-use Rattle.grammar.proofs.Machine.{Symbol, Stack, Value, test, tail, Values, move, rest, State, state, over, stopped, closing, close, answer, Key, ruleStart}
+use Rattle.grammar.specs.Readers.{Returns}
+use Rattle.grammar.specs.Machine.{Symbol, Stack, test, tail, Values, move, rest, State, state, over, stopped, closing, close, Key}
+use Rattle.grammar.specs.Readers.{Ends, Stop, Meet, Unnamed}
+use Rattle.grammar.proofs.Machine.{answer, ruleStart}
 use Rattle.grammar.proofs.Begins.{answer-reads}
-use Rattle.grammar.proofs.Comes.{passes, Comes, Ends, Stop, Meet}
-use Rattle.grammar.proofs.Unique.{Unnamed, pops-unnamed}
+use Rattle.grammar.proofs.Comes.{passes}
+use Rattle.grammar.proofs.Unique.{pops-unnamed}
 use Rattle.grammar.proofs.Runs.{grows-last, seenOf, answer-seen}
 use Rattle.grammar.proofs.Grounds.{known, Known, unreadAt, unread-settles, start, depth, Deep, deep-iff}
 use Rattle.grammar.proofs.Least.{Least}
 use Rattle.grammar.proofs.Seen.{furthest}
 
 -- ── What a reader of x does from offset o, where w is left of the rule ──
--- it returns at j, where r is left, with the value v; it fails at j; or it meets the part k; and the parts new have begun
-abbrev pub Returns : (x : Symbol) → Value x → List Key → ℕ → List ℕ → ℕ → List ℕ → Type 0
-Returns x v new o w j r = Comes {R = Test} close stopped x v new o w j r
-
+-- it returns (specs/Readers), it fails at j, or it meets the part k; and the parts new have begun
 abbrev pub Fails : Symbol → List Key → ℕ → List ℕ → ℕ → Type 0
 Fails x new o w j = Ends {R = Test} close stopped (Stop {R = Test} close stopped j) x new o w
 

@@ -5,7 +5,7 @@ use mathlib.Core.Path.{_≡_, refl, sym, ap, _∙_, subst}
 use mathlib.Core.Logic.{inl, inr, _≢_}
 use mathlib.Core.Bool.{true, false}
 use mathlib.Core.Option.{Option, none, some}
-use mathlib.Core.List.{List, [], _∷_, _++_, map, map-append, append-assoc, append-nil}
+use mathlib.Core.List.{List, [], _∷_, _++_, map-append, append-assoc, append-nil}
 use lib.Dec.{eqb}
 use borrow.Author.Tests.{eq-eqb, ne-eqb}
 use lib.ListN.{length, length-append}
@@ -15,24 +15,16 @@ use Rattle.limits.specs.Names.{Name}
 use Rattle.xpath.specs.Syntax.{Op, eq, ne, lt, le, gt, ge, Test, named, not, and, or, compare, compareTo, XPath, empty, one, seq, union, star, Step, toLeft, toRight, fromLeft, fromRight, stay, size}
 use Rattle.grammar.specs.Spelling.{sign, spellTest, spellPath, spellStep, Constant, LegalTest, LegalPath, LegalStep}
 use Rattle.grammar.specs.Parts.{Part, Sort, testParts, pathParts, stepParts}
-use Rattle.grammar.proofs.Bytes.{choose, isNameByte, letter-iff, nameByte-iff, printable-iff}
-use Rattle.grammar.proofs.Machine.{Symbol, test, path, byte, label, tail, quoted, signed, orEqual, operand, Stack, Operand, Value, Values, comparing, move, State, over, Key}
-use Rattle.grammar.proofs.Comes.{passes, fresh, goes, Comes, comes-as, comes-none, comes-one, comes-two}
-
--- a part by its offset and nesting, which the machine knows when the part begins
-abbrev pub key : Part → Key
-key p = (p .offset, p .nesting)
-
-abbrev pub keys : List Part → List Key
-keys ps = map key ps
+use Rattle.grammar.specs.Readers.{key, keys, spellOperand}
+use Rattle.grammar.specs.Bytes.{choose, isNameByte}
+use Rattle.grammar.specs.Machine.{Symbol, test, path, byte, label, tail, quoted, signed, orEqual, operand, Stack, Operand, Value, Values, comparing, move, State, over, Key}
+use Rattle.grammar.specs.Readers.{goes, Comes}
+use Rattle.grammar.proofs.Bytes.{letter-iff, nameByte-iff, printable-iff}
+use Rattle.grammar.proofs.Comes.{passes, fresh, comes-as, comes-none, comes-one, comes-two}
 
 -- a list that begins with a byte that is B
 abbrev Begun : (ℕ → Type 0) → List ℕ → Type 0
 Begun B w = (b : ℕ) × (u : List ℕ) × (w ≡ b ∷ u) × B b
-
-abbrev pub spellOperand : Operand → List ℕ
-spellOperand (inl P) = spellPath P ++ bytes ")"
-spellOperand (inr c) = bytes "\"" ++ (c ++ bytes "\")")
 
 pub test-head : (T : Test) → Begun (λ b. isNameByte b ≡ false) (spellTest T)
 unfolding spellTest isNameByte

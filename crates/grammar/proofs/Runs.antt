@@ -8,7 +8,8 @@ use mathlib.Core.List.{List, [], _∷_, _++_, append-nil, append-assoc}
 use lib.ListN.{length, take, drop}
 use Rattle.lists.specs.Lists.{All}
 use Rattle.lists.proofs.Lists.{all-append, all-imp}
-use Rattle.grammar.proofs.Machine.{Values, Move, move, rest, State, state, advance, step, ask, over, run, Answer, read, stopped, read-not-stopped, closing, answer, note, Key}
+use Rattle.grammar.specs.Machine.{Values, Move, move, rest, State, state, advance, step, ask, over, Answer, read, stopped, closing, note, Key}
+use Rattle.grammar.proofs.Machine.{run, read-not-stopped, answer}
 
 module _ {R : Type 0} where
   pub run-cons : (b : ℕ) (w : List ℕ) (s : State R) {t : State R} → run s (b ∷ w) ≡ some t → (u : State R) × (step s b ≡ some u) × (run u w ≡ some t)

@@ -13,8 +13,9 @@ use Rattle.lists.proofs.Lists.{all-occurs, occurs-left, occurs-append, occurs-m
 use Rattle.xpath.specs.Syntax.{Test}
 use Rattle.grammar.specs.Parts.{Part, parts}
 use Rattle.grammar.specs.Verdict.{Reads, BeginsAs, Begins, IsPart, TooDeep, Unreadable}
-use Rattle.grammar.proofs.Machine.{State, run, Key, ruleStart}
-use Rattle.grammar.proofs.Reading.{key, keys}
+use Rattle.grammar.specs.Machine.{State, Key}
+use Rattle.grammar.specs.Readers.{key, keys}
+use Rattle.grammar.proofs.Machine.{run, ruleStart}
 use Rattle.grammar.proofs.Runs.{grows-run, last, grows-last, last-run, last-after}
 use Rattle.grammar.proofs.Begins.{reads-answer, read-closed, begins-runs, run-begins, begins-less}
 

@@ -14,9 +14,10 @@ use Rattle.lists.specs.Text.{bytes, Printable, NameByte}
 use Rattle.limits.specs.Names.{Name}
 use Rattle.xpath.specs.Syntax.{Op, eq, lt, le, gt, ge, compare, XPath, empty}
 use Rattle.grammar.specs.Spelling.{sign, spellTest, spellPath, spellStep, Constant, LegalTest, LegalPath, LegalStep}
-use Rattle.grammar.proofs.Bytes.{choose, isLetter, isNameByte, isPrintable, letter-iff, nameByte-iff, printable-iff}
-use Rattle.grammar.proofs.Machine.{Symbol, test, path, byte, label, tail, quoted, signed, orEqual, operand, Stack, Operand, Value, Values, Move, pass, look, comparing, testMoves, pathMoves, signMoves, operandMove, move, rest}
-use Rattle.grammar.proofs.Reading.{spellOperand}
+use Rattle.grammar.specs.Bytes.{choose, isLetter, isNameByte, isPrintable}
+use Rattle.grammar.specs.Machine.{Symbol, test, path, byte, label, tail, quoted, signed, orEqual, operand, Stack, Operand, Value, Values, Move, pass, look, comparing, testMoves, pathMoves, signMoves, operandMove, move, rest}
+use Rattle.grammar.specs.Readers.{spellOperand}
+use Rattle.grammar.proofs.Bytes.{letter-iff, nameByte-iff, printable-iff}
 
 abbrev LegalOperand : Operand → Type 0
 LegalOperand (inl P) = LegalPath P

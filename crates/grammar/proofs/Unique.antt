@@ -10,14 +10,13 @@ use Rattle.lists.specs.Text.{NameByte}
 use Rattle.xpath.specs.Syntax.{Test, XPath}
 use Rattle.grammar.specs.Spelling.{spellTest, spellPath, LegalTest, LegalPath}
 use Rattle.grammar.specs.Parts.{Part, parts, testParts}
-use Rattle.grammar.proofs.Bytes.{isNameByte, nameByte-iff}
-use Rattle.grammar.proofs.Machine.{Symbol, test, path, tail, Value, Values, move, rest, state, over, Answer, read, stopped, read-inj, read-not-stopped, closing, close, answer, ruleStart}
-use Rattle.grammar.proofs.Reading.{keys, Pops, Any, pops-byte, Takes, recast, take-test, take-path}
-
--- a text that does not begin with a byte of names
-abbrev pub Unnamed : List ℕ → Type 0
-Unnamed [] = Unit {0}
-Unnamed (b ∷ r) = ¬ NameByte b
+use Rattle.grammar.specs.Readers.{Unnamed}
+use Rattle.grammar.specs.Bytes.{isNameByte}
+use Rattle.grammar.specs.Machine.{Symbol, test, path, tail, Value, Values, move, rest, state, over, Answer, read, stopped, closing, close}
+use Rattle.grammar.specs.Readers.{keys}
+use Rattle.grammar.proofs.Bytes.{nameByte-iff}
+use Rattle.grammar.proofs.Machine.{read-inj, read-not-stopped, answer, ruleStart}
+use Rattle.grammar.proofs.Reading.{Pops, Any, pops-byte, Takes, recast, take-test, take-path}
 
 pub not-name : (b : ℕ) → ¬ NameByte b → isNameByte b ≡ false
 not-name b f = go (isNameByte b) refl

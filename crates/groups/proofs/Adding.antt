@@ -9,8 +9,9 @@ use Rattle.xpath.specs.Syntax.{XPath}
 use Rattle.xpath.specs.Tree.{Tree, WellFormed, Under}
 use Rattle.xpath.proofs.Trees.{down-le, under-refl, under-antisym}
 use Rattle.snippets.specs.Snippets.{Has, Skeleton}
+use Rattle.snippets.specs.Direct.{Direct}
 use Rattle.snippets.proofs.Marks.{skeleton-inside}
-use Rattle.snippets.proofs.Direct.{Direct, direct-iff}
+use Rattle.snippets.proofs.Direct.{direct-iff}
 use Rattle.links.specs.Table.{RANK, word}
 use Rattle.links.specs.Links.{Points}
 use Rattle.walks.specs.Part.{STAYS}

@@ -14,10 +14,11 @@ use Rattle.xpath.specs.Tree.{Tree, Child, WellFormed, Down, Under}
 use Rattle.xpath.proofs.Trees.{one-parent, one-child, down-le}
 use Rattle.positions.specs.Positions.{Comes}
 use Rattle.snippets.specs.Snippets.{Skeleton, Edge}
+use Rattle.snippets.specs.Ways.{In, Own, FromChild}
 use Rattle.snippets.proofs.Marks.{same-side, skeleton-inside}
 use Rattle.snippets.proofs.Nearest.{edge-one}
 use Rattle.snippets.proofs.Edges.{comes-few}
-use Rattle.snippets.proofs.Ways.{In, Own, FromChild, in-sides, from-child-iff}
+use Rattle.snippets.proofs.Ways.{in-sides, from-child-iff}
 use Rattle.links.specs.Table.{LEFT, cell, word, Wrote}
 use Rattle.links.specs.Links.{Points}
 use Rattle.walks.specs.declared.Machine.{Machine}

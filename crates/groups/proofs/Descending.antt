@@ -12,10 +12,11 @@ use Rattle.xpath.specs.Syntax.{XPath}
 use Rattle.xpath.specs.Tree.{Tree, Child, WellFormed, Down, Under}
 use Rattle.xpath.proofs.Trees.{down-le}
 use Rattle.snippets.specs.Snippets.{Skeleton, Edge}
+use Rattle.snippets.specs.Ways.{In, Out, Above, Own, FromChild}
 use Rattle.snippets.proofs.Marks.{skeleton-inside}
 use Rattle.snippets.proofs.Nearest.{edge-one}
 use Rattle.snippets.proofs.Edges.{comes-few}
-use Rattle.snippets.proofs.Ways.{In, Out, Above, Own, FromChild, out-iff, above-iff, above-top}
+use Rattle.snippets.proofs.Ways.{out-iff, above-iff, above-top}
 use Rattle.links.specs.Table.{LEFT, cell, word, Wrote}
 use Rattle.walks.specs.declared.Machine.{Machine}
 use Rattle.matrices.proofs.Members.{union-iff}

@@ -8,7 +8,8 @@ use native.Mathlib.Nat.{eq-or-lt-of-le, mul-le-mul-right}
 use native.Mathlib.Omega.{arith}
 use Rattle.xpath.specs.Syntax.{XPath}
 use Rattle.xpath.specs.Tree.{Tree}
-use Rattle.snippets.proofs.Direct.{Direct, direct-iff}
+use Rattle.snippets.specs.Direct.{Direct}
+use Rattle.snippets.proofs.Direct.{direct-iff}
 use Rattle.links.specs.Table.{RANK, cell, word, Wrote}
 use Rattle.walks.specs.declared.Machine.{Machine}
 use Rattle.loops.specs.Loops.{Stage}

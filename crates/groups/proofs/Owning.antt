@@ -8,8 +8,8 @@ use Rattle.bits.specs.Sets.{bit}
 use Rattle.bits.proofs.SetLaws.{bit-none}
 use Rattle.xpath.specs.Syntax.{XPath}
 use Rattle.xpath.specs.Tree.{Tree}
+use Rattle.snippets.specs.Ways.{Own}
 use Rattle.snippets.proofs.Edges.{comes-few}
-use Rattle.snippets.proofs.Ways.{Own}
 use Rattle.links.specs.Table.{RANK, word}
 use Rattle.walks.specs.declared.Machine.{Machine}
 use Rattle.matrices.specs.Matrices.{Before}

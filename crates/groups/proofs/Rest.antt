@@ -13,7 +13,8 @@ use Rattle.xpath.specs.Syntax.{Test, XPath, stay}
 use Rattle.xpath.specs.Tree.{Tree, Child}
 use Rattle.xpath.specs.Meaning.{Less, Holds}
 use Rattle.positions.specs.Positions.{Comes}
-use Rattle.snippets.proofs.Marks.{Marked, skeleton-inside}
+use Rattle.snippets.specs.Marks.{Marked}
+use Rattle.snippets.proofs.Marks.{skeleton-inside}
 use Rattle.links.specs.Table.{PARENT, RANK, NONE, column, word}
 use Rattle.links.specs.Links.{Points}
 use Rattle.walks.specs.declared.Machine.{Machine}

@@ -10,8 +10,8 @@ use Rattle.bits.specs.Sets.{bit}
 use Rattle.xpath.specs.Syntax.{XPath, size}
 use Rattle.xpath.specs.Tree.{Tree, Down}
 use Rattle.snippets.specs.Snippets.{Skeleton, Edge}
-use Rattle.snippets.proofs.Ways.{In, Above, FromChild}
-use Rattle.snippets.proofs.Direct.{Upper, Lower, Direct}
+use Rattle.snippets.specs.Ways.{In, Above, FromChild}
+use Rattle.snippets.specs.Direct.{Upper, Lower, Direct}
 use Rattle.links.specs.Table.{RANK, word, COLUMNS}
 use Rattle.walks.specs.declared.Machine.{Machine}
 use Rattle.matrices.specs.Matrices.{Related}

@@ -8,8 +8,8 @@ use Rattle.bits.specs.Sets.{bit}
 use Rattle.xpath.specs.Syntax.{XPath}
 use Rattle.xpath.specs.Tree.{Tree, Child, Under}
 use Rattle.snippets.specs.Snippets.{Skeleton, Edge}
-use Rattle.snippets.proofs.Ways.{In, Out, Above}
-use Rattle.snippets.proofs.Direct.{Upper, Lower}
+use Rattle.snippets.specs.Ways.{In, Out, Above}
+use Rattle.snippets.specs.Direct.{Upper, Lower}
 use Rattle.links.specs.Table.{word, COLUMNS}
 use Rattle.walks.specs.declared.Machine.{Machine}
 use Rattle.matrices.specs.Matrices.{Related}

@@ -10,7 +10,7 @@ ghost use lib.ListN.{length};
 ghost use Rattle.limits.specs.Limits.{documentNodes};
 ghost use Rattle.xpath.specs.Syntax.{XPath};
 ghost use Rattle.xpath.specs.Tree.{Tree};
-ghost use Rattle.snippets.proofs.Ways.{Own};
+ghost use Rattle.snippets.specs.Ways.{Own};
 ghost use Rattle.loops.specs.Loops.{Stage, Loops};
 ghost use Rattle.skeletons.specs.Skeletons.{Ranks};
 ghost use Rattle.walks.specs.Part.{PAIRS};

@@ -19,7 +19,7 @@ ghost use Rattle.limits.specs.Limits.{documentNodes};
 ghost use Rattle.xpath.specs.Syntax.{XPath};
 ghost use Rattle.xpath.specs.Tree.{Tree};
 ghost use Rattle.snippets.specs.Snippets.{Skeleton};
-ghost use Rattle.snippets.proofs.Ways.{In};
+ghost use Rattle.snippets.specs.Ways.{In};
 ghost use Rattle.links.specs.Table.{Room};
 ghost use Rattle.loops.specs.Loops.{Stage, Loops};
 ghost use Rattle.skeletons.specs.Skeletons.{Ranks};

@@ -7,10 +7,11 @@ use lib.ListN.{length}
 use Rattle.limits.specs.Limits.{documentBytes}
 use Rattle.library.specs.Library.{Node, at, Legal, nodesLine, nodeLines, spell}
 use Rattle.library.specs.Verdict.{behindLines, line, Accepts}
+use Rattle.library.specs.Fields.{Field, depth, kind, label, value, lineOf, Formed, Ruled}
+use Rattle.library.specs.Good.{Good}
 use Rattle.library.proofs.Lines.{line-none}
 use Rattle.library.proofs.Reading.{NodeIs, Reads, Writable, reads-one, reads-text, text-reads}
-use Rattle.library.proofs.Fields.{Field, depth, kind, label, value, lineOf, Formed, Ruled, offset-bounds}
-use Rattle.library.proofs.Good.{Good}
+use Rattle.library.proofs.Fields.{offset-bounds}
 use Rattle.library.proofs.Rules.{ruled-top, ruled-root, ruled-depth, ruled-kind, ruled-label, ruled-value}
 
 -- ── From the lines to a library ──

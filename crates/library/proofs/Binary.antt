@@ -12,8 +12,9 @@ use borrow.Author.Tests.{ltb-true, ltb-false, eqb-true, eqb-false, lt-ltb, le-lt
 use Rattle.limits.specs.Limits.{documentNodes}
 use Rattle.xpath.specs.Tree.{Child, WellFormed}
 use Rattle.xpath.proofs.Trees.{parent-of}
-use Rattle.library.specs.Library.{Node, at, Legal}
+use Rattle.library.specs.Library.{Node, Legal}
 use Rattle.library.specs.Binary.{pick, back, isFirst, treeOf}
+use Rattle.library.specs.Intervals.{deep}
 
 -- what holds at v and before it holds up to v; what holds at v and behind it holds from v on
 pub up-to : {v : ℕ} (P : ℕ → Type 0) → P v → ((u : ℕ) → u < v → P u) → (u : ℕ) → u ≤ v → P u
@@ -23,9 +24,6 @@ pub from-on : {v : ℕ} (P : ℕ → Type 0) → P v → ((u : ℕ) → v < u �
 from-on P h f u r = ⊎-elim (λ e. subst P e h) (f u) (eq-or-lt-of-le r)
 
 -- ── A library ──
-abbrev pub deep : List Node → ℕ → ℕ
-deep ns v = at ns v .depth
-
 -- w is the first child of v in the document: the next node, if that lies deeper
 abbrev pub FirstChild : List Node → ℕ → ℕ → Type 0
 FirstChild ns v w = (w ≡ suc v) × (w < length ns) × (deep ns w ≡ suc (deep ns v))

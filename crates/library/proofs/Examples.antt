@@ -9,14 +9,15 @@ use lib.Dec.{lit<, lit≤}
 use Rattle.lists.specs.Lists.{All}
 use Rattle.lists.specs.Text.{bytes, Letter, NameByte, digitsBy, digits, decimal}
 use Rattle.limits.specs.Names.{Name}
+use Rattle.lists.specs.Numerals.{reading}
 use Rattle.lists.proofs.Lists.{all-imp}
-use Rattle.lists.proofs.Numerals.{reading, reading-decimal}
+use Rattle.lists.proofs.Numerals.{reading-decimal}
 use Rattle.refusals.specs.Refusals.{lineForm, nodeCount, treeRule, First}
 use Rattle.library.specs.Library.{Kind, element, attribute, text, Value, DepthBehind, KindBehind, LabelRule, ValueRule, Legal, kindLine, nodeLines, spell}
 use Rattle.library.specs.Example.{node, root, drug, name, X, textX}
 use Rattle.library.specs.Verdict.{firstLine, behindLine, behindLines, line, CountIs, Breaks, DocumentGround, Accepts}
+use Rattle.library.specs.Fields.{depth}
 use Rattle.library.proofs.Spelling.{between, nodes-injective, depth-injective}
-use Rattle.library.proofs.Fields.{depth}
 use Rattle.library.proofs.Grounds.{first-uncounted, first-number}
 use Rattle.library.proofs.Legality.{Fits, Behind, legal-chain}
 use Rattle.library.proofs.Verdict.{further-bytes}

@@ -9,14 +9,15 @@ use lib.ListN.{length, getD, take, drop, length-append}
 use lib.Seq.{drop-append-seam, take-at}
 use Rattle.lists.specs.Text.{bytes, decimal}
 use Rattle.limits.specs.Names.{Name}
+use Rattle.lists.specs.Numerals.{reading}
 use Rattle.lists.proofs.Lists.{all-dec}
-use Rattle.lists.proofs.Numerals.{reading, reading-decimal}
+use Rattle.lists.proofs.Numerals.{reading-decimal}
 use Rattle.lists.proofs.Search.{dec-printable}
 use Rattle.limits.proofs.Names.{dec-name}
 use Rattle.library.specs.Library.{Kind, Value, kindLine}
 use Rattle.library.specs.Verdict.{line, CountIs}
+use Rattle.library.specs.Fields.{Field, depth, kind, label, value, Formed}
 use Rattle.library.proofs.Spelling.{kindOf, kind-told}
-use Rattle.library.proofs.Fields.{Field, depth, kind, label, value, Formed}
 
 -- what has one candidate
 only : {A : Type 0} (P : A → Type 0) (c : A) → ((a : A) → P a → a ≡ c) → Dec (P c) → Dec ((a : A) × P a)

@@ -9,18 +9,11 @@ use lib.ListN.{length}
 use Rattle.limits.specs.Limits.{documentBytes, documentNodes}
 use Rattle.refusals.specs.Refusals.{Refusal, lineForm, treeRule, First}
 use Rattle.library.specs.Verdict.{line, CountIs, Malformed, Breaks, DocumentGround}
+use Rattle.library.specs.Good.{Good}
+use Rattle.library.specs.Fields.{Field, lineOf, Formed, Ruled}
 use Rattle.library.proofs.Reading.{count-one}
-use Rattle.library.proofs.Fields.{Field, lineOf, Formed, Ruled, offset-bounds, same-line, Unformed, count, field, extra, unformed, malformed, unruled}
+use Rattle.library.proofs.Fields.{offset-bounds, same-line, Unformed, count, field, extra, unformed, malformed, unruled}
 use Rattle.library.proofs.Grounds.{Bad, form, few, rule, Ground, long, bad, ground, bad-within, first-line}
-
--- the length and N are good, and so are the first k lines
-pub record Good (s : List ℕ) (n k : ℕ) : Type 0 where
-  pub short : length s ≤ documentBytes
-  pub count : CountIs s n
-  pub some : 0 < n
-  pub few : n ≤ documentNodes
-  pub within : k ≤ 4 * n + 1
-  pub lines : (v : ℕ) (f : Field) → lineOf v f ≤ k → Formed s v f × Ruled s v f
 
 pub good-start : (s : List ℕ) (n : ℕ) → length s ≤ documentBytes → CountIs s n → 0 < n → n ≤ documentNodes → Good s n 1
 good-start s n short c p l =

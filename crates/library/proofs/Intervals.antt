@@ -3,7 +3,7 @@ use Prim.Native.Nat.{ℕ, zero, suc, _+_, _-_, _≤_, _<_}
 use mathlib.Core.Path.{_≡_, refl, sym, ap, _∙_, subst}
 use mathlib.Core.Logic.{_↔_}
 use mathlib.Core.Bool.{Bool, true, false}
-use mathlib.Core.List.{List, [], _∷_, _++_}
+use mathlib.Core.List.{List, [], _++_}
 use lib.ListN.{length, drop, drop-of-length-le}
 use lib.Dec.{ltb}
 use lib.Seq.{drop-cons, slice, slice-empty, slice-cons}
@@ -14,7 +14,8 @@ use Rattle.xpath.specs.Tree.{Child, Down, here, deeper, Under}
 use Rattle.xpath.proofs.Trees.{child-after, by-parents}
 use Rattle.library.specs.Library.{Node, element, at, Legal}
 use Rattle.library.specs.Binary.{pick, textOf, joined, stringOf, treeOf}
-use Rattle.library.proofs.Binary.{up-to, from-on, deep, left-child, right-child, tree-formed}
+use Rattle.library.specs.Intervals.{deep, End, texts}
+use Rattle.library.proofs.Binary.{up-to, from-on, left-child, right-child, tree-formed}
 
 -- ── A library ──
 -- from v on to w no node is shallower than v
@@ -24,13 +25,6 @@ Spans ns v w = (v ≤ w) × ((u : ℕ) → v < u → u ≤ w → deep ns v ≤ d
 -- w lies inside v in the document: behind v, up to w, all is deeper than v
 abbrev pub Inside : List Node → ℕ → ℕ → Type 0
 Inside ns v w = (v < w) × ((u : ℕ) → v < u → u ≤ w → deep ns v < deep ns u)
-
--- e is the next node behind v that is shallower than v, or the number of nodes
-pub record End (ns : List Node) (v e : ℕ) : Type 0 where
-  pub behind : v < e
-  pub within : e ≤ length ns
-  pub level : (u : ℕ) → v < u → u < e → deep ns v ≤ deep ns u
-  pub stops : e < length ns → deep ns e < deep ns v
 
 module _ {ns : List Node} (ok : Legal ns) where
   spans-at : {v w : ℕ} → Spans ns v w → (u : ℕ) → v ≤ u → u ≤ w → deep ns v ≤ deep ns u
@@ -131,10 +125,6 @@ end-of ns v l = scan (length ns - suc v) (suc v) (omega arith) (omega arith) (λ
         go on (no g) = (e, record { behind = r; within = omega arith; level = f; stops = λ x. omega arith })
 
 -- ── String values ──
-abbrev pub texts : List Node → List ℕ
-texts [] = []
-texts (n ∷ ns) = textOf n ++ texts ns
-
 module _ (ns : List Node) (d : ℕ) where
   -- node by node: the text of a node deeper than d and what is joined behind it; nothing from the first other node on
   pub joined-at : (v : ℕ) → v < length ns → joined d (drop v ns) ≡ pick (ltb d (deep ns v)) (textOf (at ns v) ++ joined d (drop (suc v) ns)) []

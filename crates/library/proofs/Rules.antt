@@ -9,10 +9,10 @@ use Rattle.lists.specs.Text.{bytes}
 use Rattle.lists.proofs.Decide.{dec-or, dec-implies}
 use Rattle.library.specs.Library.{Kind, element, attribute, text, DepthBehind, KindBehind, LabelRule, ValueRule, kindLine}
 use Rattle.library.specs.Verdict.{DepthIs, KindIs, LabelIs, ValueIs, Breaks}
+use Rattle.library.specs.Fields.{Field, depth, kind, label, value, lineOf, Formed, Ruled}
+use Rattle.library.specs.Good.{Good}
 use Rattle.library.proofs.Spelling.{kind-injective}
 use Rattle.library.proofs.Reading.{depth-one, kind-one, label-one, value-one}
-use Rattle.library.proofs.Fields.{Field, depth, kind, label, value, lineOf, Formed, Ruled}
-use Rattle.library.proofs.Good.{Good}
 
 -- ── A rule kept by what the lines are known to say is kept, since they say nothing else ──
 module _ (s : List ℕ) where

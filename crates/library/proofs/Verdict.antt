@@ -10,10 +10,11 @@ use Rattle.limits.specs.Limits.{documentBytes, documentNodes}
 use Rattle.refusals.specs.Refusals.{Refusal, documentLength, lineForm, nodeCount, treeRule, First}
 use Rattle.library.specs.Library.{Node, Legal, spell}
 use Rattle.library.specs.Verdict.{line, CountIs, Breaks, DocumentGround, Accepts, Checked}
+use Rattle.library.specs.Fields.{Field, depth, kind, label, value, lineOf, Formed, Ruled}
+use Rattle.library.specs.Good.{Good}
 use Rattle.library.proofs.Lines.{line-none}
-use Rattle.library.proofs.Fields.{Field, depth, kind, label, value, lineOf, Formed, Ruled}
 use Rattle.library.proofs.Grounds.{first-long, first-uncounted, first-number}
-use Rattle.library.proofs.Good.{Good, good-start, good-as, good-on, good-whole, first-form, first-rule, first-extra}
+use Rattle.library.proofs.Good.{good-start, good-as, good-on, good-whole, first-form, first-rule, first-extra}
 use Rattle.library.proofs.Rules.{ruled-or-breaks}
 use Rattle.library.proofs.Forms.{dec-count, dec-formed}
 use Rattle.library.proofs.Accepted.{good-accepts, legal-reads, reads-good, accepts-good}

@@ -15,7 +15,8 @@ use Rattle.xpath.proofs.Trees.{parent-of, one-parent, child-after, child?}
 use Rattle.library.specs.Library.{Node}
 use Rattle.library.specs.Binary.{pick, back, isFirst, before, parentOf, treeOf}
 use Rattle.library.specs.Verdict.{Accepts}
-use Rattle.library.proofs.Binary.{deep, up-to, tree-formed, depth-le}
+use Rattle.library.specs.Intervals.{deep}
+use Rattle.library.proofs.Binary.{up-to, tree-formed, depth-le}
 use Rattle.document.specs.Entries.{Start, Stands}
 use Rattle.links.specs.Table.{LOW, HIGH, PARENT, LAST, NONE, column, cell, word, offsetOf, Wrote}
 use Rattle.links.specs.Writes.{entered, hung, parentBy}

@@ -11,15 +11,8 @@ use native.Mathlib.Nat.{div-add-mod', mod-lt, div-lt-self, le-div-iff-mul-le, mu
 use borrow.Author.Tests.{lt-ltb, le-ltb}
 use Rattle.lists.specs.Lists.{All}
 use Rattle.lists.specs.Text.{digitsBy, digits, decimal, binaryDigits}
+use Rattle.lists.specs.Numerals.{valueFrom, value, reading}
 use Rattle.lists.proofs.Lists.{all-append, all-map, all-imp, map-back}
-
--- the number that a run of digits, the highest first, makes of the number read before it
-abbrev pub valueFrom : ℕ → ℕ → List ℕ → ℕ
-valueFrom base n [] = n
-valueFrom base n (d ∷ ds) = valueFrom base (n * base + d) ds
-
-abbrev pub value : ℕ → List ℕ → ℕ
-value base ds = valueFrom base 0 ds
 
 pub value-append : (base n : ℕ) (ds es : List ℕ) → valueFrom base n (ds ++ es) ≡ valueFrom base (valueFrom base n ds) es
 value-append base n [] es = refl
@@ -190,10 +183,6 @@ Digit b = (48 ≤ b) × (b ≤ 57)
 abbrev pub Decimal : List ℕ → Type 0
 Decimal [] = ⊥
 Decimal (b ∷ bs) = All Digit (b ∷ bs) × ((48 < b) ⊎ (bs ≡ []))
-
--- the number that the bytes of a numeral spell
-abbrev pub reading : List ℕ → ℕ
-reading s = value 10 (map (λ b. b - 48) s)
 
 ten : 2 ≤ 10
 ten = omega arith

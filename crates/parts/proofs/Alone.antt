@@ -8,10 +8,9 @@ use lib.Seq.{length-take-le, take-at, drop-at}
 use Rattle.xpath.specs.Syntax.{eq, Test, compare, XPath, empty, size}
 use Rattle.grammar.specs.Spelling.{spellTest}
 use Rattle.grammar.specs.Parts.{tests, testParts}
-use Rattle.grammar.proofs.Machine.{Symbol, test, path, Value, read-inj, over, rest, Key}
-use Rattle.grammar.proofs.Reading.{keys}
-use Rattle.grammar.proofs.Unique.{Unnamed}
-use Rattle.grammar.proofs.Readers.{Returns}
+use Rattle.grammar.specs.Machine.{Symbol, test, path, Value, over, rest, Key}
+use Rattle.grammar.specs.Readers.{keys, Unnamed, Returns}
+use Rattle.grammar.proofs.Machine.{read-inj}
 use Rattle.rule.specs.declared.tally.Tally.{Tally}
 use Rattle.rule.specs.declared.readers.Read.{Read}
 use Rattle.rule.specs.declared.readers.Read.the-variants.{Behind, Stuck, Deep}

@@ -5,7 +5,7 @@ use mathlib.Core.Path.{_≡_, refl, sym, ap, ap₂, _∙_, subst}
 use mathlib.Core.List.{List, [], _∷_, _++_, map, map-append}
 use Rattle.xpath.specs.Syntax.{Test, named, not, and, or, compare, compareTo, XPath, empty, one, seq, union, star, Step, toLeft, toRight, fromLeft, fromRight, stay}
 use Rattle.grammar.specs.Parts.{Part, testParts, pathParts, stepParts}
-use Rattle.grammar.proofs.Reading.{keys}
+use Rattle.grammar.specs.Readers.{keys}
 use Rattle.rule.specs.Readers.{Shallow}
 
 abbrev deeper : Part → Part

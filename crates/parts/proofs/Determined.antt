@@ -11,12 +11,14 @@ use Rattle.lists.specs.Lists.{Occurs}
 use Rattle.lists.proofs.Lists.{all-occurs, occurs-left, occurs-right}
 use Rattle.xpath.specs.Syntax.{Test, named, XPath}
 use Rattle.grammar.specs.Parts.{testParts, pathParts}
-use Rattle.grammar.proofs.Machine.{Symbol, test, path, byte, Stack, Value, Values, Answer, read, stopped, read-not-stopped, close, over, move, rest, Key}
-use Rattle.grammar.proofs.Comes.{goes, comes-as}
-use Rattle.grammar.proofs.Reading.{keys, take-test, take-path}
+use Rattle.grammar.specs.Machine.{Symbol, test, path, byte, Stack, Value, Values, Answer, read, stopped, close, over, move, rest, Key}
+use Rattle.grammar.specs.Readers.{goes, keys, Returns}
+use Rattle.grammar.proofs.Machine.{read-not-stopped}
+use Rattle.grammar.proofs.Comes.{comes-as}
+use Rattle.grammar.proofs.Reading.{take-test, take-path}
 use Rattle.grammar.proofs.Unique.{pops-unnamed}
 use Rattle.grammar.proofs.Runs.{seenOf}
-use Rattle.grammar.proofs.Readers.{Returns, answer-grows}
+use Rattle.grammar.proofs.Readers.{answer-grows}
 use Rattle.rule.specs.declared.tally.Tally.{Tally}
 use Rattle.rule.specs.declared.readers.Read.{Read}
 use Rattle.rule.specs.declared.readers.Read.the-variants.{Behind, Stuck, Deep}

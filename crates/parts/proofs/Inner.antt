@@ -5,15 +5,16 @@ use mathlib.Core.Path.{_≡_, refl, sym, ap, _∙_, subst}
 use mathlib.Core.List.{List, [], _∷_, _++_, map-append, append-assoc, append-nil}
 use lib.ListN.{length, drop, length-append}
 use lib.Seq.{drop-at, drop-drop, drop-length}
-use Rattle.lists.proofs.Lists.{all-append, all-occurs, all-map}
 use Rattle.lists.specs.Text.{bytes}
+use Rattle.lists.proofs.Lists.{all-append, all-occurs, all-map}
 use Rattle.xpath.specs.Syntax.{Op, Test, not, and, or, compare, compareTo, XPath, empty, one, seq, union, star, toLeft, toRight, fromLeft, fromRight, stay}
 use Rattle.grammar.specs.Spelling.{sign, spellTest, spellPath, spellStep, Constant, LegalTest, LegalPath, LegalStep}
 use Rattle.grammar.specs.Parts.{Part, parts, testParts, pathParts, stepParts}
 use Rattle.grammar.specs.Verdict.{Accepts}
-use Rattle.grammar.proofs.Bytes.{isNameByte, nameByte-iff, clash}
-use Rattle.grammar.proofs.Reading.{key, keys, test-head}
-use Rattle.grammar.proofs.Unique.{Unnamed}
+use Rattle.grammar.specs.Bytes.{isNameByte}
+use Rattle.grammar.specs.Readers.{key, keys, Unnamed}
+use Rattle.grammar.proofs.Bytes.{nameByte-iff, clash}
+use Rattle.grammar.proofs.Reading.{test-head}
 use Rattle.rule.specs.Readers.{Shallow, Lacks}
 use Rattle.parts.specs.Standing.{Spans, TestAt, PathAt, SignAt}
 use Rattle.parts.proofs.Deeper.{test-shallower, path-shallower}

@@ -2,7 +2,7 @@
 use Prim.Native.Nat.{ℕ}
 use lib.Dec.{eqb}
 use Rattle.xpath.specs.Syntax.{Op, eq, ne, lt, le, gt, ge, Test, named, not, and, or, compare, compareTo, XPath, empty, one, seq, union, star, toLeft, toRight, fromLeft, fromRight, stay}
-use Rattle.grammar.proofs.Bytes.{choose}
+use Rattle.grammar.specs.Bytes.{choose}
 use Rattle.parts.specs.declared.kinds.TestKind.{TestKind}
 use Rattle.parts.specs.declared.kinds.TestKind.the-variants.{Named, Not, And, Or, Comparison}
 use Rattle.parts.specs.declared.kinds.PathKind.{PathKind}

@@ -6,8 +6,7 @@ use lib.ListN.{length, drop}
 use Rattle.xpath.specs.Syntax.{Op, Test, XPath}
 use Rattle.grammar.specs.Spelling.{sign, spellTest, spellPath, LegalTest, LegalPath}
 use Rattle.grammar.specs.Parts.{testParts, pathParts}
-use Rattle.grammar.proofs.Reading.{keys}
-use Rattle.grammar.proofs.Unique.{Unnamed}
+use Rattle.grammar.specs.Readers.{keys, Unnamed}
 use Rattle.rule.specs.Readers.{Shallow, Lacks}
 
 module _ (s : List ℕ) where

@@ -8,7 +8,8 @@ use Rattle.xpath.specs.Syntax.{XPath, Step, steps, size}
 use Rattle.xpath.specs.Tree.{Tree}
 use Rattle.xpath.specs.Meaning.{Reaches}
 use Rattle.positions.specs.Positions.{Word, Numbered, Full, Follows, IsLast, Comes, here, on, Ends, second}
-use Rattle.positions.proofs.Glushkov.{In, Local, Nullable, Begins, Stops, Next, local-word, next-iff, stops-iff, begins-iff, null-iff, begins-in, stops-in, next-in}
+use Rattle.positions.specs.Glushkov.{Nullable, Begins, Stops, Next}
+use Rattle.positions.proofs.Glushkov.{In, Local, local-word, next-iff, stops-iff, begins-iff, null-iff, begins-in, stops-in, next-in}
 use Rattle.positions.proofs.Runs.{Run, reaches-run, run-reaches, num-left, num-right, num-low, num-high}
 
 module _ (P R : XPath) where

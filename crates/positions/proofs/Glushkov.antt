@@ -1,40 +1,13 @@
 -- The words of a path are told by which steps may begin, follow and end them (Glushkov).
 use Prim.Native.Nat.{ℕ, _+_, _≤_, _<_}
 use mathlib.Core.Path.{_≡_, refl, sym, ap, subst}
-use mathlib.Core.Logic.{_⊎_, inl, inr, _↔_}
+use mathlib.Core.Logic.{inl, inr, _↔_}
 use mathlib.Core.List.{List, [], _∷_, _++_, append-assoc, append-nil}
 use lib.ListN.{length, length-append}
 use native.Mathlib.Omega.{arith}
 use Rattle.xpath.specs.Syntax.{XPath, empty, one, seq, union, star, steps, size}
 use Rattle.positions.specs.Positions.{Word, Several, none, more}
-
-abbrev pub Nullable : XPath → Type 0
-Nullable empty = Unit {0}
-Nullable (one s) = ⊥
-Nullable (seq P Q) = Nullable P × Nullable Q
-Nullable (union P Q) = Nullable P ⊎ Nullable Q
-Nullable (star P) = Unit {0}
-
-abbrev pub Begins : XPath → ℕ → ℕ → Type 0
-Begins empty b j = ⊥
-Begins (one s) b j = j ≡ b
-Begins (seq P Q) b j = Begins P b j ⊎ (Nullable P × Begins Q (b + size P) j)
-Begins (union P Q) b j = Begins P b j ⊎ Begins Q (b + size P) j
-Begins (star P) b j = Begins P b j
-
-abbrev pub Stops : XPath → ℕ → ℕ → Type 0
-Stops empty b i = ⊥
-Stops (one s) b i = i ≡ b
-Stops (seq P Q) b i = Stops Q (b + size P) i ⊎ (Nullable Q × Stops P b i)
-Stops (union P Q) b i = Stops P b i ⊎ Stops Q (b + size P) i
-Stops (star P) b i = Stops P b i
-
-abbrev pub Next : XPath → ℕ → ℕ → ℕ → Type 0
-Next empty b i j = ⊥
-Next (one s) b i j = ⊥
-Next (seq P Q) b i j = Next P b i j ⊎ Next Q (b + size P) i j ⊎ (Stops P b i × Begins Q (b + size P) j)
-Next (union P Q) b i j = Next P b i j ⊎ Next Q (b + size P) i j
-Next (star P) b i j = Next P b i j ⊎ (Stops P b i × Begins P b j)
+use Rattle.positions.specs.Glushkov.{Nullable, Begins, Stops, Next}
 
 -- i ∷ ws goes by F and stops in L
 abbrev pub Local : (ℕ → ℕ → Type 0) → (ℕ → Type 0) → ℕ → List ℕ → Type 0

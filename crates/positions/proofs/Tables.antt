@@ -3,7 +3,7 @@ use Prim.Native.Nat.{ℕ, _+_}
 use mathlib.Core.Logic.{_⊎_, inl, inr}
 use native.Mathlib.Decide.{ℕ-discrete}
 use Rattle.xpath.specs.Syntax.{XPath, empty, one, seq, union, star, size}
-use Rattle.positions.proofs.Glushkov.{Nullable, Begins, Stops, Next}
+use Rattle.positions.specs.Glushkov.{Nullable, Begins, Stops, Next}
 
 abbrev pub dec-⊎ : {A B : Type 0} → Dec A → Dec B → Dec (A ⊎ B)
 dec-⊎ (yes a) e = yes (inl a)

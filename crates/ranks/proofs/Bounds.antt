@@ -9,7 +9,7 @@ use native.Mathlib.Omega.{arith}
 use native.Mathlib.Decide.{decLt}
 use Rattle.library.specs.Library.{Node, at}
 use Rattle.library.specs.Binary.{textOf}
-use Rattle.library.proofs.Intervals.{texts}
+use Rattle.library.specs.Intervals.{texts}
 use Rattle.links.specs.Table.{NONE}
 use Rattle.ranks.specs.Texts.{Silent, Spoken, Bounds}
 

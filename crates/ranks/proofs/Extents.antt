@@ -10,8 +10,9 @@ use native.Mathlib.Decide.{ℕ-discrete, decLt}
 use Rattle.xpath.specs.Tree.{Child}
 use Rattle.library.specs.Library.{Node, Legal}
 use Rattle.library.specs.Binary.{treeOf}
-use Rattle.library.proofs.Binary.{deep, left-child, right-child}
-use Rattle.library.proofs.Intervals.{End, end-of}
+use Rattle.library.specs.Intervals.{deep, End}
+use Rattle.library.proofs.Binary.{left-child, right-child}
+use Rattle.library.proofs.Intervals.{end-of}
 use Rattle.links.specs.Links.{Points}
 use Rattle.ranks.specs.Texts.{Extent, Content}
 

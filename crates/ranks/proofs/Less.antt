@@ -1,23 +1,18 @@
 -- The test for a smaller string, and the number 1 or 0 that stands for it.
 use Prim.Native.Nat.{ℕ, _≤_}
 use mathlib.Core.Path.{_≡_, refl}
-use mathlib.Core.Logic.{_⊎_, inl, inr, _↔_}
+use mathlib.Core.Logic.{_↔_}
 use mathlib.Core.Bool.{Bool, true, false}
 use mathlib.Core.List.{List}
 use native.Mathlib.Omega.{arith}
 use lib.Dec.{T}
 use Rattle.xpath.specs.Meaning.{Less}
-use Rattle.xpath.proofs.Order.{less-distinct, less-asymmetric, less-trichotomous}
-use Rattle.ranks.specs.Ranks.{one, isLeft, isLess}
+use Rattle.xpath.proofs.Decide as Decide
+use Rattle.ranks.specs.Ranks.{one, isLess}
 
 pub less-iff : (bs cs : List ℕ) → T (isLess bs cs) ↔ Less bs cs
 unfolding isLess
-less-iff bs cs = go (less-trichotomous bs cs)
-  where
-    go : (d : Less bs cs ⊎ ((bs ≡ cs) ⊎ Less cs bs)) → T (isLeft d) ↔ Less bs cs
-    go (inl h) = (λ z. h, λ z. tt)
-    go (inr (inl e)) = (λ z. absurd z, λ h. less-distinct bs cs h e)
-    go (inr (inr k)) = (λ z. absurd z, λ h. less-asymmetric bs cs h k)
+less-iff bs cs = Decide.less-iff bs cs
 
 pub one-le : (b : Bool) → one b ≤ 1
 one-le true = omega arith

@@ -12,7 +12,8 @@ use Rattle.lists.specs.Lists.{All}
 use Rattle.library.specs.Library.{Node}
 use Rattle.library.specs.Binary.{treeOf}
 use Rattle.library.specs.Verdict.{Accepts}
-use Rattle.library.proofs.Intervals.{End, end-of}
+use Rattle.library.specs.Intervals.{End}
+use Rattle.library.proofs.Intervals.{end-of}
 use Rattle.links.specs.Table.{LEFT, RIGHT, NONE, column, cell, word, Wrote}
 use Rattle.links.specs.Links.{Points}
 use Rattle.ranks.specs.Ranks.{Tabled}

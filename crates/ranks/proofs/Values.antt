@@ -9,8 +9,8 @@ use native.Mathlib.Omega.{arith}
 use Rattle.xpath.specs.Meaning.{Less}
 use Rattle.library.specs.Library.{Node, Kind, element, attribute, text, at}
 use Rattle.library.specs.Binary.{textOf, joined, stringOf}
-use Rattle.library.proofs.Binary.{deep}
-use Rattle.library.proofs.Intervals.{texts, joined-in, joined-slice, element-value}
+use Rattle.library.specs.Intervals.{deep, texts}
+use Rattle.library.proofs.Intervals.{joined-in, joined-slice, element-value}
 use Rattle.links.specs.Table.{NONE}
 use Rattle.values.proofs.Cursor.{element-text, attribute-text, text-text, text-value}
 use Rattle.ranks.specs.Texts.{Spoken, Bounds}

@@ -7,7 +7,7 @@ use Rattle.limits.specs.Limits.{wordValues}
 use Rattle.library.specs.Library.{Node}
 use Rattle.library.specs.Binary.{stringOf}
 use Rattle.library.specs.Verdict.{Accepts}
-use Rattle.library.proofs.Intervals.{End}
+use Rattle.library.specs.Intervals.{End}
 use Rattle.document.specs.declared.entries.Span.{Span}
 use Rattle.links.specs.Table.{NONE, cell, word}
 use Rattle.values.specs.Comes.{Lies}

@@ -1,12 +1,12 @@
 -- Ranks: numbers of the nodes that are in the order of their string values.
 use Prim.Native.Nat.{ℕ, _*_, _≤_, _<_}
 use mathlib.Core.Path.{_≡_}
-use mathlib.Core.Logic.{_⊎_, inl, inr, _↔_}
-use mathlib.Core.Bool.{Bool, true, false}
+use mathlib.Core.Logic.{_↔_}
+use mathlib.Core.Bool.{Bool}
 use mathlib.Core.List.{List}
 use lib.ListN.{length, getD}
 use Rattle.xpath.specs.Meaning.{Less}
-use Rattle.xpath.proofs.Order.{less-trichotomous}
+use Rattle.xpath.specs.Order.{lessb}
 use Rattle.library.specs.Library.{Node}
 use Rattle.library.specs.Binary.{pick, stringOf}
 use Rattle.library.specs.Verdict.{Accepts}
@@ -49,13 +49,9 @@ pub record Written (s : List ℕ) (ns : List Node) (before after : List ℕ) : T
 abbrev pub one : Bool → ℕ
 one b = pick b 1 0
 
-abbrev pub isLeft : {A B : Type 0} → A ⊎ B → Bool
-isLeft (inl a) = true
-isLeft (inr b) = false
-
--- bs is smaller than cs: the first of the three ways in which two strings compare
+-- bs is smaller than cs
 unfoldable pub isLess : List ℕ → List ℕ → Bool
-isLess bs cs = isLeft (less-trichotomous bs cs)
+isLess bs cs = lessb bs cs
 
 -- node w has a smaller value than node v
 abbrev pub isSmaller : List Node → ℕ → ℕ → Bool

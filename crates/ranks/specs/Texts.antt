@@ -6,7 +6,7 @@ use mathlib.Core.List.{List, []}
 use lib.ListN.{length}
 use Rattle.library.specs.Library.{Node, at}
 use Rattle.library.specs.Binary.{textOf}
-use Rattle.library.proofs.Intervals.{End}
+use Rattle.library.specs.Intervals.{End}
 use Rattle.links.specs.Table.{RANK, NONE, word}
 use Rattle.ranks.specs.Ranks.{Confined}
 

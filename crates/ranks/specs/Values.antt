@@ -7,7 +7,7 @@ use lib.ListN.{length}
 use lib.Seq.{slice}
 use Rattle.library.specs.Library.{Node, element, at}
 use Rattle.library.specs.Binary.{textOf, stringOf}
-use Rattle.library.proofs.Intervals.{texts}
+use Rattle.library.specs.Intervals.{texts}
 use Rattle.links.specs.Table.{NONE}
 use Rattle.values.specs.Comes.{Comes}
 use Rattle.ranks.specs.Texts.{Content, Bounds}

@@ -12,7 +12,7 @@ ghost use Prim.Native.Nat.{ℕ, suc, _≤_, _<_};
 ghost use lib.ListN.{length};
 ghost use Rattle.library.specs.Library as Library;
 ghost use Rattle.library.specs.Verdict.{Accepts};
-ghost use Rattle.library.proofs.Intervals.{End};
+ghost use Rattle.library.specs.Intervals.{End};
 ghost use Rattle.document.specs.Entries.{IsEntry};
 ghost use Rattle.links.specs.Table.{NONE, Room};
 ghost use Rattle.ranks.specs.Texts.{Bounds, Extent, Told};

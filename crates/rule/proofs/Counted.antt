@@ -13,7 +13,7 @@ use Rattle.limits.specs.Limits.{comparisonSteps}
 use Rattle.lists.specs.Lists.{All, Occurs}
 use Rattle.grammar.specs.Parts.{Part, Sort, tests}
 use Rattle.grammar.specs.Verdict.{Heavy}
-use Rattle.grammar.proofs.Bytes.{choose}
+use Rattle.grammar.specs.Bytes.{choose}
 use Rattle.rule.specs.declared.tally.Tally.{Tally}
 use Rattle.rule.specs.Tallies.{nowhere, tally, crowds, begins, begun, heavier, weighed, noted, tallied}
 

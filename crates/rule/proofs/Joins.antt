@@ -8,10 +8,9 @@ use lib.ListN.{length, drop}
 use Rattle.lists.proofs.Lists.{all-append}
 use Rattle.xpath.specs.Syntax.{Test}
 use Rattle.grammar.specs.Parts.{Part}
-use Rattle.grammar.proofs.Machine.{Symbol, Stack, Value, move, Answer, stopped, close, Key}
+use Rattle.grammar.specs.Machine.{Symbol, Stack, Value, move, Answer, stopped, close, Key}
+use Rattle.grammar.specs.Readers.{key, keys, Returns}
 use Rattle.grammar.proofs.Comes.{fresh, comes-as, ends-as, comes-none, comes-one, ends-one, comes-two, ends-first, ends-second}
-use Rattle.grammar.proofs.Reading.{key, keys}
-use Rattle.grammar.proofs.Readers.{Returns}
 use Rattle.rule.specs.declared.tally.Tally.{Tally}
 use Rattle.rule.specs.declared.readers.Read.{Read}
 use Rattle.rule.specs.declared.readers.Read.the-variants.{Behind, Stuck, Deep}

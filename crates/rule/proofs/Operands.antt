@@ -10,9 +10,9 @@ use Rattle.lists.proofs.Lists.{all-append}
 use Rattle.xpath.specs.Syntax.{Op, Test}
 use Rattle.grammar.specs.Spelling.{spellPath}
 use Rattle.grammar.specs.Parts.{pathParts}
-use Rattle.grammar.proofs.Machine.{path, byte, signed, operand, Stack, Values, rest, over, Answer, stopped, close, Key}
-use Rattle.grammar.proofs.Comes.{goes}
-use Rattle.grammar.proofs.Reading.{keys, as-path}
+use Rattle.grammar.specs.Machine.{path, byte, signed, operand, Stack, Values, rest, over, Answer, stopped, close, Key}
+use Rattle.grammar.specs.Readers.{goes, keys}
+use Rattle.grammar.proofs.Reading.{as-path}
 use Rattle.rule.specs.declared.tally.Tally.{Tally}
 use Rattle.rule.specs.declared.readers.Read.{Read}
 use Rattle.rule.specs.declared.readers.Read.the-variants.{Behind, Stuck, Deep}

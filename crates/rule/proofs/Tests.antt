@@ -10,8 +10,8 @@ use lib.ListN.{length, length-append}
 use Rattle.xpath.specs.Syntax.{Op, Test, named, not, and, or, XPath, size}
 use Rattle.grammar.specs.Spelling.{sign, spellTest, spellPath}
 use Rattle.grammar.specs.Parts.{Part, Sort, testParts, pathParts}
-use Rattle.grammar.proofs.Machine.{test, path, label, signed, move, comparing, Operand, Answer, Key}
-use Rattle.grammar.proofs.Reading.{spellOperand}
+use Rattle.grammar.specs.Machine.{test, path, label, signed, move, comparing, Operand, Answer, Key}
+use Rattle.grammar.specs.Readers.{spellOperand}
 use Rattle.rule.specs.declared.tally.Tally.{Tally}
 use Rattle.rule.specs.declared.readers.Read.{Read}
 use Rattle.rule.specs.declared.heads.TestHead.the-variants.{Name, Not, TwoTests}

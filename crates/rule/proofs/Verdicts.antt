@@ -19,16 +19,16 @@ use Rattle.xpath.specs.Syntax.{Test}
 use Rattle.grammar.specs.Parts as Parts
 use Rattle.grammar.specs.Parts.{Part, parts}
 use Rattle.grammar.specs.Verdict.{Reads, Unreadable, TooDeep, ManyTests, ManySteps, RuleGround}
-use Rattle.grammar.proofs.Bytes.{choose}
-use Rattle.grammar.proofs.Machine.{test, read, stopped, close, answer, over, move, rest, Key, ruleStart}
-use Rattle.grammar.proofs.Comes.{goes}
-use Rattle.grammar.proofs.Reading.{keys}
+use Rattle.grammar.specs.Bytes.{choose}
+use Rattle.grammar.specs.Machine.{test, read, stopped, close, over, move, rest, Key}
+use Rattle.grammar.specs.Readers.{goes, keys, Returns}
+use Rattle.grammar.proofs.Machine.{answer, ruleStart}
 use Rattle.grammar.proofs.Runs.{seenOf, answer-seen}
 use Rattle.grammar.proofs.Seen.{read-part, deep-before}
 use Rattle.grammar.proofs.Least.{Settles}
 use Rattle.grammar.proofs.Grounds.{reads-one, deep-iff, manyTestsAt, tests-settles, manyStepsAt, steps-settles}
 use Rattle.grammar.proofs.Accepted.{unrefused-accepted}
-use Rattle.grammar.proofs.Readers.{Returns, rule-reads, rule-goes-on, rule-stops, rule-deep}
+use Rattle.grammar.proofs.Readers.{rule-reads, rule-goes-on, rule-stops, rule-deep}
 use Rattle.rule.specs.declared.tally.Tally.{Tally}
 use Rattle.rule.specs.declared.Verdict.the-variants.{Accepted, Tests, Steps}
 use Rattle.rule.specs.Tallies.{nowhere, untold}

@@ -10,11 +10,9 @@ use Rattle.lists.specs.Lists.{All}
 use Rattle.xpath.specs.Syntax.{Op, Test, size}
 use Rattle.grammar.specs.Spelling.{sign, spellTest, spellPath}
 use Rattle.grammar.specs.Parts.{Part, testParts, pathParts}
-use Rattle.grammar.proofs.Bytes.{choose}
-use Rattle.grammar.proofs.Machine.{Symbol, test, path, byte, label, tail, quoted, signed, orEqual, operand, Stack, Value, Values, Operand, Answer, stopped, close, Key}
-use Rattle.grammar.proofs.Comes.{goes, Ends, Stop, Meet}
-use Rattle.grammar.proofs.Reading.{keys, spellOperand}
-use Rattle.grammar.proofs.Readers.{Returns}
+use Rattle.grammar.specs.Bytes.{choose}
+use Rattle.grammar.specs.Machine.{Symbol, test, path, byte, label, tail, quoted, signed, orEqual, operand, Stack, Value, Values, Operand, Answer, stopped, close, Key}
+use Rattle.grammar.specs.Readers.{goes, Ends, Stop, Meet, keys, spellOperand, Returns}
 use Rattle.rule.specs.declared.tally.Tally.{Tally}
 use Rattle.rule.specs.declared.tokens.Sign.{Sign}
 use Rattle.rule.specs.declared.tokens.Sign.the-variants.{Passed, NoSign}

@@ -4,7 +4,7 @@ use mathlib.Core.List.{List, [], _∷_}
 use lib.Dec.{eqb, leb}
 use Rattle.limits.specs.Limits.{ruleBytes, ruleTests, comparisonSteps}
 use Rattle.grammar.specs.Parts.{Part, Sort}
-use Rattle.grammar.proofs.Bytes.{choose}
+use Rattle.grammar.specs.Bytes.{choose}
 use Rattle.rule.specs.declared.tally.Tally.{Tally}
 
 -- no part of a rule that is short enough begins there

@@ -7,7 +7,7 @@ use limits::Document;
 use limits::Rule;
 ghost use Prim.Native.Nat.{ℕ, _≤_};
 ghost use lib.ListN.{length};
-ghost use Rattle.grammar.proofs.Machine.{label, byte, quoted, operand};
+ghost use Rattle.grammar.specs.Machine.{label, byte, quoted, operand};
 ghost use Rattle.limits.specs.Limits.{constantBytes};
 ghost use Rattle.rule.specs.Readers.{Stands, Stood, NameEnds, Reading, SignRead};
 

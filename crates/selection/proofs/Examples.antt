@@ -12,7 +12,8 @@ use Rattle.limits.specs.Limits.{scratchWords}
 use Rattle.refusals.specs.Refusals.{Refusal}
 use Rattle.xpath.specs.Syntax.{Test}
 use Rattle.xpath.specs.Meaning.{Holds}
-use Rattle.xpath.proofs.Decide.{holdsb, holds-iff, someBelow, some-iff, allb, each-by, both, either, neg, sideb, side-iff, T-both, T-either, T-neg, eqb-iff, ⊎-iff, trans}
+use Rattle.xpath.specs.Order.{both, either}
+use Rattle.xpath.proofs.Decide.{holdsb, holds-iff, someBelow, some-iff, allb, each-by, neg, sideb, side-iff, T-both, T-either, T-neg, eqb-iff, ⊎-iff, trans}
 use Rattle.library.specs.Library.{Node}
 use Rattle.library.specs.Binary.{treeOf}
 use Rattle.library.specs.Example.{X, textX}
@@ -24,8 +25,9 @@ use Rattle.grammar.specs.Parts.{testParts, pathParts, stepParts, parts}
 use Rattle.grammar.specs.Parts as Parts
 use Rattle.grammar.specs.Spelling.{spellTest, spellPath, spellStep}
 use Rattle.grammar.specs.Verdict as Rule
-use Rattle.grammar.proofs.Bytes.{isLetter, isNameByte, isPrintable}
-use Rattle.grammar.proofs.Machine.{Answer, read, stopped, answer, ruleStart, move, rest, over}
+use Rattle.grammar.specs.Bytes.{isLetter, isNameByte, isPrintable}
+use Rattle.grammar.specs.Machine.{Answer, read, stopped, move, rest, over}
+use Rattle.grammar.proofs.Machine.{answer, ruleStart}
 use Rattle.grammar.proofs.Begins.{answer-reads}
 use Rattle.grammar.proofs.Least.{leastOf}
 use Rattle.grammar.proofs.Grounds.{reads-one, unreadAt, deepAt, manyTestsAt, manyStepsAt}

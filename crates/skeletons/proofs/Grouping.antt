@@ -10,7 +10,8 @@ use Rattle.lists.proofs.Search.{least}
 use Rattle.xpath.specs.Tree.{Tree, Child, Down, Under}
 use Rattle.xpath.proofs.Trees.{one-parent, child-after}
 use Rattle.snippets.specs.Snippets.{Has, Skeleton}
-use Rattle.snippets.proofs.Marks.{Marked, BothMarked, skeleton-iff, skeleton-inside}
+use Rattle.snippets.specs.Marks.{Marked}
+use Rattle.snippets.proofs.Marks.{BothMarked, skeleton-iff, skeleton-inside}
 use Rattle.links.specs.Table.{RANK, word}
 use Rattle.links.specs.Links.{Points}
 use Rattle.skeletons.specs.Shape.{Shape, Within}

@@ -7,7 +7,8 @@ use mathlib.Core.List.{List}
 use native.Mathlib.Omega.{arith}
 use Rattle.xpath.specs.Tree.{Tree, Child}
 use Rattle.snippets.specs.Snippets.{Has, Skeleton}
-use Rattle.snippets.proofs.Marks.{Marked, BothMarked, skeleton-iff}
+use Rattle.snippets.specs.Marks.{Marked}
+use Rattle.snippets.proofs.Marks.{BothMarked, skeleton-iff}
 use Rattle.links.specs.Table.{LEFT, RIGHT, RANK, column, word}
 use Rattle.skeletons.specs.Skeletons.{MARKED, IsNoted, Group}
 use Rattle.skeletons.specs.Steps.{MarkedNode}

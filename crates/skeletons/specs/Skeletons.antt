@@ -6,7 +6,7 @@ use mathlib.Core.Bool.{Bool}
 use mathlib.Core.List.{List}
 use Rattle.xpath.specs.Tree.{Tree, Child, Under}
 use Rattle.snippets.specs.Snippets.{Skeleton, Edge}
-use Rattle.snippets.proofs.Marks.{Marked}
+use Rattle.snippets.specs.Marks.{Marked}
 use Rattle.links.specs.Table.{RANK, NONE, word}
 use Rattle.links.specs.Links.{Points}
 use Rattle.skeletons.specs.Shape.{Shape, Within}

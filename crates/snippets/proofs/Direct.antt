@@ -1,57 +1,21 @@
 -- The snippets that the first snippets of one value yield, told by the edges of its skeleton; all others come by halving.
 use Prim.Native.Nat.{ℕ, suc, _^_, _≤_, _<_}
-use mathlib.Core.Path.{_≡_, refl, sym, subst}
+use mathlib.Core.Path.{refl, sym, subst}
 use mathlib.Core.Logic.{_⊎_, inl, inr, _↔_}
 use mathlib.Core.List.{List}
 use Rattle.xpath.specs.Syntax.{XPath}
-use Rattle.xpath.specs.Tree.{Tree, Down, Under}
+use Rattle.xpath.specs.Tree.{Tree, Down}
 use Rattle.positions.specs.Positions.{Comes}
-use Rattle.snippets.specs.Snippets.{Different, Edge, First, Yielded}
+use Rattle.snippets.specs.Snippets.{Edge, First, Yielded}
+use Rattle.snippets.specs.Direct.{FirstOf, Direct, Upper, Lower}
 use Rattle.snippets.proofs.Settles.{comes-first, comes-second, back-first, back-second, diff-left, diff-right}
-use Rattle.snippets.proofs.Ways.{In, Out}
 
 module _ (t : Tree) (P R : XPath) where
   module _ (d : List ℕ) where
-    -- (x, y, p, q) is a first snippet of the value d, of length n
-    pub record FirstOf (x y p q n : ℕ) : Type 0 where
-      pub edge : Edge t d x y n
-      pub different : Different P R p q
-      pub outside : Out t P R d x y p
-      pub inside : In t P R d y q
-
-    -- Direct k a b p q: a first snippet of the value d yields (a, b, p, q), of power k
-    pub data Direct : ℕ → ℕ → ℕ → ℕ → ℕ → Type 0 where
-      upper : {k n l x u y p q′ q : ℕ} → FirstOf x y p q n → 2 ^ k ≤ n → n < 2 ^ suc k
-          → Down t x u (2 ^ k) → Down t u y l → Comes P R t q′ u q y → Direct k x u p q′
-      lower : {k n l x w y p p′ q : ℕ} → FirstOf x y p q n → 2 ^ k ≤ n → n < 2 ^ suc k
-          → Down t x w l → Down t w y (2 ^ k) → Comes P R t p′ w p x → Direct k w y p′ q
-
-    -- (a, b, p, q) is on the upper 2 ^ k edges of the edge from x to y
-    pub record Upper (k x y a b p q : ℕ) : Type 0 where
-      pub top : a ≡ x
-      pub far : Down t x b (2 ^ k)
-      pub rest : Under t b y
-      pub outside : Out t P R d x y p
-      pub q₀ : ℕ
-      pub inside : In t P R d y q₀
-      pub comes : Comes P R t q b q₀ y
-      pub different : Different P R p q
-
-    -- and on its lower 2 ^ k edges
-    pub record Lower (k x y a b p q : ℕ) : Type 0 where
-      pub bottom : b ≡ y
-      pub rest : Under t x a
-      pub far : Down t a y (2 ^ k)
-      pub p₀ : ℕ
-      pub outside : Out t P R d x y p₀
-      pub comes : Comes P R t p a p₀ x
-      pub inside : In t P R d y q
-      pub different : Different P R p q
-
     abbrev pub OnEdge : (k a b p q : ℕ) → Type 0
-    OnEdge k a b p q = (x y n : ℕ) × Edge t d x y n × (2 ^ k ≤ n) × (n < 2 ^ suc k) × (Upper k x y a b p q ⊎ Lower k x y a b p q)
+    OnEdge k a b p q = (x y n : ℕ) × Edge t d x y n × (2 ^ k ≤ n) × (n < 2 ^ suc k) × (Upper t P R d k x y a b p q ⊎ Lower t P R d k x y a b p q)
 
-    direct-edge : {k a b p q : ℕ} → Direct k a b p q → OnEdge k a b p q
+    direct-edge : {k a b p q : ℕ} → Direct t P R d k a b p q → OnEdge k a b p q
     direct-edge (Direct.upper {k} {n} {l} {x} {u} {y} {p} {q′} {q} f lo hi xu uy c) = (
       x,
       y,
@@ -89,21 +53,21 @@ module _ (t : Tree) (P R : XPath) where
       }),
     )
 
-    edge-direct : (k a b p q : ℕ) → OnEdge k a b p q → Direct k a b p q
+    edge-direct : (k a b p q : ℕ) → OnEdge k a b p q → Direct t P R d k a b p q
     edge-direct k a b p q (x, y, n, e, lo, hi, inl h) =
-        subst (λ i. Direct k i b p q) (sym (h .top)) (Direct.upper
+        subst (λ i. Direct t P R d k i b p q) (sym (h .top)) (Direct.upper
         (record { edge = e; different = diff-right t P R p (h .q₀) q (comes-first t P R (h .comes)) (comes-second t P R (h .comes)) (h .different); outside = h .outside; inside = h .inside })
         lo hi (h .far) (h .rest .1) (h .comes))
     edge-direct k a b p q (x, y, n, e, lo, hi, inr h) =
-        subst (λ i. Direct k a i p q) (sym (h .bottom)) (Direct.lower
+        subst (λ i. Direct t P R d k a i p q) (sym (h .bottom)) (Direct.lower
         (record { edge = e; different = diff-left t P R (h .p₀) p q (comes-first t P R (h .comes)) (comes-second t P R (h .comes)) (h .different); outside = h .outside; inside = h .inside })
         lo hi (h .rest .1) (h .far) (h .comes))
 
-    pub direct-iff : (k a b p q : ℕ) → Direct k a b p q ↔ OnEdge k a b p q
+    pub direct-iff : (k a b p q : ℕ) → Direct t P R d k a b p q ↔ OnEdge k a b p q
     direct-iff k a b p q = (direct-edge, edge-direct k a b p q)
 
   -- a first snippet is one of its value
-  pub first-iff : (x y p q n : ℕ) → First t P R x y p q n ↔ ((d : List ℕ) × FirstOf d x y p q n)
+  pub first-iff : (x y p q n : ℕ) → First t P R x y p q n ↔ ((d : List ℕ) × FirstOf t P R d x y p q n)
   first-iff x y p q n = (
     λ f. (f .d, record { edge = f .edge; different = f .different; outside = f .outside; inside = f .inside }),
     λ (d, f). record { d = d; edge = f .edge; different = f .different; outside = f .outside; inside = f .inside },
@@ -118,7 +82,7 @@ module _ (t : Tree) (P R : XPath) where
   LowerHalf k h y p q = (x p₀ : ℕ) × Yielded t P R (suc k) x y p₀ q × Down t x h (2 ^ k) × Down t h y (2 ^ k) × Comes P R t p h p₀ x
 
   abbrev Origin : (k x y p q : ℕ) → Type 0
-  Origin k x y p q = ((d : List ℕ) × Direct d k x y p q) ⊎ (UpperHalf k x y p q ⊎ LowerHalf k x y p q)
+  Origin k x y p q = ((d : List ℕ) × Direct t P R d k x y p q) ⊎ (UpperHalf k x y p q ⊎ LowerHalf k x y p q)
 
   origin : {k x y p q : ℕ} → Yielded t P R k x y p q → Origin k x y p q
   origin (Yielded.upper {n = n} {x = x} {y = y} {p = p} {q = q} f lo hi xu uy c) = let (d, g) = first-iff x y p q n .0 f in inl (d, Direct.upper g lo hi xu uy c)
@@ -126,11 +90,11 @@ module _ (t : Tree) (P R : XPath) where
   origin (Yielded.upperHalf {y = y} {q = q} z xh hy c) = inr (inl (y, q, z, xh, hy, c))
   origin (Yielded.lowerHalf {x = x} {p = p} z xh hy c) = inr (inr (x, p, z, xh, hy, c))
 
-  direct-yielded : (d : List ℕ) {k x y p q : ℕ} → Direct d k x y p q → Yielded t P R k x y p q
+  direct-yielded : (d : List ℕ) {k x y p q : ℕ} → Direct t P R d k x y p q → Yielded t P R k x y p q
   direct-yielded d (Direct.upper {n = n} {x = x} {y = y} {p = p} {q = q} f lo hi xu uy c) = Yielded.upper (first-iff x y p q n .1 (d, f)) lo hi xu uy c
   direct-yielded d (Direct.lower {n = n} {x = x} {y = y} {p = p} {q = q} f lo hi xw wy c) = Yielded.lower (first-iff x y p q n .1 (d, f)) lo hi xw wy c
 
-  pub yielded-iff : (k x y p q : ℕ) → Yielded t P R k x y p q ↔ (((d : List ℕ) × Direct d k x y p q) ⊎ (UpperHalf k x y p q ⊎ LowerHalf k x y p q))
+  pub yielded-iff : (k x y p q : ℕ) → Yielded t P R k x y p q ↔ (((d : List ℕ) × Direct t P R d k x y p q) ⊎ (UpperHalf k x y p q ⊎ LowerHalf k x y p q))
   yielded-iff k x y p q = (origin, back)
     where
       back : Origin k x y p q → Yielded t P R k x y p q

@@ -8,6 +8,7 @@ use native.Mathlib.Omega.{arith}
 use Rattle.xpath.specs.Tree.{Tree, Child, WellFormed, Down, Under}
 use Rattle.xpath.proofs.Trees.{one-parent, child-after, one-child, down-zero, ancestors, under-refl, under-trans, under-le, under-up, under-child, towards, root}
 use Rattle.snippets.specs.Snippets.{Has, Skeleton}
+use Rattle.snippets.specs.Marks.{Marked}
 
 module _ (t : Tree) (wf : WellFormed t) where
   -- two ancestors of one node: one is the other's
@@ -43,40 +44,36 @@ module _ (t : Tree) (wf : WellFormed t) where
   same-side side side′ x a b w c k h g = one-parent c (subst (λ i. Child t side′ x i) (sym (same-child side side′ x a b w c k h g)) k) .1
 
 module _ (t : Tree) (d : List ℕ) where
-  -- x has a node of D at or below it
-  abbrev pub Marked : ℕ → Type 0
-  Marked x = (w : ℕ) × Has t d w × Under t x w
-
   -- x has two children, and both are marked
   abbrev pub BothMarked : ℕ → Type 0
-  BothMarked x = (a b : ℕ) × Child t true x a × Child t false x b × Marked a × Marked b
+  BothMarked x = (a b : ℕ) × Child t true x a × Child t false x b × Marked t d a × Marked t d b
 
   -- x has one marked child, and all nodes of D under x are under that child
   pub record OneMarked (x : ℕ) : Type 0 where
     pub side : Bool
     pub child : ℕ
     pub below : Child t side x child
-    pub marked : Marked child
+    pub marked : Marked t d child
     pub all : (w : ℕ) → Has t d w → Under t x w → Under t child w
-    pub only : (side′ : Bool) (c : ℕ) → Child t side′ x c → Marked c → c ≡ child
+    pub only : (side′ : Bool) (c : ℕ) → Child t side′ x c → Marked t d c → c ≡ child
 
   module _ (wf : WellFormed t) where
     -- ── The marks go up ──
-    pub marked-parent : (side : Bool) (x c : ℕ) → Child t side x c → Marked c → Marked x
+    pub marked-parent : (side : Bool) (x c : ℕ) → Child t side x c → Marked t d c → Marked t d x
     marked-parent side x c k (w, h, u) = (w, h, under-trans t wf x c w (under-child t wf side x x c k (under-refl t wf x)) u)
 
-    pub marked-root : (w : ℕ) → Has t d w → Marked 0
+    pub marked-root : (w : ℕ) → Has t d w → Marked t d 0
     marked-root w h = (w, h, root t wf w (h .inside))
 
     -- a node is marked if it has the value or a marked child
-    pub marked-iff : (x : ℕ) → Marked x ↔ (Has t d x ⊎ ((side : Bool) × (c : ℕ) × Child t side x c × Marked c))
+    pub marked-iff : (x : ℕ) → Marked t d x ↔ (Has t d x ⊎ ((side : Bool) × (c : ℕ) × Child t side x c × Marked t d c))
     marked-iff x = (λ (w, h, u). go w h (under-down t wf x w u), back)
       where
-        go : (w : ℕ) → Has t d w → (x ≡ w) ⊎ ((side : Bool) × (c : ℕ) × Child t side x c × Under t c w) → Has t d x ⊎ ((side : Bool) × (c : ℕ) × Child t side x c × Marked c)
+        go : (w : ℕ) → Has t d w → (x ≡ w) ⊎ ((side : Bool) × (c : ℕ) × Child t side x c × Under t c w) → Has t d x ⊎ ((side : Bool) × (c : ℕ) × Child t side x c × Marked t d c)
         go w h (inl e) = inl (subst (λ i. Has t d i) (sym e) h)
         go w h (inr (s, c, k, u)) = inr (s, c, k, (w, h, u))
 
-        back : Has t d x ⊎ ((side : Bool) × (c : ℕ) × Child t side x c × Marked c) → Marked x
+        back : Has t d x ⊎ ((side : Bool) × (c : ℕ) × Child t side x c × Marked t d c) → Marked t d x
         back (inl h) = (x, h, under-refl t wf x)
         back (inr (s, c, k, m)) = marked-parent s x c k m
 
@@ -84,7 +81,7 @@ module _ (t : Tree) (d : List ℕ) where
     pub has-skeleton : (x : ℕ) → Has t d x → Skeleton t d x
     has-skeleton x h = record { u = x; w = x; hasU = h; hasW = h; meet = record { left = under-refl t wf x; right = under-refl t wf x; closest = λ s a b. a } }
 
-    pub skeleton-marked : (x : ℕ) → Skeleton t d x → Marked x
+    pub skeleton-marked : (x : ℕ) → Skeleton t d x → Marked t d x
     skeleton-marked x k = (k .u, k .hasU, k .meet .left)
 
     pub skeleton-inside : (x : ℕ) → Skeleton t d x → x < t .size
@@ -144,20 +141,20 @@ module _ (t : Tree) (d : List ℕ) where
         back (inr h) = both-skeleton x h
 
     -- a marked node that is not in the skeleton has one marked child
-    pub marked-one : (x : ℕ) → Marked x → ¬ Skeleton t d x → OneMarked x
+    pub marked-one : (x : ℕ) → Marked t d x → ¬ Skeleton t d x → OneMarked x
     marked-one x m f = go (marked-iff x .0 m)
       where
-        same : (s s′ : Bool) (a b : ℕ) → Child t s x a → Child t s′ x b → Marked a → Marked b → b ≡ a
+        same : (s s′ : Bool) (a b : ℕ) → Child t s x a → Child t s′ x b → Marked t d a → Marked t d b → b ≡ a
         same true true a b c e h g = one-child wf true e c
         same true false a b c e h g = absurd (f (both-skeleton x (a, b, c, e, h, g)))
         same false true a b c e h g = absurd (f (both-skeleton x (b, a, e, c, g, h)))
         same false false a b c e h g = one-child wf false e c
 
-        under : (s : Bool) (a : ℕ) → Child t s x a → Marked a → (w : ℕ) → Has t d w → (x ≡ w) ⊎ ((side : Bool) × (c : ℕ) × Child t side x c × Under t c w) → Under t a w
+        under : (s : Bool) (a : ℕ) → Child t s x a → Marked t d a → (w : ℕ) → Has t d w → (x ≡ w) ⊎ ((side : Bool) × (c : ℕ) × Child t side x c × Under t c w) → Under t a w
         under s a c h w g (inl e) = absurd (f (has-skeleton x (subst (λ i. Has t d i) (sym e) g)))
         under s a c h w g (inr (s′, b, k, u)) = subst (λ i. Under t i w) (same s s′ a b c k h (w, g, u)) u
 
-        go : Has t d x ⊎ ((side : Bool) × (c : ℕ) × Child t side x c × Marked c) → OneMarked x
+        go : Has t d x ⊎ ((side : Bool) × (c : ℕ) × Child t side x c × Marked t d c) → OneMarked x
         go (inl h) = absurd (f (has-skeleton x h))
         go (inr (s, a, c, h)) = record {
           side = s;

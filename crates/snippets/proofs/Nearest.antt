@@ -9,8 +9,9 @@ use native.Mathlib.Decide.{decLt}
 use Rattle.xpath.specs.Tree.{Tree, Child, WellFormed, Down, Under}
 use Rattle.xpath.proofs.Trees.{down-le, down-join, down-zero, ancestors, under-refl, under-trans, under-le, under-antisym, under-up, under-child, towards, root, dec-under}
 use Rattle.snippets.specs.Snippets.{Closest, Has, Skeleton, Edge}
+use Rattle.snippets.specs.Marks.{Marked}
 use Rattle.snippets.proofs.Skeletons.{closest, dec-skeleton}
-use Rattle.snippets.proofs.Marks.{comparable, under-down, Marked, OneMarked, marked-parent, has-skeleton, skeleton-marked, skeleton-inside, marked-one}
+use Rattle.snippets.proofs.Marks.{comparable, under-down, OneMarked, marked-parent, has-skeleton, skeleton-marked, skeleton-inside, marked-one}
 
 -- z is below x and above y
 pub record Between (t : Tree) (x z y : ℕ) : Type 0 where

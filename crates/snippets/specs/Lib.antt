@@ -1,2 +1,5 @@
 pub mod Snippets
 pub mod Count
+pub mod Marks
+pub mod Ways
+pub mod Direct

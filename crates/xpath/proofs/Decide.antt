@@ -11,16 +11,9 @@ use Rattle.lists.specs.Lists.{Occurs}
 use Rattle.xpath.specs.Syntax.{Op, eq, ne, lt, le, gt, ge, Test, named, not, and, or, compare, compareTo, XPath, empty, one, seq, union, star, Step, toLeft, toRight, fromLeft, fromRight, stay}
 use Rattle.xpath.specs.Tree.{Tree, Child, WellFormed}
 use Rattle.xpath.specs.Meaning.{Less, Rel, Many, none, more, Holds, Reaches, Moves}
+use Rattle.xpath.specs.Order.{both, either, lessb}
 
 -- ── Tests ──
-abbrev pub both : Bool → Bool → Bool
-both true b = b
-both false b = false
-
-abbrev pub either : Bool → Bool → Bool
-either true b = true
-either false b = b
-
 abbrev pub neg : Bool → Bool
 neg true = false
 neg false = true
@@ -105,12 +98,6 @@ same-iff (x ∷ xs) (y ∷ ys) =
       λ e. T-both (eqb x y) (sameb xs ys) .1 (eqb-iff x y .1 (cc), ih .1 (cc)),
     )
 
-abbrev pub lessb : List ℕ → List ℕ → Bool
-lessb [] [] = false
-lessb [] (y ∷ ys) = true
-lessb (x ∷ xs) [] = false
-lessb (x ∷ xs) (y ∷ ys) = either (ltb x y) (both (eqb x y) (lessb xs ys))
-
 pub ×-iff : {A B C D : Type 0} → A ↔ C → B ↔ D → (A × B) ↔ (C × D)
 ×-iff f g = (λ h. (f .0 (h .0), g .0 (h .1)), λ h. (f .1 (h .0), g .1 (h .1)))
 
@@ -120,7 +107,7 @@ trans f g = (λ a. g .0 (f .0 a), λ c. f .1 (g .1 c))
 pub same : {A : Type 0} → A ↔ A
 same = (λ a. a, λ a. a)
 
-less-iff : (xs ys : List ℕ) → T (lessb xs ys) ↔ Less xs ys
+pub less-iff : (xs ys : List ℕ) → T (lessb xs ys) ↔ Less xs ys
 less-iff [] [] = same
 less-iff [] (y ∷ ys) = same
 less-iff (x ∷ xs) [] = same

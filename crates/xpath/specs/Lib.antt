@@ -1,3 +1,4 @@
 pub mod Syntax
 pub mod Tree
 pub mod Meaning
+pub mod Order

@@ -5,7 +5,7 @@ use mathlib.Core.List.{map}
 use lib.ListN.{getD}
 use lib.Seq.{slice}
 use native.Mathlib.Omega.{arith}
-use Rattle.lists.proofs.Numerals.{valueFrom, reading}
+use Rattle.lists.specs.Numerals.{valueFrom, reading}
 use Rattle.fields.proofs.Classes.{between-is}
 use Rattle.fields.proofs.Laws.{reading-step, reading-end, ten-more, ten-small}
 use Rattle.fields.proofs.value.Statement.{statement}

@@ -4,7 +4,7 @@ use native.Mathlib.Omega.{arith}
 use mathlib.Core.Path.{sym, ap, _∙_}
 use lib.ListN.{take}
 use lib.Seq.{length-take-le}
-use Rattle.grammar.proofs.Machine.{test}
+use Rattle.grammar.specs.Machine.{test}
 use Rattle.rule.specs.Tallies.{tally}
 use Rattle.rule.proofs.Halted.{back}
 use Rattle.parts.proofs.Alone.{begunOf, test-count, left-less}
