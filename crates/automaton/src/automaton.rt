@@ -11,7 +11,7 @@ ghost use Rattle.xpath.specs.Syntax.{XPath};
 ghost use Rattle.automaton.specs.Scanned.{Sets};
 ghost use Rattle.automaton.specs.Compared.{Ended, OnePath, TwoPaths, Sums, Tells, TellsAlone};
 
-// middle is the number of the first path's last step, count that of the second's. Which position follows which is a square beside it (`follow`): a struct cannot hold an array of arrays.
+// middle is the number of the first path's last step, count that of the second's. Which position follows which is a square beside it (`follow`), since a struct with an array of arrays is not covered.
 pub struct Automaton {
     pub last: u16,
     pub middle: usize,
