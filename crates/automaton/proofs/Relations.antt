@@ -24,11 +24,11 @@ joined-tells u v f g h k e i j x y =
 
 -- nothing follows in a path of one step or none
 pub same-tells : (P : XPath) (b : ℕ) (f : List (List Bool)) → ((i j : ℕ) → Next P b i j → ⊥) → Related P b f f
-same-tells P b f nothing i j x y = (λ h. inl h, from)
+same-tells P b f nothing = record { told = λ i j x y. (λ h. inl h, from i j) }
   where
-    from : (cell f i j ≡ true) ⊎ Next P b i j → cell f i j ≡ true
-    from (inl h) = h
-    from (inr h) = absurd (nothing i j h)
+    from : (i j : ℕ) → (cell f i j ≡ true) ⊎ Next P b i j → cell f i j ≡ true
+    from i j (inl h) = h
+    from i j (inr h) = absurd (nothing i j h)
 
 -- nothing is in the empty relation
 pub clear-tells : (f : List (List Bool)) → f ≡ replicate 16 (replicate 16 false) → (i j : ℕ) → i < 16 → j < 16 → cell f i j ≡ true → ⊥

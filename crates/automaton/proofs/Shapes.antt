@@ -8,6 +8,7 @@ use lib.ListN.{length, length-append}
 use types.Run.{OneOf}
 use denote.Enum.Declared.{tagOf}
 use Rattle.xpath.specs.Syntax.{XPath, empty, one, seq, union, star, Step, toLeft, toRight, fromLeft, fromRight, stay, steps, size}
+use Rattle.positions.specs.Glushkov.{Next}
 use Rattle.grammar.specs.Spelling.{spellPath, spellStep}
 use Rattle.parts.specs.Standing.{PathAt}
 use Rattle.parts.specs.Kinds.{pathKind}
@@ -66,6 +67,24 @@ step-of (star A) h = absurd (no-step 8 (inr (omega arith)) h)
 
 pub stepped : {k : PathKind} → Steps k → (P : XPath) → k ≡ pathKind P → StepPath P
 stepped l P h = step-of P (subst Steps h l)
+
+-- nothing follows in a path without parts, the kinds 0 to 5
+abbrev pub Leaves : PathKind → Type 0
+Leaves k = OneOf (0 ∷ 1 ∷ 2 ∷ 3 ∷ 4 ∷ 5 ∷ []) (tagOf the-type k)
+
+no-leaf : (n : ℕ) → 5 < n → OneOf (0 ∷ 1 ∷ 2 ∷ 3 ∷ 4 ∷ 5 ∷ []) n → ⊥
+no-leaf n h (inl e) = omega arith
+no-leaf n h (inr l) = no-step n (inr h) l
+
+leaf-next : (P : XPath) → Leaves (pathKind P) → (b i j : ℕ) → Next P b i j → ⊥
+leaf-next empty h b i j n = n
+leaf-next (one t) h b i j n = n
+leaf-next (seq A B) h b i j n = no-leaf 6 (omega arith) h
+leaf-next (union A B) h b i j n = no-leaf 7 (omega arith) h
+leaf-next (star A) h b i j n = no-leaf 8 (omega arith) h
+
+pub no-next : {k : PathKind} → Leaves k → (P : XPath) → k ≡ pathKind P → (b i j : ℕ) → Next P b i j → ⊥
+no-next l P h = leaf-next P (subst Leaves h l)
 
 -- .AB and +AB are the kinds 6 and 7: A and B stand one behind the other
 abbrev pub Pairs : PathKind → Type 0

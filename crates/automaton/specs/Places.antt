@@ -3,6 +3,7 @@ use Prim.Native.Nat.{ℕ, _+_, _<_, _≤_}
 use mathlib.Core.Path.{_≡_}
 use mathlib.Core.List.{List, _++_}
 use lib.ListN.{getD}
+use Rattle.limits.specs.Limits.{positions, comparisonSteps}
 use Rattle.xpath.specs.Syntax.{XPath, empty, one, Step, steps, size}
 use Rattle.positions.specs.Positions.{Numbered}
 use Rattle.parts.specs.Standing.{PathAt}
@@ -18,7 +19,7 @@ module _ (s : List ℕ) where
 
   -- whatever path stands at the offset
   abbrev pub Locates : ℕ → ℕ → List ℕ → List ℕ → Spot → Type 0
-  Locates at b before after r = (P : XPath) (j : ℕ) → PathAt s P at j → b + size P ≤ 16 → Located P b before after j r
+  Locates at b before after r = (P : XPath) (j : ℕ) → PathAt s P at j → b + size P ≤ positions → Located P b before after j r
 
   -- each numbered step stands at its place
   abbrev pub Placed : List Step → List ℕ → Type 0
@@ -26,8 +27,8 @@ module _ (s : List ℕ) where
 
   -- the steps of the two paths that stand at the offsets
   abbrev pub Places : ℕ → ℕ → List ℕ → Type 0
-  Places at behind r = (P R : XPath) (j k : ℕ) → PathAt s P at j → PathAt s R behind k → size P + size R ≤ 14 → Placed (steps P ++ steps R) r
+  Places at behind r = (P R : XPath) (j k : ℕ) → PathAt s P at j → PathAt s R behind k → size P + size R ≤ comparisonSteps → Placed (steps P ++ steps R) r
 
   -- the steps of the path that stands at the offset; the second path is empty
   abbrev pub PlacesAlone : ℕ → List ℕ → Type 0
-  PlacesAlone at r = (P : XPath) (j : ℕ) → PathAt s P at j → size P ≤ 14 → Placed (steps P ++ steps empty) r
+  PlacesAlone at r = (P : XPath) (j : ℕ) → PathAt s P at j → size P ≤ comparisonSteps → Placed (steps P ++ steps empty) r

@@ -1,9 +1,10 @@
--- What a scan tells of the path P whose steps are numbered from b.
+-- What is told of the path P whose steps are numbered from b.
 use Prim.Native.Nat.{ℕ, _+_, _<_, _≤_}
 use mathlib.Core.Path.{_≡_}
 use mathlib.Core.Bool.{Bool, true}
 use mathlib.Core.Logic.{_⊎_, _↔_}
 use mathlib.Core.List.{List}
+use Rattle.limits.specs.Limits.{positions}
 use Rattle.bits.specs.Sets.{bit}
 use Rattle.bits.specs.Square.{cell}
 use Rattle.xpath.specs.Syntax.{XPath, size}
@@ -17,20 +18,23 @@ pub record Sets (P : XPath) (b : ℕ) (r : Scan) : Type 0 where
   pub last : (i : ℕ) → (bit (r .last) i ≡ true) ↔ Stops P b i
   pub count : r .count ≡ b + size P
 
--- the relation after holds what it held before and what follows in P
-abbrev pub Related : XPath → ℕ → List (List Bool) → List (List Bool) → Type 0
-Related P b before after = (i k : ℕ) → i < 16 → k < 16 → (cell after i k ≡ true) ↔ ((cell before i k ≡ true) ⊎ Next P b i k)
-
-pub record Scanned (P : XPath) (b : ℕ) (before after : List (List Bool)) (j : ℕ) (r : Scan) : Type 0 where
+pub record Scanned (P : XPath) (b j : ℕ) (r : Scan) : Type 0 where
   pub sets : Sets P b r
-  pub related : Related P b before after
   pub next : r .next ≡ j
 
+-- the relation after holds what it held before and what follows in P
+pub record Related (P : XPath) (b : ℕ) (before after : List (List Bool)) : Type 0 where
+  pub told : (i j : ℕ) → i < positions → j < positions → (cell after i j ≡ true) ↔ ((cell before i j ≡ true) ⊎ Next P b i j)
+
 module _ (s : List ℕ) (at b : ℕ) where
-  -- a path stands at the offset, and its numbers are below 16
+  -- a path stands at the offset, and its numbers are positions
   abbrev pub Room : Type 0
-  Room = (P : XPath) × (j : ℕ) × PathAt s P at j × (b + size P ≤ 16)
+  Room = (P : XPath) × (j : ℕ) × PathAt s P at j × (b + size P ≤ positions)
 
   -- whatever path stands there, the scan tells it
-  abbrev pub Scans : List (List Bool) → List (List Bool) → Scan → Type 0
-  Scans before after r = (P : XPath) (j : ℕ) → PathAt s P at j → b + size P ≤ 16 → Scanned P b before after j r
+  abbrev pub Scans : Scan → Type 0
+  Scans r = (P : XPath) (j : ℕ) → PathAt s P at j → b + size P ≤ positions → Scanned P b j r
+
+  -- whatever path stands there, what follows in it is added
+  abbrev pub Relates : List (List Bool) → List (List Bool) → Type 0
+  Relates before after = (P : XPath) (j : ℕ) → PathAt s P at j → b + size P ≤ positions → Related P b before after

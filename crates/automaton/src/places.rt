@@ -1,9 +1,11 @@
 // Where each step of a path stands, by its number.
+use limits::Rule;
 use parts::kinds::PathKind;
 use parts::kinds::path_kind;
 use parts::skip_path;
 ghost use Prim.Native.Nat.{_≤_};
 ghost use lib.ListN.{length};
+ghost use Rattle.limits.specs.Limits.{positions};
 ghost use Rattle.automaton.specs.Scanned.{Room};
 ghost use Rattle.automaton.specs.Compared.{OnePath, TwoPaths};
 ghost use Rattle.automaton.specs.Places.{Locates, Places, PlacesAlone};
@@ -16,7 +18,7 @@ pub struct Spot {
 
 // The offsets of the steps of the path at an offset, numbered from b.
 pub fn locate(s: &[u8], at: usize, b: usize, places: &mut [usize]) -> Spot
-    requires { ⌜ Room (now s) at b × (16 ≤ length (now places)) ⌝ }
+    requires { ⌜ Room (now s) at b × (positions ≤ length (now places)) ⌝ }
     ensures { λ r. ⌜ Locates (now (s .entry)) at b (now (places .entry)) (now (places .exit)) r ⌝ }
 {
     let k = path_kind(s, at);
@@ -42,11 +44,11 @@ pub fn locate(s: &[u8], at: usize, b: usize, places: &mut [usize]) -> Spot
 }
 
 // The offsets of a comparison's steps, 1 to m.
-pub fn places_of(s: &[u8], at: usize, behind: usize) -> [usize; 16]
+pub fn places_of(s: &[u8], at: usize, behind: usize) -> [usize; Rule::MAX_POSITIONS]
     requires { ⌜ TwoPaths (now s) at behind ⌝ }
     ensures { λ r. ⌜ Places (now (s .entry)) at behind r ⌝ }
 {
-    let mut places = [0; 16];
+    let mut places = [0; Rule::MAX_POSITIONS];
     let p = locate(s, at, 1, &mut places);
     let n = p.count;
     locate(s, behind, n, &mut places);
@@ -54,11 +56,11 @@ pub fn places_of(s: &[u8], at: usize, behind: usize) -> [usize; 16]
 }
 
 // The same of a comparison with a constant, which has one path.
-pub fn places_of_one(s: &[u8], at: usize) -> [usize; 16]
+pub fn places_of_one(s: &[u8], at: usize) -> [usize; Rule::MAX_POSITIONS]
     requires { ⌜ OnePath (now s) at ⌝ }
     ensures { λ r. ⌜ PlacesAlone (now (s .entry)) at r ⌝ }
 {
-    let mut places = [0; 16];
+    let mut places = [0; Rule::MAX_POSITIONS];
     locate(s, at, 1, &mut places);
     places
 }

@@ -1,14 +1,35 @@
-// The relation stands in an array that the caller lends: a struct by value cannot hold it.
+// What follows what in a path, by a walk over its bytes: the square is handed on by value. The sets of its parts are read anew at each level of nesting.
+use crate::scan::scan;
+use bits::square::Square;
 use bits::square::joined;
-ghost use mathlib.Core.Path.{_≡_};
-ghost use Prim.Native.Nat.{ℕ, _<_};
-ghost use Rattle.bits.specs.Sets.{bit, or, and};
-ghost use Rattle.bits.specs.Square.{cell};
+use parts::kinds::PathKind;
+use parts::kinds::path_kind;
+ghost use Rattle.automaton.specs.Scanned.{Room, Relates};
 
-// Every member of b may follow every member of a.
-pub fn join(f: &mut [[bool; 16]; 16], a: u16, b: u16)
-    ensures { λ _. ⌜ ((i j : ℕ) → i < 16 → j < 16 → cell (now (f .exit)) i j ≡ or (cell (now (f .entry)) i j) (and (bit a i) (bit b j))) ⌝ }
+// The square with what follows in the path at an offset added; its steps are numbered from b.
+pub fn related(s: &[u8], at: usize, b: usize, f: Square) -> Square
+    requires { ⌜ Room (now s) at b ⌝ }
+    ensures { λ r. ⌜ Relates (now (s .entry)) at b f r ⌝ }
 {
-    let g = *f;
-    *f = joined(g, a, b);
+    let k = path_kind(s, at);
+    match k {
+        PathKind::Seq => {
+            let p = scan(s, at + 1, b);
+            let q = scan(s, p.next, p.count);
+            let g = related(s, at + 1, b, f);
+            let h = related(s, p.next, p.count, g);
+            joined(h, p.last, q.first)
+        }
+        PathKind::Union => {
+            let p = scan(s, at + 1, b);
+            let g = related(s, at + 1, b, f);
+            related(s, p.next, p.count, g)
+        }
+        PathKind::Star => {
+            let p = scan(s, at + 1, b);
+            let g = related(s, at + 1, b, f);
+            joined(g, p.last, p.first)
+        }
+        _ => f,
+    }
 }

@@ -1,5 +1,4 @@
-// A path's sets and relation, by one walk over its bytes.
-use crate::relation::join;
+// A path's sets, by one walk over its bytes.
 use crate::sets::Scan;
 use crate::sets::either;
 use crate::sets::in_sequence;
@@ -11,28 +10,26 @@ use parts::kinds::path_kind;
 use parts::skip_path;
 ghost use Rattle.automaton.specs.Scanned.{Room, Scans};
 
-// The path at an offset, its steps numbered from b; what follows in it is added to the relation.
-pub fn scan(s: &[u8], at: usize, b: usize, f: &mut [[bool; 16]; 16]) -> Scan
+// The path at an offset, its steps numbered from b.
+pub fn scan(s: &[u8], at: usize, b: usize) -> Scan
     requires { ⌜ Room (now s) at b ⌝ }
-    ensures { λ r. ⌜ Scans (now (s .entry)) at b (now (f .entry)) (now (f .exit)) r ⌝ }
+    ensures { λ r. ⌜ Scans (now (s .entry)) at b r ⌝ }
 {
     let k = path_kind(s, at);
     match k {
         PathKind::Empty => no_step(b, at + 1),
         PathKind::Seq => {
-            let p = scan(s, at + 1, b, f);
-            let q = scan(s, p.next, p.count, f);
-            join(f, p.last, q.first);
+            let p = scan(s, at + 1, b);
+            let q = scan(s, p.next, p.count);
             in_sequence(p, q)
         }
         PathKind::Union => {
-            let p = scan(s, at + 1, b, f);
-            let q = scan(s, p.next, p.count, f);
+            let p = scan(s, at + 1, b);
+            let q = scan(s, p.next, p.count);
             either(p, q)
         }
         PathKind::Star => {
-            let p = scan(s, at + 1, b, f);
-            join(f, p.last, p.first);
+            let p = scan(s, at + 1, b);
             repeated(p)
         }
         _ => {

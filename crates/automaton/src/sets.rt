@@ -3,6 +3,7 @@ use bits::insert;
 use bits::union;
 ghost use mathlib.Core.Path.{_≡_};
 ghost use Prim.Native.Nat.{ℕ, _+_, _<_};
+ghost use Rattle.limits.specs.Limits.{positions};
 ghost use Rattle.bits.specs.Sets.{bit, or, and};
 ghost use Rattle.xpath.specs.Syntax.{XPath, empty, one, seq, union, star, Step, size};
 ghost use Rattle.automaton.specs.Scanned.{Sets};
@@ -48,7 +49,7 @@ pub fn no_step(b: usize, next: usize) -> Scan
 }
 
 pub fn one_step(b: usize, next: usize) -> Scan
-    requires { ⌜ b < 16 ⌝ }
+    requires { ⌜ b < positions ⌝ }
     ensures { λ r. ⌜ ((t : Step) → Sets (one t) b r) × (r .next ≡ next) ⌝ }
 {
     let w = insert(0, b as u16);

@@ -3,17 +3,18 @@ pub mod square;
 
 ghost use mathlib.Core.Path.{_≡_};
 ghost use Prim.Native.Nat.{ℕ, _<_};
+ghost use Rattle.limits.specs.Limits.{positions};
 ghost use Rattle.bits.specs.Sets.{bit, or, and, is, size};
 
 pub fn has(w: u16, j: u16) -> bool
-    requires { ⌜ j < 16 ⌝ }
+    requires { ⌜ j < positions ⌝ }
     ensures { λ r. ⌜ r ≡ bit w j ⌝ }
 {
     (w >> j) % 2 == 1
 }
 
 pub fn insert(w: u16, j: u16) -> u16
-    requires { ⌜ j < 16 ⌝ }
+    requires { ⌜ j < positions ⌝ }
     ensures { λ r. ⌜ ((i : ℕ) → bit r i ≡ or (is i j) (bit w i)) ⌝ }
 {
     w | (1 << j)
@@ -32,7 +33,7 @@ pub fn meet(a: u16, b: u16) -> u16
 }
 
 pub fn count(w: u16) -> u32
-    ensures { λ r. ⌜ r ≡ size 16 w ⌝ }
+    ensures { λ r. ⌜ r ≡ size positions w ⌝ }
 {
     u16::count_ones(w)
 }

@@ -19,7 +19,7 @@ use Rattle.parts.specs.declared.kinds.PathKind.{PathKind}
 use Rattle.parts.specs.declared.kinds.PathKind.the-variants.{Empty, ToLeft, ToRight, FromLeft, FromRight, Stay, Seq, Union, Star}
 use Rattle.parts.proofs.Told.{pathBy}
 use Rattle.automaton.specs.declared.automaton.Automaton.{Automaton}
-use Rattle.automaton.specs.Compared.{TwoPaths, Tells, TellsAlone}
+use Rattle.automaton.specs.Compared.{TwoPaths, Tells, TellsAlone, TellsFollow, TellsFollowAlone}
 use Rattle.automaton.specs.Places.{Placed, Places, PlacesAlone}
 use Rattle.automaton.proofs.Shapes.{path-long}
 use Rattle.walks.specs.declared.Machine.{Machine}
@@ -135,7 +135,7 @@ module _ {s : List ℕ} {f : List (List Bool)} {a : Automaton} {places : List �
       → Machines s f a places m
   machine-told {m} rows left right leftup rightup brackets last first second P R k = record {
     few = k .few;
-    rows = λ i j p q. let r = rows i j p q in let h = k .automaton .follow i j p q in (λ e. h .0 (r .0 e), λ e. r .1 (h .1 e));
+    rows = λ i j p q. let r = rows i j p q in let h = k .square .follow i j p q in (λ e. h .0 (r .0 e), λ e. r .1 (h .1 e));
     left = λ j p. step-set P R k toLeft (told 108) refl left j;
     right = λ j p. step-set P R k toRight (told 114) refl right j;
     fromLeft = λ j p. step-set P R k fromLeft (told 76) refl leftup j;
@@ -147,9 +147,9 @@ module _ {s : List ℕ} {f : List (List Bool)} {a : Automaton} {places : List �
   }
 
 -- ── The paths at the offsets ──
-module _ (s : List ℕ) (at behind : ℕ) {f : List (List Bool)} {a : Automaton} {places : List ℕ} (tells : Tells s at behind f a) (stand : Places s at behind places) where
+module _ (s : List ℕ) (at behind : ℕ) {f : List (List Bool)} {a : Automaton} {places : List ℕ} (follow : TellsFollow s at behind f) (tells : Tells s at behind a) (stand : Places s at behind places) where
   known-two : (P R : XPath) (j k : ℕ) → PathAt s P at j → PathAt s R behind k → size P + size R ≤ 14 → KnownOf s f a places P R
-  known-two P R j k x y l = record { few = l; automaton = tells P R j k x y l; placed = stand P R j k x y l }
+  known-two P R j k x y l = record { few = l; square = follow P R j k x y l; automaton = tells P R j k x y l; placed = stand P R j k x y l }
 
   pub two-known : TwoPaths s at behind → Known s f a places
   two-known (P, R, j, k, x, y, l) = (P, R, known-two P R j k x y l)
@@ -157,9 +157,9 @@ module _ (s : List ℕ) (at behind : ℕ) {f : List (List Bool)} {a : Automaton}
   pub two-machined : {m : Machine} → Machines s f a places m → Machined s at behind m
   two-machined h P R j k x y l = h P R (known-two P R j k x y l)
 
-module _ (s : List ℕ) (at : ℕ) {f : List (List Bool)} {a : Automaton} {places : List ℕ} (tells : TellsAlone s at f a) (stand : PlacesAlone s at places) where
+module _ (s : List ℕ) (at : ℕ) {f : List (List Bool)} {a : Automaton} {places : List ℕ} (follow : TellsFollowAlone s at f) (tells : TellsAlone s at a) (stand : PlacesAlone s at places) where
   known-one : (P : XPath) (j : ℕ) → PathAt s P at j → size P ≤ 14 → KnownOf s f a places P empty
-  known-one P j x l = record { few = omega arith; automaton = tells P j x l; placed = stand P j x l }
+  known-one P j x l = record { few = omega arith; square = follow P j x l; automaton = tells P j x l; placed = stand P j x l }
 
   pub one-known : OnePath s at → Known s f a places
   one-known (P, j, x, l) = (P, empty, known-one P j x l)

@@ -5,6 +5,7 @@ use mathlib.Core.Bool.{true}
 use mathlib.Core.Logic.{_↔_}
 use mathlib.Core.List.{List}
 use lib.ListN.{length, getD}
+use Rattle.limits.specs.Limits.{positions}
 use Rattle.bits.specs.Sets.{bit}
 
 -- w is the set of the positions below n of which B holds
@@ -14,7 +15,7 @@ pub record Gathered (B : ℕ → Type 0) (n w : ℕ) : Type 0 where
 module _ (s places : List ℕ) where
   -- the places of the steps 1 to n are offsets of the rule
   pub record Inside (n : ℕ) : Type 0 where
-    pub few : n < 16
+    pub few : n < positions
     pub within : (i : ℕ) → 0 < i → i ≤ n → getD places i 0 < length s
 
   -- step i begins with a byte

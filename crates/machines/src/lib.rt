@@ -5,9 +5,12 @@ mod steps;
 use automaton::automaton::Automaton;
 use automaton::automaton::automaton_of;
 use automaton::automaton::automaton_of_one;
+use automaton::follow::follow_of;
+use automaton::follow::follow_of_one;
 use automaton::places::places_of;
 use automaton::places::places_of_one;
-use bits::square::empty;
+use bits::square::Square;
+use limits::Rule;
 use rows::rows_of;
 use steps::steps_with;
 use steps::up_to;
@@ -15,8 +18,8 @@ use walks::Machine;
 ghost use Rattle.automaton.specs.Compared.{TwoPaths};
 ghost use Rattle.machines.specs.Machines.{Known, Machines, Machined, OnePath, MachinedAlone};
 
-// The automaton as words, and the steps by the byte that each begins with.
-fn machine(s: &[u8], f: [[bool; 16]; 16], a: Automaton, places: [usize; 16]) -> Machine
+// The automaton and the square beside it as words, and the steps by the byte that each begins with.
+fn machine(s: &[u8], f: Square, a: Automaton, places: [usize; Rule::MAX_POSITIONS]) -> Machine
     requires { ⌜ Known (now s) f a places ⌝ }
     ensures { λ r. ⌜ Machines (now (s .entry)) f a places r ⌝ }
 {
@@ -39,8 +42,8 @@ pub fn machine_of(s: &[u8], at: usize, behind: usize) -> Machine
     requires { ⌜ TwoPaths (now s) at behind ⌝ }
     ensures { λ r. ⌜ Machined (now (s .entry)) at behind r ⌝ }
 {
-    let mut f = empty();
-    let a = automaton_of(s, at, behind, &mut f);
+    let f = follow_of(s, at, behind);
+    let a = automaton_of(s, at, behind);
     machine(s, f, a, places_of(s, at, behind))
 }
 
@@ -49,7 +52,7 @@ pub fn machine_of_one(s: &[u8], at: usize) -> Machine
     requires { ⌜ OnePath (now s) at ⌝ }
     ensures { λ r. ⌜ MachinedAlone (now (s .entry)) at r ⌝ }
 {
-    let mut f = empty();
-    let a = automaton_of_one(s, at, &mut f);
+    let f = follow_of_one(s, at);
+    let a = automaton_of_one(s, at);
     machine(s, f, a, places_of_one(s, at))
 }

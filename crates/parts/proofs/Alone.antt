@@ -1,25 +1,25 @@
--- A part that ends where the text does is read as what it is, with its steps and its tests.
-use Prim.Native.Nat.{ℕ, _+_, _-_, _≤_}
+-- A test that ends where the text does is read as what it is, with its tests.
+use Prim.Native.Nat.{ℕ, _-_, _≤_}
 use native.Mathlib.Omega.{arith}
 use mathlib.Core.Path.{_≡_, sym, ap, _∙_, subst}
 use mathlib.Core.List.{List, [], _++_, append-assoc, append-nil}
 use lib.ListN.{length, take, drop, length-append, take-append-drop}
 use lib.Seq.{length-take-le, take-at, drop-at}
-use Rattle.xpath.specs.Syntax.{eq, Test, compare, XPath, empty, size}
+use Rattle.xpath.specs.Syntax.{Test}
 use Rattle.grammar.specs.Spelling.{spellTest}
 use Rattle.grammar.specs.Parts.{tests, testParts}
-use Rattle.grammar.specs.Machine.{Symbol, test, path, Value, over, rest, Key}
+use Rattle.grammar.specs.Machine.{Symbol, test, over, rest}
 use Rattle.grammar.specs.Readers.{keys, Unnamed, Returns}
 use Rattle.grammar.proofs.Machine.{read-inj}
 use Rattle.rule.specs.declared.tally.Tally.{Tally}
 use Rattle.rule.specs.declared.readers.Read.{Read}
 use Rattle.rule.specs.declared.readers.Read.the-variants.{Behind, Stuck, Deep}
 use Rattle.rule.specs.Tallies.{tally, tallied}
-use Rattle.rule.specs.Readers.{partsOf, sizeOf, Shallow, Back, Reading}
+use Rattle.rule.specs.Readers.{partsOf, Back, Reading}
 use Rattle.rule.proofs.Places.{at-end}
-use Rattle.parts.specs.Standing.{Spans, TestAt, PathAt}
+use Rattle.parts.specs.Standing.{Spans, TestAt}
 use Rattle.parts.proofs.Count.{left-is, count-test}
-use Rattle.parts.proofs.Determined.{not-stuck, not-deep, same-end, test-returns, path-returns}
+use Rattle.parts.proofs.Determined.{not-stuck, not-deep, same-end, test-returns}
 
 -- ── The text up to the end of a part ──
 module _ (s : List ℕ) where
@@ -42,36 +42,29 @@ module _ (s : List ℕ) where
   test-alone : {T : Test} {i j : ℕ} → TestAt s T i j → TestAt (take j s) T i j
   test-alone a = record { legal = a .legal; shallow = a .shallow; spans = spans-alone (a .spans); apart = subst Unnamed (sym (nothing-left (a .spans .inside))) tt }
 
-  path-alone : {P : XPath} {i j : ℕ} → PathAt s P i j → PathAt (take j s) P i j
-  path-alone a = record { legal = a .legal; shallow = a .shallow; spans = spans-alone (a .spans) }
-
 -- ── At the end of the text the value is told ──
--- what a reader answers that reads v: steps and tally
-abbrev Whole : (x : Symbol) → Value x → ℕ → ℕ → Tally → Read → Type 0
-Whole x v i k t (Behind j l u) = (l ≡ k + sizeOf x v) × (u ≡ tallied t (partsOf x v i))
-Whole x v i k t (Stuck j) = ⊥
-Whole x v i k t (Deep j) = ⊥
+-- the tally that a reader answers with that reads T
+abbrev Whole : Test → ℕ → Tally → Read → Type 0
+Whole T i t (Behind j l u) = u ≡ tallied t (testParts T i 1)
+Whole T i t (Stuck j) = ⊥
+Whole T i t (Deep j) = ⊥
 
-module _ (s : List ℕ) (x : Symbol) (f : Value x → Test) (one : (v w : Value x) → f v ≡ f w → v ≡ w) {i j : ℕ} {v : Value x} {ks : List Key}
-    (c : Returns x v ks i (drop i s) j (drop j s)) (h : j ≤ length s) (end : drop j s ≡ []) where
-  same-value : {k : ℕ} {t : Tally} {m l : ℕ} {u : Tally} (b : Back s x i k t m l u) → b .value ≡ v
+module _ (s : List ℕ) {T : Test} {i j : ℕ} (a : TestAt s T i j) (end : drop j s ≡ []) where
+  returns : Returns (test 1) T (keys (testParts T i 1)) i (drop i s) j (drop j s)
+  returns = test-returns s a
+
+  same-value : {k : ℕ} {t : Tally} {m l : ℕ} {u : Tally} (b : Back s (test 1) i k t m l u) → b .value ≡ T
   unfolding over rest
   same-value {m = m} b =
-      let e : drop m s ≡ [] = ap (λ o. drop o s) (same-end s x h (b .inside) c (b .returns)) ∙ end in
-      let p = subst (Returns x v ks i (drop i s) j) end c .comes [] (λ t. f (t .0)) [] in
-      let q = subst (Returns x (b .value) (keys (partsOf x (b .value) i)) i (drop i s) m) e (b .returns) .comes [] (λ t. f (t .0)) [] in
-      one (b .value) v (read-inj (sym q ∙ p) .0)
+      let e : drop m s ≡ [] = ap (λ o. drop o s) (same-end s (test 1) (a .spans .inside) (b .inside) returns (b .returns)) ∙ end in
+      let p = subst (Returns (test 1) T (keys (testParts T i 1)) i (drop i s) j) end returns .comes [] (λ t. t .0) [] in
+      let q = subst (Returns (test 1) (b .value) (keys (testParts (b .value) i 1)) i (drop i s) m) e (b .returns) .comes [] (λ t. t .0) [] in
+      read-inj (sym q ∙ p) .0
 
-  read-whole : Shallow ks → (k : ℕ) (t : Tally) (r : Read) → Reading s x i k t r → Whole x v i k t r
-  read-whole low k t (Behind m l u) b =
-      let e = same-value b in (b .steps ∙ ap (λ w. k + sizeOf x w) e, b .kept ∙ ap (λ w. tallied t (partsOf x w i)) e)
-  read-whole low k t (Stuck m) b = not-stuck s x c b
-  read-whole low k t (Deep m) b = not-deep s x c low b
-
-abbrev pub stepsOf : Read → ℕ
-stepsOf (Behind j l u) = l
-stepsOf (Stuck j) = 0
-stepsOf (Deep j) = 0
+  read-whole : (k : ℕ) (t : Tally) (r : Read) → Reading s (test 1) i k t r → Whole T i t r
+  read-whole k t (Behind m l u) b = b .kept ∙ ap (λ w. tallied t (testParts w i 1)) (same-value b)
+  read-whole k t (Stuck m) b = not-stuck s (test 1) returns b
+  read-whole k t (Deep m) b = not-deep s (test 1) returns (a .shallow) b
 
 -- of n tests that might begin, those that did
 abbrev pub begunOf : ℕ → Read → ℕ
@@ -80,32 +73,16 @@ begunOf n (Stuck j) = 0
 begunOf n (Deep j) = 0
 
 module _ (s : List ℕ) where
-  pub path-whole : {P : XPath} {i j : ℕ} → PathAt s P i j → (k : ℕ) (t : Tally) (r : Read) → Reading (take j s) (path 1) i k t r → Whole (path 1) P i k t r
-  path-whole {j = j} a =
-      let b = path-alone s a in
-      read-whole (take j s) (path 1) (λ P. compare eq P empty) (λ v w e. cc) (path-returns (take j s) b) (b .spans .inside) (nothing-left s (a .spans .inside)) (b .shallow)
-
-  pub test-whole : {T : Test} {i j : ℕ} → TestAt s T i j → (k : ℕ) (t : Tally) (r : Read) → Reading (take j s) (test 1) i k t r → Whole (test 1) T i k t r
-  test-whole {j = j} a =
-      let b = test-alone s a in
-      read-whole (take j s) (test 1) (λ T. T) (λ v w e. e) (test-returns (take j s) b) (b .spans .inside) (nothing-left s (a .spans .inside)) (b .shallow)
-
-  -- ── Steps and tests ──
-  pub path-size : {P : XPath} {i j : ℕ} → PathAt s P i j → (t : Tally) (r : Read) → Reading (take j s) (path 1) i 0 t r → stepsOf r ≡ size P
-  path-size {P} {i} a t r b = go r (path-whole a 0 t r b)
-    where
-      go : (r : Read) → Whole (path 1) P i 0 t r → stepsOf r ≡ size P
-      go (Behind j l u) w = let e = w .0 in omega arith
-      go (Stuck j) w = absurd w
-      go (Deep j) w = absurd w
+  test-whole : {T : Test} {i j : ℕ} → TestAt s T i j → (k : ℕ) (t : Tally) (r : Read) → Reading (take j s) (test 1) i k t r → Whole T i t r
+  test-whole {j = j} a = read-whole (take j s) (test-alone s a) (nothing-left s (a .spans .inside))
 
   pub test-count : {T : Test} {i j : ℕ} (a : TestAt s T i j) (n c h : ℕ) (r : Read) → Reading (take j s) (test 1) i 0 (tally n c h) r → length (spellTest T) ≤ n
       → begunOf n r ≡ length (tests (testParts T i 1))
   test-count {T} {i} a n c h r b l = go r (test-whole a 0 (tally n c h) r b)
     where
-      go : (r : Read) → Whole (test 1) T i 0 (tally n c h) r → begunOf n r ≡ length (tests (testParts T i 1))
+      go : (r : Read) → Whole T i (tally n c h) r → begunOf n r ≡ length (tests (testParts T i 1))
       go (Behind j m u) w =
-          let e = ap (λ (v : Tally). v .left) (w .1) ∙ left-is (testParts T i 1) (tally n c h) in
+          let e = ap (λ (v : Tally). v .left) w ∙ left-is (testParts T i 1) (tally n c h) in
           let k = count-test T i 1 in
           omega arith
       go (Stuck j) w = absurd w

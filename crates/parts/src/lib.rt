@@ -10,7 +10,7 @@ use rule::tally::Tally;
 ghost use mathlib.Core.Path.{_≡_};
 ghost use Prim.Native.Nat.{ℕ, _≤_, _<_};
 ghost use lib.ListN.{length};
-ghost use Rattle.xpath.specs.Syntax.{Test, XPath, size};
+ghost use Rattle.xpath.specs.Syntax.{Test, XPath};
 ghost use Rattle.grammar.specs.Parts.{tests, testParts};
 ghost use Rattle.parts.specs.Standing.{TestAt, PathAt};
 ghost use Rattle.parts.specs.Middles.{Parted};
@@ -45,19 +45,6 @@ pub fn skip_path(s: &[u8], at: usize) -> usize
         Read::Behind(j, _, _) => j,
         Read::Stuck(j) => j,
         Read::Deep(j) => j,
-    }
-}
-
-// The steps of the path that stands between two offsets.
-pub fn path_steps(s: &[u8], at: usize, end: usize) -> usize
-    requires { ⌜ (at ≤ end) × (end ≤ length (now s)) ⌝ }
-    ensures { λ r. ⌜ ((P : XPath) → PathAt (now (s .entry)) P at end → r ≡ size P) ⌝ }
-{
-    let r = read_path(&s[..end], at, 1, 0, UNTOLD);
-    match r {
-        Read::Behind(_, k, _) => k,
-        Read::Stuck(_) => 0,
-        Read::Deep(_) => 0,
     }
 }
 

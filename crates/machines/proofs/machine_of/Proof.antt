@@ -4,8 +4,8 @@ use borrow.Author.Needs.{needs}
 use Rattle.machines.proofs.machine_of.Statement.{statement}
 use Rattle.machines.proofs.machine_of.Tie as tie
 
-empty-requires : tie.Need-empty-requires
-empty-requires c κs = search needs
+follow-of-requires : tie.Need-follow-of-requires
+follow-of-requires c κs = search needs
 
 automaton-of-requires : tie.Need-automaton-of-requires
 automaton-of-requires c κs = search needs
@@ -14,12 +14,17 @@ places-of-requires : tie.Need-places-of-requires
 places-of-requires c κs = search needs
 
 machine-requires : tie.Need-machine-requires
-machine-requires c κs = two-known _ _ _ (c .before .automaton-of .ensures) (c .places-of .ensures) (c .before .before .before .before .before .pre)
+machine-requires c κs = two-known _ _ _ (c .before .before .follow-of .ensures) (c .before .automaton-of .ensures) (c .places-of .ensures) (c .before .before .before .before .pre)
 
 returns : tie.Need-returns
-returns c = two-machined _ _ _ (c .before .before .automaton-of .ensures) (c .before .places-of .ensures) (c .machine .ensures)
+returns c = two-machined _ _ _ (c .before .before .before .follow-of .ensures) (c .before .before .automaton-of .ensures) (c .before .places-of .ensures) (c .machine .ensures)
 
 pub machine-of-spec : {M : Type 1} → statement M
 machine-of-spec =
     tie.close
-    (tie.spec empty-requires automaton-of-requires places-of-requires machine-requires returns)
+    (tie.spec
+    follow-of-requires
+    automaton-of-requires
+    places-of-requires
+    machine-requires
+    returns)

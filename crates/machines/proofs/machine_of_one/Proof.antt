@@ -4,8 +4,8 @@ use borrow.Author.Needs.{needs}
 use Rattle.machines.proofs.machine_of_one.Statement.{statement}
 use Rattle.machines.proofs.machine_of_one.Tie as tie
 
-empty-requires : tie.Need-empty-requires
-empty-requires c κs = search needs
+follow-of-one-requires : tie.Need-follow-of-one-requires
+follow-of-one-requires c κs = search needs
 
 automaton-of-one-requires : tie.Need-automaton-of-one-requires
 automaton-of-one-requires c κs = search needs
@@ -14,16 +14,16 @@ places-of-one-requires : tie.Need-places-of-one-requires
 places-of-one-requires c κs = search needs
 
 machine-requires : tie.Need-machine-requires
-machine-requires c κs = one-known _ _ (c .before .automaton-of-one .ensures) (c .places-of-one .ensures) (c .before .before .before .before .before .pre)
+machine-requires c κs = one-known _ _ (c .before .before .follow-of-one .ensures) (c .before .automaton-of-one .ensures) (c .places-of-one .ensures) (c .before .before .before .before .pre)
 
 returns : tie.Need-returns
-returns c = one-machined _ _ (c .before .before .automaton-of-one .ensures) (c .before .places-of-one .ensures) (c .machine .ensures)
+returns c = one-machined _ _ (c .before .before .before .follow-of-one .ensures) (c .before .before .automaton-of-one .ensures) (c .before .places-of-one .ensures) (c .machine .ensures)
 
 pub machine-of-one-spec : {M : Type 1} → statement M
 machine-of-one-spec =
     tie.close
     (tie.spec
-    empty-requires
+    follow-of-one-requires
     automaton-of-one-requires
     places-of-one-requires
     machine-requires

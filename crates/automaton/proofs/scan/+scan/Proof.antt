@@ -10,7 +10,6 @@ use borrow.Fn.PlainCycle.{Measures, is, falls, and}
 use Rattle.automaton.proofs.scan.scan.Reads as scan
 use Rattle.automaton.proofs.scan.scan.Kinds as scan-kinds
 use Rattle.automaton.proofs.scan.+scan.Lts-scan as scan-lts
-use Rattle.automaton.proofs.relation.join.Reads as join-reads
 use Rattle.automaton.proofs.sets.either.Reads as either-reads
 use Rattle.automaton.proofs.sets.in_sequence.Reads as in-sequence-reads
 use Rattle.automaton.proofs.sets.no_step.Reads as no-step-reads
@@ -21,17 +20,17 @@ use Rattle.parts.proofs.skip_path.Reads as skip-path-reads
 use Rattle.automaton.proofs.scan.+scan.{statement}
 use Rattle.automaton.proofs.scan.+scan.Tie.{close}
 
-abbrev μ-scan : Measures 2 scan-kinds.ps ℕ
+abbrev μ-scan : Measures 1 scan-kinds.ps ℕ
 μ-scan κs a = length (a .0 .now) - a .1 .0
 
-abbrev scan-at : ℕ → In 2 scan-kinds.ps
-scan-at t = and 2 scan-kinds.ps (is 2 scan-kinds.ps μ-scan t) scan.Pre
+abbrev scan-at : ℕ → In 1 scan-kinds.ps
+scan-at t = and 1 scan-kinds.ps (is 1 scan-kinds.ps μ-scan t) scan.Pre
 
-abbrev scan-below : ℕ → In 2 scan-kinds.ps
-scan-below t = and 2 scan-kinds.ps (falls 2 scan-kinds.ps _<_ μ-scan t) scan.Pre
+abbrev scan-below : ℕ → In 1 scan-kinds.ps
+scan-below t = and 1 scan-kinds.ps (falls 1 scan-kinds.ps _<_ μ-scan t) scan.Pre
 
 abbrev scan-calls : ℕ → scan-lts.Claims
-scan-calls t = (path-kind-reads.Asked, path-kind-reads.Learnt, no-step-reads.Asked, no-step-reads.Learnt, scan-below t, scan.Post, join-reads.Asked, join-reads.Learnt, in-sequence-reads.Asked, in-sequence-reads.Learnt, either-reads.Asked, either-reads.Learnt, repeated-reads.Asked, repeated-reads.Learnt, skip-path-reads.Asked, skip-path-reads.Learnt, one-step-reads.Asked, one-step-reads.Learnt)
+scan-calls t = (path-kind-reads.Asked, path-kind-reads.Learnt, no-step-reads.Asked, no-step-reads.Learnt, scan-below t, scan.Post, in-sequence-reads.Asked, in-sequence-reads.Learnt, either-reads.Asked, either-reads.Learnt, repeated-reads.Asked, repeated-reads.Learnt, skip-path-reads.Asked, skip-path-reads.Learnt, one-step-reads.Asked, one-step-reads.Learnt)
 
 scan-path-kind-requires : (t : ℕ) → scan-lts.Need-path-kind-requires (scan-calls t) (scan-at t) scan.Post
 scan-path-kind-requires t c κs = room-long _ _ _ (c .before .pre .1)
@@ -53,16 +52,13 @@ scan-add-scan t c = let n = room-long _ _ _ (c .before .before .before .before .
 
 scan-scan-requires : (t : ℕ) → scan-lts.Need-scan-requires (scan-calls t) (scan-at t) scan.Post
 scan-scan-requires t c κs =
-    let z = c .before .before .before .before .before in let n = room-long _ _ _ (z .pre .1) in let m = z .pre .0 in (omega arith, first-room _ _ _ (seq-two _ (c .before .before .before .path-kind .ensures) _ (c .before .enum-told2 .given .1) (z .pre .1)))
+    let z = c .before .before .before .before in let n = room-long _ _ _ (z .pre .1) in let m = z .pre .0 in (omega arith, first-room _ _ _ (seq-two _ (c .before .before .path-kind .ensures) _ (c .enum-told2 .given .1) (z .pre .1)))
 
 scan-scan-requires-2 : (t : ℕ) → scan-lts.Need-scan-requires-2 (scan-calls t) (scan-at t) scan.Post
 scan-scan-requires-2 t c κs =
-    let z = c .before .before .before .before .before .before .before in let n = room-long _ _ _ (z .pre .1) in let m = z .pre .0 in
-    let w = seq-two _ (c .before .before .before .before .before .path-kind .ensures) _ (c .before .before .before .enum-told2 .given .1) (z .pre .1) in let p = scan-ends (c .before .scan .ensures) in let h = second-behind _ _ _ w _ _ p in
+    let z = c .before .before .before .before .before in let n = room-long _ _ _ (z .pre .1) in let m = z .pre .0 in
+    let w = seq-two _ (c .before .before .before .path-kind .ensures) _ (c .before .enum-told2 .given .1) (z .pre .1) in let p = scan-ends (c .scan .ensures) in let h = second-behind _ _ _ w _ _ p in
     (omega arith, second-room _ _ _ w _ _ p)
-
-scan-join-requires : (t : ℕ) → scan-lts.Need-join-requires (scan-calls t) (scan-at t) scan.Post
-scan-join-requires t c κs = tt
 
 scan-in-sequence-requires : (t : ℕ) → scan-lts.Need-in-sequence-requires (scan-calls t) (scan-at t) scan.Post
 scan-in-sequence-requires t c κs = tt
@@ -75,12 +71,12 @@ scan-add-scan-2 t c = let n = room-long _ _ _ (c .before .before .before .before
 
 scan-scan-requires-3 : (t : ℕ) → scan-lts.Need-scan-requires-3 (scan-calls t) (scan-at t) scan.Post
 scan-scan-requires-3 t c κs =
-    let z = c .before .before .before .before .before in let n = room-long _ _ _ (z .pre .1) in let m = z .pre .0 in (omega arith, first-room _ _ _ (union-two _ (c .before .before .before .path-kind .ensures) _ (c .before .enum-told3 .given .1) (z .pre .1)))
+    let z = c .before .before .before .before in let n = room-long _ _ _ (z .pre .1) in let m = z .pre .0 in (omega arith, first-room _ _ _ (union-two _ (c .before .before .path-kind .ensures) _ (c .enum-told3 .given .1) (z .pre .1)))
 
 scan-scan-requires-4 : (t : ℕ) → scan-lts.Need-scan-requires-4 (scan-calls t) (scan-at t) scan.Post
 scan-scan-requires-4 t c κs =
-    let z = c .before .before .before .before .before .before .before in let n = room-long _ _ _ (z .pre .1) in let m = z .pre .0 in
-    let w = union-two _ (c .before .before .before .before .before .path-kind .ensures) _ (c .before .before .before .enum-told3 .given .1) (z .pre .1) in let p = scan-ends (c .before .scan3 .ensures) in let h = second-behind _ _ _ w _ _ p in
+    let z = c .before .before .before .before .before in let n = room-long _ _ _ (z .pre .1) in let m = z .pre .0 in
+    let w = union-two _ (c .before .before .before .path-kind .ensures) _ (c .before .enum-told3 .given .1) (z .pre .1) in let p = scan-ends (c .scan3 .ensures) in let h = second-behind _ _ _ w _ _ p in
     (omega arith, second-room _ _ _ w _ _ p)
 
 scan-either-requires : (t : ℕ) → scan-lts.Need-either-requires (scan-calls t) (scan-at t) scan.Post
@@ -94,10 +90,7 @@ scan-add-scan-3 t c = let n = room-long _ _ _ (c .before .before .before .before
 
 scan-scan-requires-5 : (t : ℕ) → scan-lts.Need-scan-requires-5 (scan-calls t) (scan-at t) scan.Post
 scan-scan-requires-5 t c κs =
-    let z = c .before .before .before .before .before in let n = room-long _ _ _ (z .pre .1) in let m = z .pre .0 in (omega arith, star-room _ (c .before .before .before .path-kind .ensures) _ (c .before .enum-told4 .given .1) (z .pre .1))
-
-scan-join-requires-2 : (t : ℕ) → scan-lts.Need-join-requires-2 (scan-calls t) (scan-at t) scan.Post
-scan-join-requires-2 t c κs = tt
+    let z = c .before .before .before .before in let n = room-long _ _ _ (z .pre .1) in let m = z .pre .0 in (omega arith, star-room _ (c .before .before .path-kind .ensures) _ (c .enum-told4 .given .1) (z .pre .1))
 
 scan-repeated-requires : (t : ℕ) → scan-lts.Need-repeated-requires (scan-calls t) (scan-at t) scan.Post
 scan-repeated-requires t c κs = tt
@@ -109,20 +102,19 @@ scan-one-step-requires : (t : ℕ) → scan-lts.Need-one-step-requires (scan-cal
 scan-one-step-requires t c κs = step-room _ (c .before .before .path-kind .ensures) _ (c .before .match .keys5) (c .before .before .before .before .pre .1)
 
 scan-returns : (t : ℕ) → scan-lts.Need-returns (scan-calls t) (scan-at t) scan.Post
-scan-returns t c = empty-scans _ (c .before .before .before .path-kind .ensures) _ (c .before .enum-told .given .1) (c .no-step .ensures)
+scan-returns t c = empty-scans _ (c .before .before .before .path-kind .ensures) (c .before .enum-told .given .1) (c .no-step .ensures)
 
 scan-returns-2 : (t : ℕ) → scan-lts.Need-returns-2 (scan-calls t) (scan-at t) scan.Post
-scan-returns-2 t c =
-    seq-scans _ (c .before .before .before .before .before .before .before .before .before .path-kind .ensures) (c .before .before .before .before .before .scan .ensures) (c .before .before .before .scan2 .ensures) (c .before .before .before .before .before .before .before .enum-told2 .given .1) (c .before .join .ensures) (c .in-sequence .ensures)
+scan-returns-2 t c = seq-scans _ (c .before .before .before .before .before .path-kind .ensures) (c .before .before .scan .ensures) (c .before .scan2 .ensures) (c .before .before .before .enum-told2 .given .1) (c .in-sequence .ensures)
 
 scan-returns-3 : (t : ℕ) → scan-lts.Need-returns-3 (scan-calls t) (scan-at t) scan.Post
-scan-returns-3 t c = union-scans _ (c .before .before .before .before .before .before .before .path-kind .ensures) (c .before .before .before .scan3 .ensures) (c .before .scan4 .ensures) (c .before .before .before .before .before .enum-told3 .given .1) (c .either .ensures)
+scan-returns-3 t c = union-scans _ (c .before .before .before .before .before .path-kind .ensures) (c .before .before .scan3 .ensures) (c .before .scan4 .ensures) (c .before .before .before .enum-told3 .given .1) (c .either .ensures)
 
 scan-returns-4 : (t : ℕ) → scan-lts.Need-returns-4 (scan-calls t) (scan-at t) scan.Post
-scan-returns-4 t c = star-scans _ (c .before .before .before .before .before .before .before .path-kind .ensures) (c .before .before .before .before .before .enum-told4 .given .1) (c .before .before .before .scan5 .ensures) (c .before .join2 .ensures) (c .repeated .ensures)
+scan-returns-4 t c = star-scans _ (c .before .before .before .before .path-kind .ensures) (c .before .before .enum-told4 .given .1) (c .before .scan5 .ensures) (c .repeated .ensures)
 
 scan-returns-5 : (t : ℕ) → scan-lts.Need-returns-5 (scan-calls t) (scan-at t) scan.Post
-scan-returns-5 t c = step-scans _ (c .before .before .before .path-kind .ensures) _ (c .before .before .match .keys5) (c .before .skip-path .ensures) (c .one-step .ensures)
+scan-returns-5 t c = step-scans _ (c .before .before .before .path-kind .ensures) (c .before .before .match .keys5) (c .before .skip-path .ensures) (c .one-step .ensures)
 
 pub +scan-spec : {M : Type 1} → statement M
 +scan-spec = close μ-scan λ t. scan-lts.spec (scan-calls t)
@@ -136,7 +128,6 @@ pub +scan-spec : {M : Type 1} → statement M
     (scan-add-scan t)
     (scan-scan-requires t)
     (scan-scan-requires-2 t)
-    (scan-join-requires t)
     (scan-in-sequence-requires t)
     (scan-enum-told-3 t)
     (scan-add-scan-2 t)
@@ -146,7 +137,6 @@ pub +scan-spec : {M : Type 1} → statement M
     (scan-enum-told-4 t)
     (scan-add-scan-3 t)
     (scan-scan-requires-5 t)
-    (scan-join-requires-2 t)
     (scan-repeated-requires t)
     (scan-skip-path-requires t)
     (scan-one-step-requires t)
