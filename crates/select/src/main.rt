@@ -3,8 +3,64 @@ use evaluation::Evaluation;
 use libc::STDIN_FILENO;
 use libc::STDOUT_FILENO;
 ghost use Prim.Native.Nat.{_≤_};
-ghost use lib.ListN.{length};
-ghost use Rattle.select.specs.Input.{RuleEnds, DocumentBegins};
+ghost use mathlib.Core.Path.{_≡_};
+ghost use lib.ListN.{length, take};
+ghost use Rattle.selection.specs.Evaluation.{SnippetEvaluation};
+ghost use Rattle.evaluation.specs.Outcomes.{outcomeOf};
+ghost use Rattle.select.specs.Session.{rest, Answered, Session};
+
+const MAX_INPUT: usize = 65536;
+
+const WORDS: usize = 32768;
+
+const MARKS: usize = 4096;
+
+// What a session answers: what the evaluation hands back, and the marks.
+struct Answer {
+    record: Evaluation,
+    marks: [u8; MARKS],
+}
+
+// Evaluates the rule, which ends at `end`, on the document, which begins at `begin`. That `end` lies in the input is said as lending the rule asks for it.
+fn evaluate_parts(
+    input: &[u8],
+    end: usize,
+    begin: usize,
+    scratch: &mut [u16],
+    marks: &mut [u8],
+) -> Evaluation
+    requires { ⌜ end ≡ length (take end (now input)) ⌝ }
+    requires { ⌜ begin ≤ length (now input) ⌝ }
+    ensures { λ r. ⌜ SnippetEvaluation (rest begin (now (input .entry))) (take end (now (input .entry))) (now (scratch .entry)) (now (marks .entry)) (outcomeOf r) (now (scratch .exit)) (now (marks .exit)) ⌝ }
+{
+    evaluation::evaluate_snippets(&input[begin..], &input[..end], scratch, marks)
+}
+
+// Evaluates an input; one that is too long counts as a document that is.
+fn evaluate_input(input: &[u8], scratch: &mut [u16], marks: &mut [u8]) -> Evaluation
+    ensures { λ r. ⌜ Answered (now (input .entry)) (now (scratch .entry)) (now (marks .entry)) (outcomeOf r) (now (scratch .exit)) (now (marks .exit)) ⌝ }
+{
+    if input.len() > MAX_INPUT {
+        return Evaluation {
+            number: 1,
+            place: 0,
+            selected: 0,
+            snippets: 0,
+        };
+    }
+    let bounds = streams::split(input);
+    evaluate_parts(input, bounds.rule, bounds.document, scratch, marks)
+}
+
+// Lends words and marks, all of them 0, so that every mark that is set afterwards is one of a node.
+fn session(input: &[u8]) -> Answer
+    ensures { λ r. ⌜ Session (now (input .entry)) (outcomeOf (r .record)) (r .marks) ⌝ }
+{
+    let mut scratch = [0u16; WORDS];
+    let mut marks = [0u8; MARKS];
+    let record = evaluate_input(input, &mut scratch, &mut marks);
+    Answer { record, marks }
+}
 
 // Writes a key and a number, which make one line. Tells whether all of it was written.
 fn print_line(key: &[u8], number: usize) -> bool {
@@ -18,98 +74,37 @@ fn print_line(key: &[u8], number: usize) -> bool {
 }
 
 // The four lines that are always there.
-fn print_record(answer: Evaluation) -> bool {
-    if !print_line(b"number=", answer.number as usize) {
+fn print_record(record: Evaluation) -> bool {
+    if !print_line(b"number=", record.number as usize) {
         return false;
     }
-    if !print_line(b"place=", answer.place) {
+    if !print_line(b"place=", record.place) {
         return false;
     }
-    if !print_line(b"selected=", answer.selected) {
+    if !print_line(b"selected=", record.selected) {
         return false;
     }
-    print_line(b"snippets=", answer.snippets)
-}
-
-// The line of a node, if it is marked.
-fn print_node(node: usize, mark: u8) -> bool {
-    if mark == 1 {
-        print_line(b"node=", node)
-    } else {
-        true
-    }
+    print_line(b"snippets=", record.snippets)
 }
 
 // The lines of the marked nodes, rising, as far as they can be written.
 fn print_nodes(marks: &[u8]) {
-    let mut node = 0;
+    let mut node = streams::next_marked(marks, 0);
     while node < marks.len() {
-        if !print_node(node, marks[node]) {
+        if !print_line(b"node=", node) {
             return;
         }
-        node += 1;
+        node = streams::next_marked(marks, node + 1);
     }
 }
 
-// Where the rule ends: at the first LF, or with the input.
-fn rule_end(input: &[u8]) -> usize
-    ensures { λ r. ⌜ RuleEnds (now (input .entry)) r ⌝ }
-{
-    let mut i = 0;
-    while i < input.len() {
-        if input[i] == 10 {
-            return i;
-        }
-        i += 1;
-    }
-    i
-}
-
-// Where the document begins: behind the LF that ends the rule, or with none at the input's end.
-fn document_begin(input: &[u8], rule: usize) -> usize
-    requires { ⌜ rule ≤ length (now input) ⌝ }
-    ensures { λ r. ⌜ DocumentBegins (now (input .entry)) rule r ⌝ }
-{
-    if rule < input.len() { rule + 1 } else { rule }
-}
-
-// Evaluates the rule on the document, and prints what comes of it. No mark is set before, so that every mark that is set afterwards is one of a node.
-fn session(input: &[u8], scratch: &mut [u16], marks: &mut [u8]) {
-    let rule = rule_end(input);
-    let begin = document_begin(input, rule);
-    let answer = evaluation::evaluate_snippets(&input[begin..], &input[..rule], scratch, marks);
-    if print_record(answer) {
-        print_nodes(marks);
-    }
-}
-
-// Whether there is more to read.
-fn has_more() -> bool {
-    let mut byte = [0u8; 1];
-    io::read_full(STDIN_FILENO, &mut byte) > 0
-}
-
-// Input that does not fit is a document that is too long.
-fn refuse_length() {
-    print_record(Evaluation {
-        number: 1,
-        place: 0,
-        selected: 0,
-        snippets: 0,
-    });
-}
-
-// Reads up to 65,536 bytes, and lends 32,768 words of scratch and 4,096 marks. A read that fails ends the input: what is cut short has too few lines, and is refused.
+// Reads one byte more than an input may have, so that a longer one shows. A read that fails ends the input: what is cut short has too few lines, and is refused.
 fn main() {
-    let mut input = [0u8; 65536];
-    let mut scratch = [0u16; 32768];
-    let mut marks = [0u8; 4096];
+    let mut input = [0u8; MAX_INPUT + 1];
     let length = io::read_full(STDIN_FILENO, &mut input);
-    if length == 65536 {
-        if has_more() {
-            refuse_length();
-            return;
-        }
+    let answer = session(&input[..length]);
+    let marks = answer.marks;
+    if print_record(answer.record) {
+        print_nodes(&marks);
     }
-    session(&input[..length], &mut scratch, &mut marks);
 }
