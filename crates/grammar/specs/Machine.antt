@@ -1,10 +1,11 @@
 -- A machine that reads a rule byte by byte: a stack of what is still to be read, and what the things read so far make of the rest.
-use Prim.Native.Nat.{ℕ, zero, suc}
+use Prim.Native.Nat.{ℕ, zero, suc, _-_}
 use mathlib.Core.Logic.{_⊎_, inl, inr}
 use mathlib.Core.Bool.{Bool, true, false}
 use mathlib.Core.Option.{Option, none, some, Option·map}
 use mathlib.Core.List.{List, [], _∷_, _++_}
 use lib.Dec.{eqb}
+use Rattle.limits.specs.Limits.{labelBytes, constantBytes}
 use Rattle.xpath.specs.Syntax.{Op, eq, ne, lt, le, gt, ge, Test, named, not, and, or, compare, compareTo, XPath, empty, one, seq, union, star, toLeft, toRight, fromLeft, fromRight, stay}
 use Rattle.grammar.specs.Bytes.{choose, isLetter, isNameByte, isPrintable}
 
@@ -103,7 +104,7 @@ signMoves n st =
 abbrev pub operandMove : (n : ℕ) (st : Stack) → ℕ → Option (Move (operand n ∷ st))
 operandMove n st b =
     choose (eqb b 34)
-    (some (go (quoted 32 ∷ byte 41 ∷ st) (λ v. (inr (v .0), v .1 .1))))
+    (some (go (quoted constantBytes ∷ byte 41 ∷ st) (λ v. (inr (v .0), v .1 .1))))
     (Option·map (pass (λ v. (inl (v .0), v .1 .1))) (look b (pathMoves n (byte 41 ∷ st))))
 
 -- the machine: what it does at a byte, if it does not refuse it
@@ -112,7 +113,7 @@ move [] b = none
 move (test n ∷ st) b = look b (testMoves n st)
 move (path n ∷ st) b = look b (pathMoves n st)
 move (byte c ∷ st) b = choose (eqb b c) (some (go st (λ v. (tt, v)))) none
-move (label ∷ st) b = choose (isLetter b) (some (go (tail 15 ∷ st) (λ v. (b ∷ v .0, v .1)))) none
+move (label ∷ st) b = choose (isLetter b) (some (go (tail (labelBytes - 1) ∷ st) (λ v. (b ∷ v .0, v .1)))) none
 move (tail zero ∷ st) b = Option·map (pass (λ v. ([], v))) (move st b)
 move (tail (suc i) ∷ st) b =
     choose (isNameByte b) (some (go (tail i ∷ st) (λ v. (b ∷ v .0, v .1)))) (Option·map (pass (λ v. ([], v))) (move st b))
