@@ -2,18 +2,10 @@
 use Prim.Native.Nat.{ℕ, _-_, _≤_, _<_}
 use mathlib.Core.List.{List}
 use lib.ListN.{length, take, drop, replicate}
+use Rattle.limits.specs.Limits.{programInput, programWords, programMarks}
 use Rattle.refusals.specs.Refusals.{documentLength}
 use Rattle.streams.specs.Input.{Parts}
 use Rattle.selection.specs.Evaluation.{Outcome, Refused, SnippetEvaluation}
-
-abbrev pub programInput : ℕ
-programInput = 65_536
-
-abbrev pub programWords : ℕ
-programWords = 32_768
-
-abbrev pub programMarks : ℕ
-programMarks = 4096
 
 -- the bytes from b on, in the form in which they are lent
 abbrev pub rest : ℕ → List ℕ → List ℕ

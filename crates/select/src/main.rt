@@ -2,6 +2,7 @@
 use evaluation::Evaluation;
 use libc::STDIN_FILENO;
 use libc::STDOUT_FILENO;
+use limits::Program;
 ghost use Prim.Native.Nat.{_≤_};
 ghost use mathlib.Core.Path.{_≡_};
 ghost use lib.ListN.{length, take};
@@ -9,16 +10,10 @@ ghost use Rattle.selection.specs.Evaluation.{SnippetEvaluation};
 ghost use Rattle.evaluation.specs.Outcomes.{outcomeOf};
 ghost use Rattle.select.specs.Session.{rest, Answered, Session};
 
-const MAX_INPUT: usize = 65536;
-
-const WORDS: usize = 32768;
-
-const MARKS: usize = 4096;
-
 // What a session answers: what the evaluation hands back, and the marks.
 struct Answer {
     record: Evaluation,
-    marks: [u8; MARKS],
+    marks: [u8; Program::MARKS],
 }
 
 // Evaluates the rule, which ends at `end`, on the document, which begins at `begin`. That `end` lies in the input is said as lending the rule asks for it.
@@ -40,7 +35,7 @@ fn evaluate_parts(
 fn evaluate_input(input: &[u8], scratch: &mut [u16], marks: &mut [u8]) -> Evaluation
     ensures { λ r. ⌜ Answered (now (input .entry)) (now (scratch .entry)) (now (marks .entry)) (outcomeOf r) (now (scratch .exit)) (now (marks .exit)) ⌝ }
 {
-    if input.len() > MAX_INPUT {
+    if input.len() > Program::MAX_INPUT {
         return Evaluation {
             number: 1,
             place: 0,
@@ -56,8 +51,8 @@ fn evaluate_input(input: &[u8], scratch: &mut [u16], marks: &mut [u8]) -> Evalua
 fn session(input: &[u8]) -> Answer
     ensures { λ r. ⌜ Session (now (input .entry)) (outcomeOf (r .record)) (r .marks) ⌝ }
 {
-    let mut scratch = [0u16; WORDS];
-    let mut marks = [0u8; MARKS];
+    let mut scratch = [0u16; Program::WORDS];
+    let mut marks = [0u8; Program::MARKS];
     let record = evaluate_input(input, &mut scratch, &mut marks);
     Answer { record, marks }
 }
@@ -100,7 +95,7 @@ fn print_nodes(marks: &[u8]) {
 
 // Reads one byte more than an input may have, so that a longer one shows. A read that fails ends the input: what is cut short has too few lines, and is refused.
 fn main() {
-    let mut input = [0u8; MAX_INPUT + 1];
+    let mut input = [0u8; Program::MAX_INPUT + 1];
     let length = io::read_full(STDIN_FILENO, &mut input);
     let answer = session(&input[..length]);
     let marks = answer.marks;
