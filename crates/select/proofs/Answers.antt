@@ -7,6 +7,7 @@ use lib.ListN.{length, getD, take, drop, replicate, length-drop, length-replicat
 use lib.Seq.{take-all, getD-drop}
 use native.Mathlib.Omega.{arith}
 use native.Mathlib.Decide.{decLt}
+use Rattle.limits.specs.Limits.{programInput, programWords, programMarks}
 use Rattle.refusals.specs.Refusals.{Refusal, First}
 use Rattle.xpath.specs.Syntax.{Test}
 use Rattle.library.specs.Library.{Node}
@@ -16,9 +17,9 @@ use Rattle.streams.specs.Output.{Marked}
 use Rattle.streams.proofs.Splitting.{parts-some, parts-one}
 use Rattle.selection.specs.Buffers.{Ground, Accepted}
 use Rattle.selection.specs.Evaluation.{Outcome, Selects, Selected, SnippetEvaluation}
-use Rattle.selection.proofs.Agreement.{evaluation-one, snippets-one}
+use Rattle.selection.proofs.Agreement.{snippet-evaluation-one}
 use Rattle.evaluation.specs.Outcomes.{refusedBy}
-use Rattle.select.specs.Session.{programInput, programWords, programMarks, rest, Answered, Session}
+use Rattle.select.specs.Session.{rest, Answered, Session}
 
 -- ── The two ways of `evaluate_input` ──
 pub answered-longer : (input scratch marks : List ℕ) → programInput < length input → Answered input scratch marks (refusedBy 1 0) scratch marks
@@ -48,7 +49,7 @@ session-one {input} {o₁} {o₂} {marks₁} {marks₂} (s₁, a₁) (s₂, a₂
     go (no f) =
         let k : length input ≤ programInput = omega arith in
         let (rule, document, p) = parts-some input in
-        let (o, s, m) = evaluation-one SnippetCount snippets-one document rule (replicate programWords 0) (replicate programMarks 0) o₁ o₂ s₁ marks₁ s₂ marks₂ (a₁ .evaluated k rule document p) (a₂ .evaluated k rule document p) in
+        let (o, s, m) = snippet-evaluation-one document rule (replicate programWords 0) (replicate programMarks 0) o₁ o₂ s₁ marks₁ s₂ marks₂ (a₁ .evaluated k rule document p) (a₂ .evaluated k rule document p) in
         (o, m)
 
 -- ── The printed nodes ──
