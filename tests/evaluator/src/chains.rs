@@ -48,10 +48,11 @@ impl<'a> Chains<'a> {
     /// holds, so every test on the way holds. The test of i itself is not
     /// asked at v: the chain begins behind it.
     fn next(&self, moves: &[Option<Relation>], (i, v): Place) -> Vec<Place> {
-        let leads = |(j, w): &Place| {
-            self.positions.follows[i][*j] && moves[*j].as_ref().is_some_and(|m| m.has(v, *w))
-        };
-        self.places().filter(leads).collect()
+        let following = (0..self.positions.count()).filter(|j| self.positions.follows[i][*j]);
+        let led_to = |j: usize| moves[j].iter().flat_map(move |step| step.from(v));
+        following
+            .flat_map(|j| led_to(j).map(move |w| (j, w)))
+            .collect()
     }
 
     /// Everything that a place comes to, itself first: "possibly none (then

@@ -33,18 +33,29 @@ impl Relation {
     }
 
     /// The pairs (v, w) with some node between: v to it here, it to w there.
+    /// So the row of v is all rows of such nodes laid over one another.
     pub fn then(&self, other: &Relation) -> Relation {
-        let between: Vec<Vec<usize>> = (0..self.size()).map(|v| self.from(v)).collect();
-        Relation::where_holds(self.size(), |v, w| {
-            between[v].iter().any(|u| other.has(*u, w))
-        })
+        let row = |v: usize| {
+            let mut row = vec![false; self.size()];
+            for between in self.from(v) {
+                for (has, more) in row.iter_mut().zip(&other.rows[between]) {
+                    *has |= more;
+                }
+            }
+            row
+        };
+        Relation {
+            rows: (0..self.size()).map(row).collect(),
+        }
     }
 
-    /// The reflexive transitive closure: grown until one more turn adds nothing.
+    /// The reflexive transitive closure: joined with itself until that adds
+    /// nothing. Each turn doubles how often the relation was followed at most.
     pub fn repeated(&self) -> Relation {
-        let mut closure = Relation::where_holds(self.size(), |v, w| v == w);
+        let mut closure = self.union(&Relation::where_holds(self.size(), |v, w| v == w));
         loop {
-            let longer = closure.union(&closure.then(self));
+            // No pair is lost, since each node is related to itself.
+            let longer = closure.then(&closure);
             if longer == closure {
                 return closure;
             }

@@ -56,10 +56,10 @@ pub fn settle(tree: &Tree, p: &Path, r: &Path) -> Settlement {
 /// D." Of two nodes on one way to the root it is the upper one.
 pub fn skeleton(tree: &Tree, d: &BTreeSet<usize>) -> BTreeSet<usize> {
     let mut skeleton = d.clone();
-    for v in d {
-        let above_v = tree.upward(*v);
-        for w in d {
-            skeleton.extend(tree.upward(*w).iter().find(|u| above_v.contains(u)));
+    let ways: Vec<Vec<usize>> = d.iter().map(|v| tree.upward(*v).collect()).collect();
+    for above_v in &ways {
+        for above_w in &ways {
+            skeleton.extend(above_w.iter().find(|u| above_v.contains(u)));
         }
     }
     skeleton
@@ -90,9 +90,9 @@ impl Stretches<'_> {
         let mut found = Vec::new();
         for &y in &skeleton {
             // "where x is y's nearest proper ancestor in the skeleton"
-            let above = &self.tree.upward(y)[1..];
-            if let Some(x) = above.iter().find(|u| skeleton.contains(u)) {
-                found.extend(self.first_snippets_between(&d, *x, y));
+            let mut above = self.tree.upward(y).skip(1);
+            if let Some(x) = above.find(|u| skeleton.contains(u)) {
+                found.extend(self.first_snippets_between(&d, x, y));
             }
         }
         found
@@ -102,7 +102,7 @@ impl Stretches<'_> {
     /// p at x ends at a node of D that is neither y nor below y, and q at y
     /// ends at a node of D that is y or below it."
     fn first_snippets_between(&self, d: &BTreeSet<usize>, x: usize, y: usize) -> Vec<First> {
-        let from_y_down = |node: usize| self.tree.upward(node).contains(&y);
+        let from_y_down = |node: usize| self.tree.upward(node).any(|u| u == y);
         let (inner, outer): (Vec<usize>, Vec<usize>) = d.iter().partition(|w| from_y_down(**w));
         let ends_in = |position: usize, node: usize, among: &[usize]| {
             among
@@ -196,7 +196,7 @@ impl Stretches<'_> {
 
     /// The nodes from x down to y, both included.
     fn way(&self, x: usize, y: usize) -> Vec<usize> {
-        let up = self.tree.upward(y);
+        let up: Vec<usize> = self.tree.upward(y).collect();
         let length = up.iter().position(|u| *u == x).expect("x above y");
         up[..=length].iter().rev().copied().collect()
     }

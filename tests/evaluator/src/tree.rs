@@ -40,8 +40,8 @@ impl Tree {
 
     /// The node itself, its parent, that one's parent, and so on to the root.
     /// "Parent, ancestor and below are meant in this binary tree".
-    pub fn upward(&self, node: usize) -> Vec<usize> {
-        std::iter::successors(Some(node), |child| self.parents[*child]).collect()
+    pub fn upward(&self, node: usize) -> impl Iterator<Item = usize> + '_ {
+        std::iter::successors(Some(node), |child| self.parents[*child])
     }
 
     /// The node whose left child this one is.

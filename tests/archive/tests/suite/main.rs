@@ -4,6 +4,7 @@
 //! through the calling convention that other languages use.
 
 mod agreement;
+mod branching_counts;
 mod damaged_evaluations;
 mod evaluation_agreement;
 mod evaluation_limits;

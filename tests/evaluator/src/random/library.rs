@@ -57,6 +57,11 @@ fn draw_node(random: &mut Random, shape: &Shape, previous: Option<&Node>) -> Nod
         None => (0, Kind::Element),
         Some(previous) => draw_place(random, shape, previous),
     };
+    fill_node(random, shape, depth, kind)
+}
+
+/// A node of this depth and kind, with a label and a value from the shape's.
+fn fill_node(random: &mut Random, shape: &Shape, depth: usize, kind: Kind) -> Node {
     let label = match kind {
         Kind::Text => b"text".to_vec(),
         _ => random.pick(&shape.labels).clone(),
@@ -70,6 +75,83 @@ fn draw_node(random: &mut Random, shape: &Shape, previous: Option<&Node>) -> Nod
         kind,
         label,
         value,
+    }
+}
+
+/// A library that branches: each node is put into some element so far that has
+/// room, so that there are several levels, and several nodes inside most
+/// elements.
+struct Branching {
+    nodes: Vec<Node>,
+    /// For each node the numbers of those directly inside it.
+    inside: Vec<Vec<usize>>,
+    /// An element has room for so many.
+    room: usize,
+    /// A node is put into one of so many that got their place last.
+    near: usize,
+}
+
+/// A legal library of so many nodes that branches, deep or bushy, with few
+/// values, so that several nodes share each.
+pub fn branching_library(random: &mut Random, nodes: usize) -> Library {
+    let count = *random.pick(&[3, 5, 8, 14]);
+    let shape = Shape {
+        deep: 0,
+        attributes: *random.pick(&[10, 20, 30]),
+        texts: *random.pick(&[20, 30, 40]),
+        labels: NAMES.map(|name| name.as_bytes().to_vec()).into(),
+        values: (0..count).map(|number| few_value(random, number)).collect(),
+    };
+    let mut branching = Branching {
+        nodes: vec![fill_node(random, &shape, 0, Kind::Element)],
+        inside: vec![Vec::new()],
+        room: *random.pick(&[2, 3, 5]),
+        near: *random.pick(&[4, 12, nodes]),
+    };
+    while branching.nodes.len() < nodes {
+        branching.grow(random, &shape);
+    }
+    Library {
+        nodes: branching.in_order(0),
+    }
+}
+
+impl Branching {
+    fn grow(&mut self, random: &mut Random, shape: &Shape) {
+        let open: Vec<usize> = (0..self.nodes.len())
+            .filter(|v| self.nodes[*v].kind == Kind::Element && self.inside[*v].len() < self.room)
+            .collect();
+        let parent = *random.pick(&open[open.len().saturating_sub(self.near)..]);
+        let kind = match random.below(100) {
+            // Some element must have room left.
+            _ if open.len() == 1 => Kind::Element,
+            drawn if drawn < shape.attributes => Kind::Attribute,
+            drawn if drawn < shape.attributes + shape.texts => Kind::Text,
+            _ => Kind::Element,
+        };
+        self.inside[parent].push(self.nodes.len());
+        let depth = self.nodes[parent].depth + 1;
+        self.nodes.push(fill_node(random, shape, depth, kind));
+        self.inside.push(Vec::new());
+    }
+
+    /// A node and all inside it in document order, attributes first.
+    fn in_order(&self, node: usize) -> Vec<Node> {
+        let is_attribute = |v: &usize| self.nodes[*v].kind == Kind::Attribute;
+        let (mut inside, others): (Vec<usize>, Vec<usize>) =
+            self.inside[node].iter().partition(|v| is_attribute(v));
+        inside.extend(others);
+        let mut all = vec![self.nodes[node].clone()];
+        all.extend(inside.into_iter().flat_map(|v| self.in_order(v)));
+        all
+    }
+}
+
+/// Such as rules name too as long as there are any.
+fn few_value(random: &mut Random, number: usize) -> Vec<u8> {
+    match VALUES.get(number) {
+        Some(value) => value.as_bytes().to_vec(),
+        None => printable(random, 3),
     }
 }
 

@@ -6,9 +6,9 @@ mod line_damage;
 mod rule;
 
 pub use damage::{damage_document, damage_rule};
-pub use library::{any_library, library};
+pub use library::{any_library, branching_library, library};
 pub use line_damage::damage_one_line;
-pub use rule::{any_rule, deep_rule, large_rule, rule, rule_about};
+pub use rule::{any_rule, deep_rule, large_rule, rule, rule_about, wandering_rule};
 
 /// The splitmix64 generator.
 pub struct Random(u64);

@@ -19,6 +19,20 @@ pub fn rule_about(random: &mut Random, size: usize, values: &[Vec<u8>]) -> Test 
     draw_legal(|| draw_joined(random, Words::About(values), size, 1, STEP_LIMIT))
 }
 
+/// A legal equality between two paths that both wander: each follows some of
+/// the steps, often up and down, as long as it likes, and mostly stops where a
+/// test holds. So their positions come to many nodes. The tests have about so
+/// many parts together.
+pub fn wandering_rule(random: &mut Random, size: usize, values: &[Vec<u8>]) -> Test {
+    draw_legal(|| {
+        let mut drawing = Drawing::new(random, Words::About(values), size);
+        let mut steps = STEP_LIMIT;
+        let first = drawing.wandering_path(2, &mut steps);
+        let second = drawing.wandering_path(2, &mut steps);
+        Test::Compare(first, Sign::Equal, Operand::Path(second))
+    })
+}
+
 /// A legal rule for the rule check alone: any names and constants up to the
 /// longest, every sign as often as the others, and up to the most steps.
 pub fn any_rule(random: &mut Random, size: usize) -> Test {
@@ -235,6 +249,24 @@ impl<'a> Drawing<'a> {
             ),
             _ => Path::Repeat(Box::new(self.path(inner, steps))),
         }
+    }
+
+    /// `.*P` with a choice of plain steps, then a bracket or little else. It
+    /// takes five steps at most.
+    fn wandering_path(&mut self, nesting: usize, steps: &mut usize) -> Path {
+        let mut choice = self.plain_step(steps);
+        for _ in 0..=self.random.below(3) {
+            choice = Path::Either(Box::new(choice), Box::new(self.plain_step(steps)));
+        }
+        let end = match self.random.below(6) {
+            0 => Path::Empty,
+            1 => self.plain_step(steps),
+            _ => {
+                *steps -= 1;
+                Path::Stay(Box::new(self.test(nesting + 2)))
+            }
+        };
+        Path::Then(Box::new(Path::Repeat(Box::new(choice))), Box::new(end))
     }
 
     fn plain_step(&mut self, steps: &mut usize) -> Path {
