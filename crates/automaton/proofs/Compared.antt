@@ -11,7 +11,7 @@ use Rattle.xpath.specs.Syntax.{XPath, empty, size}
 use Rattle.positions.specs.Positions.{Follows, second}
 use Rattle.positions.specs.Glushkov.{Nullable, Begins, Next}
 use Rattle.positions.proofs.Chains.{RightAfter, follows-iff, last-iff}
-use Rattle.parts.specs.Standing.{PathAt}
+use Rattle.rule_parts.specs.Standing.{PathAt}
 use Rattle.automaton.specs.declared.sets.Scan.{Scan}
 use Rattle.automaton.specs.declared.automaton.Automaton.{Automaton}
 use Rattle.automaton.specs.Scanned.{Sets, Room, Scans, Related, Relates}

@@ -9,12 +9,12 @@ use lib.Seq.{getD-set-same, getD-set-other}
 use Rattle.xpath.specs.Syntax.{XPath, one, Step, steps, size}
 use Rattle.positions.specs.Positions.{Numbered}
 use Rattle.positions.proofs.Runs.{num-in, num-split}
-use Rattle.grammar.specs.Spelling.{spellPath}
-use Rattle.parts.specs.Standing.{PathAt}
-use Rattle.parts.specs.Kinds.{pathKind}
-use Rattle.parts.specs.declared.kinds.PathKind.{PathKind}
-use Rattle.parts.specs.declared.kinds.PathKind.the-variants.{Empty, Star}
-use Rattle.parts.proofs.Inner.{star-inner}
+use Rattle.rule_spec.specs.Spelling.{spellPath}
+use Rattle.rule_parts.specs.Standing.{PathAt}
+use Rattle.rule_parts.specs.Kinds.{pathKind}
+use Rattle.rule_parts.specs.declared.kinds.PathKind.{PathKind}
+use Rattle.rule_parts.specs.declared.kinds.PathKind.the-variants.{Empty, Star}
+use Rattle.rule_parts.proofs.Inner.{star-inner}
 use Rattle.automaton.specs.declared.places.Spot.{Spot}
 use Rattle.automaton.specs.Scanned.{Room}
 use Rattle.automaton.specs.Compared.{TwoPaths}

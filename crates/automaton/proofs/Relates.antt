@@ -6,11 +6,11 @@ use mathlib.Core.Bool.{Bool}
 use mathlib.Core.List.{List, _++_}
 use lib.ListN.{length, length-append}
 use Rattle.xpath.specs.Syntax.{XPath, steps, size}
-use Rattle.parts.specs.Standing.{PathAt}
-use Rattle.parts.specs.Kinds.{pathKind}
-use Rattle.parts.specs.declared.kinds.PathKind.{PathKind}
-use Rattle.parts.specs.declared.kinds.PathKind.the-variants.{Seq, Union, Star}
-use Rattle.parts.proofs.Inner.{seq-inner, union-inner, star-inner}
+use Rattle.rule_parts.specs.Standing.{PathAt}
+use Rattle.rule_parts.specs.Kinds.{pathKind}
+use Rattle.rule_parts.specs.declared.kinds.PathKind.{PathKind}
+use Rattle.rule_parts.specs.declared.kinds.PathKind.the-variants.{Seq, Union, Star}
+use Rattle.rule_parts.proofs.Inner.{seq-inner, union-inner, star-inner}
 use Rattle.automaton.specs.declared.sets.Scan.{Scan}
 use Rattle.automaton.specs.Scanned.{Scanned, Scans, Related, Relates}
 use Rattle.automaton.proofs.Truth.{tells-more}

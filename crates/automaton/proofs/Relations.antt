@@ -5,7 +5,7 @@ use mathlib.Core.Bool.{Bool, true, false}
 use mathlib.Core.Logic.{_⊎_, inl, inr, _↔_}
 use mathlib.Core.List.{List, []}
 use lib.ListN.{getD, replicate, getD-replicate}
-use Rattle.grammar.proofs.Bytes.{clash}
+use Rattle.rule_spec.proofs.Bytes.{clash}
 use Rattle.bits.specs.Sets.{bit, or, and}
 use Rattle.bits.specs.Square.{cell}
 use Rattle.xpath.specs.Syntax.{XPath}

@@ -5,12 +5,12 @@ use mathlib.Core.Path.{_≡_, sym, subst, _∙_}
 use mathlib.Core.List.{List, _++_}
 use lib.ListN.{length, length-append}
 use Rattle.xpath.specs.Syntax.{XPath, empty, one, seq, union, star, Step, steps, size}
-use Rattle.grammar.specs.Spelling.{spellPath}
-use Rattle.parts.specs.Standing.{PathAt}
-use Rattle.parts.specs.Kinds.{pathKind}
-use Rattle.parts.specs.declared.kinds.PathKind.{PathKind}
-use Rattle.parts.specs.declared.kinds.PathKind.the-variants.{Empty, Seq, Union, Star}
-use Rattle.parts.proofs.Inner.{seq-inner, union-inner, star-inner}
+use Rattle.rule_spec.specs.Spelling.{spellPath}
+use Rattle.rule_parts.specs.Standing.{PathAt}
+use Rattle.rule_parts.specs.Kinds.{pathKind}
+use Rattle.rule_parts.specs.declared.kinds.PathKind.{PathKind}
+use Rattle.rule_parts.specs.declared.kinds.PathKind.the-variants.{Empty, Seq, Union, Star}
+use Rattle.rule_parts.proofs.Inner.{seq-inner, union-inner, star-inner}
 use Rattle.automaton.specs.declared.sets.Scan.{Scan}
 use Rattle.automaton.specs.Scanned.{Sets, Scanned, Scans}
 use Rattle.automaton.proofs.Shapes.{Steps, shaped, stepped}

@@ -8,7 +8,7 @@ use lib.ListN.{length-append}
 use Rattle.bits.specs.Sets.{bit, is, or, and}
 use Rattle.bits.proofs.SetLaws.{bit-none}
 use Rattle.xpath.specs.Syntax.{XPath, empty, one, seq, union, star, Step, steps, size}
-use Rattle.grammar.proofs.Bytes.{eq-iff}
+use Rattle.rule_spec.proofs.Bytes.{eq-iff}
 use Rattle.positions.specs.Glushkov.{Begins, Stops}
 use Rattle.automaton.specs.declared.sets.Scan.{Scan}
 use Rattle.automaton.specs.Scanned.{Sets}

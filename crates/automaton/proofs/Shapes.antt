@@ -9,13 +9,13 @@ use types.Run.{OneOf}
 use denote.Enum.Declared.{tagOf}
 use Rattle.xpath.specs.Syntax.{XPath, empty, one, seq, union, star, Step, toLeft, toRight, fromLeft, fromRight, stay, steps, size}
 use Rattle.positions.specs.Glushkov.{Next}
-use Rattle.grammar.specs.Spelling.{spellPath, spellStep}
-use Rattle.parts.specs.Standing.{PathAt}
-use Rattle.parts.specs.Kinds.{pathKind}
-use Rattle.parts.specs.declared.kinds.PathKind.{PathKind}
-use Rattle.parts.specs.declared.kinds.PathKind.the-variants.{Empty, ToLeft, ToRight, FromLeft, FromRight, Stay, Seq, Union, Star}
-use Rattle.parts.proofs.kinds.PathKind.{the-type}
-use Rattle.parts.proofs.Inner.{seq-inner, union-inner, star-inner}
+use Rattle.rule_spec.specs.Spelling.{spellPath, spellStep}
+use Rattle.rule_parts.specs.Standing.{PathAt}
+use Rattle.rule_parts.specs.Kinds.{pathKind}
+use Rattle.rule_parts.specs.declared.kinds.PathKind.{PathKind}
+use Rattle.rule_parts.specs.declared.kinds.PathKind.the-variants.{Empty, ToLeft, ToRight, FromLeft, FromRight, Stay, Seq, Union, Star}
+use Rattle.rule_parts.proofs.kinds.PathKind.{the-type}
+use Rattle.rule_parts.proofs.Inner.{seq-inner, union-inner, star-inner}
 use Rattle.automaton.specs.Scanned.{Room}
 
 abbrev pub StepPath : XPath → Type 0

@@ -2,7 +2,7 @@
 use mathlib.Core.Path.{_≡_, refl, sym, _∙_}
 use mathlib.Core.Bool.{Bool, true, false}
 use mathlib.Core.Logic.{_⊎_, inl, inr, _↔_}
-use Rattle.grammar.proofs.Bytes.{clash}
+use Rattle.rule_spec.proofs.Bytes.{clash}
 use Rattle.bits.specs.Sets.{or, and}
 
 module _ {A B : Type 0} where

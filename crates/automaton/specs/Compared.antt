@@ -10,7 +10,7 @@ use Rattle.bits.specs.Square.{cell}
 use Rattle.xpath.specs.Syntax.{XPath, empty, size}
 use Rattle.positions.specs.Positions.{Follows, IsLast}
 use Rattle.positions.specs.Glushkov.{Nullable, Begins, Stops}
-use Rattle.parts.specs.Standing.{PathAt}
+use Rattle.rule_parts.specs.Standing.{PathAt}
 use Rattle.automaton.specs.declared.sets.Scan.{Scan}
 use Rattle.automaton.specs.declared.automaton.Automaton.{Automaton}
 use Rattle.automaton.specs.Scanned.{Sets}

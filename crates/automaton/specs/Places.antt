@@ -6,7 +6,7 @@ use lib.ListN.{getD}
 use Rattle.limits.specs.Limits.{positions, comparisonSteps}
 use Rattle.xpath.specs.Syntax.{XPath, empty, one, Step, steps, size}
 use Rattle.positions.specs.Positions.{Numbered}
-use Rattle.parts.specs.Standing.{PathAt}
+use Rattle.rule_parts.specs.Standing.{PathAt}
 use Rattle.automaton.specs.declared.places.Spot.{Spot}
 
 module _ (s : List ℕ) where

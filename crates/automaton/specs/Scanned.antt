@@ -9,7 +9,7 @@ use Rattle.bits.specs.Sets.{bit}
 use Rattle.bits.specs.Square.{cell}
 use Rattle.xpath.specs.Syntax.{XPath, size}
 use Rattle.positions.specs.Glushkov.{Nullable, Begins, Stops, Next}
-use Rattle.parts.specs.Standing.{PathAt}
+use Rattle.rule_parts.specs.Standing.{PathAt}
 use Rattle.automaton.specs.declared.sets.Scan.{Scan}
 
 pub record Sets (P : XPath) (b : ℕ) (r : Scan) : Type 0 where

@@ -1,8 +1,8 @@
 // Where each step of a path stands, by its number.
 use limits::Rule;
-use parts::kinds::PathKind;
-use parts::kinds::path_kind;
-use parts::skip_path;
+use rule_parts::kinds::PathKind;
+use rule_parts::kinds::path_kind;
+use rule_parts::skip_path;
 ghost use Prim.Native.Nat.{_≤_};
 ghost use lib.ListN.{length};
 ghost use Rattle.limits.specs.Limits.{positions};

@@ -2,8 +2,8 @@
 use crate::scan::scan;
 use bits::square::Square;
 use bits::square::joined;
-use parts::kinds::PathKind;
-use parts::kinds::path_kind;
+use rule_parts::kinds::PathKind;
+use rule_parts::kinds::path_kind;
 ghost use Rattle.automaton.specs.Scanned.{Room, Relates};
 
 // The square with what follows in the path at an offset added; its steps are numbered from b.

@@ -5,9 +5,9 @@ use crate::sets::in_sequence;
 use crate::sets::no_step;
 use crate::sets::one_step;
 use crate::sets::repeated;
-use parts::kinds::PathKind;
-use parts::kinds::path_kind;
-use parts::skip_path;
+use rule_parts::kinds::PathKind;
+use rule_parts::kinds::path_kind;
+use rule_parts::skip_path;
 ghost use Rattle.automaton.specs.Scanned.{Room, Scans};
 
 // The path at an offset, its steps numbered from b.

@@ -5,10 +5,10 @@ use mathlib.Core.Logic.{_⊎_, inl, inr, ⊎-elim, _↔_}
 use mathlib.Core.List.{List}
 use native.Mathlib.Omega.{arith}
 use lib.ListN.{getD}
-use Rattle.links.specs.Table.{LEFT}
-use Rattle.walks.specs.declared.Machine.{Machine}
-use Rattle.walks.specs.Part.{SEEN}
-use Rattle.walks.specs.Walks.{on}
+use Rattle.table.specs.Table.{LEFT}
+use Rattle.machine.specs.declared.Machine.{Machine}
+use Rattle.machine.specs.Part.{SEEN}
+use Rattle.machine.specs.Walks.{on}
 use Rattle.reach.specs.Work.{Seen, Added}
 use Rattle.reach.proofs.Walks.{leads-same, walk-same}
 use Rattle.backward.specs.Backward.{Listed, Joined, Closed, Ends}

@@ -5,8 +5,8 @@ use mathlib.Core.List.{List, [], _∷_}
 use native.Mathlib.Decide.{ℕ-discrete}
 use native.Mathlib.Nat.{mul-le-mul-right}
 use native.Mathlib.Omega.{arith}
-use Rattle.links.specs.Table.{cell, word, Wrote}
-use Rattle.walks.specs.Part.{SEEN, Space}
+use Rattle.table.specs.Table.{cell, word, Wrote}
+use Rattle.machine.specs.Part.{SEEN, Space}
 use Rattle.reach.specs.Work.{Cleared}
 use Rattle.reach.proofs.Clearing.{work-none}
 use Rattle.backward.specs.Backward.{Filled, Listed}

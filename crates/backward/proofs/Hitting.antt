@@ -5,10 +5,10 @@ use mathlib.Core.Logic.{_⊎_, inl, inr, ⊎-elim, _↔_}
 use mathlib.Core.List.{List}
 use native.Mathlib.Decide.{ℕ-discrete}
 use native.Mathlib.Omega.{arith}
-use Rattle.links.specs.Table.{cell, word}
-use Rattle.walks.specs.declared.Machine.{Machine}
-use Rattle.walks.specs.Part.{HIT, SEEN}
-use Rattle.walks.specs.Walks.{Stops, Hits}
+use Rattle.table.specs.Table.{cell, word}
+use Rattle.machine.specs.declared.Machine.{Machine}
+use Rattle.machine.specs.Part.{HIT, SEEN}
+use Rattle.machine.specs.Walks.{Stops, Hits}
 use Rattle.reach.specs.Work.{Seen}
 use Rattle.plain.specs.Plain.{Answered}
 use Rattle.backward.specs.Backward.{LinkedBothWays, Filled, Listed, Joined, Closed, Ends, Backed}

@@ -8,10 +8,10 @@ use native.Mathlib.Omega.{arith}
 use lib.ListN.{getD}
 use Rattle.xpath.specs.Syntax.{XPath}
 use Rattle.xpath.specs.Tree.{Tree, Child}
-use Rattle.links.specs.Table.{LEFT, PARENT, NONE, column, word}
-use Rattle.links.specs.Links.{Points}
-use Rattle.walks.specs.Part.{SEEN}
-use Rattle.walks.specs.Meaning.{Drawn}
+use Rattle.table.specs.Table.{LEFT, PARENT, NONE, column, word}
+use Rattle.table.specs.Links.{Points}
+use Rattle.machine.specs.Part.{SEEN}
+use Rattle.machine.specs.Meaning.{Drawn}
 use Rattle.backward.specs.Backward.{LinkedBothWays}
 
 pub linked-drawn : {P R : XPath} {t : Tree} {n : ℕ} {p : List ℕ} → Drawn P R t n p → LinkedBothWays n p

@@ -9,8 +9,8 @@ use native.Mathlib.Nat.{mul-le-mul-right}
 use native.Mathlib.Omega.{arith}
 use lib.ListN.{length, getD}
 use Rattle.bits.specs.Sets.{bit}
-use Rattle.links.specs.Table.{cell, word}
-use Rattle.walks.specs.Part.{SEEN, NODES, POSITIONS}
+use Rattle.table.specs.Table.{cell, word}
+use Rattle.machine.specs.Part.{SEEN, NODES, POSITIONS}
 use Rattle.reach.specs.Work.{Seen, Has, nodeOf, Work}
 use Rattle.reach.proofs.Totals.{total-same}
 use Rattle.backward.specs.Backward.{Once, OfEntry, OfEntries}

@@ -8,12 +8,12 @@ use native.Mathlib.Nat.{mul-le-mul-right}
 use native.Mathlib.Omega.{arith}
 use lib.ListN.{getD}
 use Rattle.xpath.specs.Syntax.{Op, eq}
-use Rattle.links.specs.Table.{RANK, cell, word}
-use Rattle.links.specs.Links.{Points}
-use Rattle.parts.specs.Kinds.{operator}
-use Rattle.parts.specs.declared.kinds.Operator.{Operator}
-use Rattle.walks.specs.declared.Machine.{Machine}
-use Rattle.walks.specs.Walks.{Stops, Meets}
+use Rattle.table.specs.Table.{RANK, cell, word}
+use Rattle.table.specs.Links.{Points}
+use Rattle.rule_parts.specs.Kinds.{operator}
+use Rattle.rule_parts.specs.declared.kinds.Operator.{Operator}
+use Rattle.machine.specs.declared.Machine.{Machine}
+use Rattle.machine.specs.Walks.{Stops, Meets}
 use Rattle.skeletons.specs.Skeletons.{FIRST, NEXT, MARKED, Least, Buckets}
 use Rattle.skeletons.specs.Shape.{Within}
 use Rattle.plain.specs.declared.ranges.Range.{Range}

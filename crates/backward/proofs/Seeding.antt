@@ -8,11 +8,11 @@ use native.Mathlib.Decide.{ℕ-discrete, decLt}
 use native.Mathlib.Nat.{mul-le-mul-right}
 use native.Mathlib.Omega.{arith}
 use Rattle.bits.specs.Sets.{bit}
-use Rattle.links.specs.Table.{RANK, cell, word}
-use Rattle.links.specs.Links.{Points}
-use Rattle.walks.specs.declared.Machine.{Machine}
-use Rattle.walks.specs.Part.{SEEN}
-use Rattle.walks.specs.Walks.{Stops}
+use Rattle.table.specs.Table.{RANK, cell, word}
+use Rattle.table.specs.Links.{Points}
+use Rattle.machine.specs.declared.Machine.{Machine}
+use Rattle.machine.specs.Part.{SEEN}
+use Rattle.machine.specs.Walks.{Stops}
 use Rattle.skeletons.specs.Skeletons.{FIRST, NEXT, Least, Buckets}
 use Rattle.skeletons.proofs.Grouping.{least-some}
 use Rattle.reach.specs.Work.{Seen, Added}

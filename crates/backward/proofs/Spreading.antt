@@ -8,9 +8,9 @@ use native.Mathlib.Decide.{ℕ-discrete}
 use native.Mathlib.Omega.{arith}
 use lib.ListN.{getD}
 use Rattle.bits.specs.Sets.{bit}
-use Rattle.walks.specs.declared.Machine.{Machine}
-use Rattle.walks.specs.Walks.{Leads, Walk, here, on}
-use Rattle.walks.proofs.Walking.{walk-inside}
+use Rattle.machine.specs.declared.Machine.{Machine}
+use Rattle.machine.specs.Walks.{Leads, Walk, here, on}
+use Rattle.machine.proofs.Walking.{walk-inside}
 use Rattle.reach.specs.Work.{Seen, nodeOf, Added, At}
 use Rattle.reach.proofs.Walks.{leads-same, walk-same}
 use Rattle.backward.specs.Backward.{LinkedBothWays, Listed, Joined, Before, Closed, Towards, Backed}

@@ -5,10 +5,10 @@ use mathlib.Core.Logic.{_⊎_, inl, inr, ⊎-elim, _↔_}
 use mathlib.Core.List.{List}
 use native.Mathlib.Omega.{arith}
 use lib.ListN.{getD}
-use Rattle.links.specs.Table.{word}
-use Rattle.walks.specs.declared.Machine.{Machine}
-use Rattle.walks.specs.Part.{SEEN}
-use Rattle.walks.specs.Walks.{Stops}
+use Rattle.table.specs.Table.{word}
+use Rattle.machine.specs.declared.Machine.{Machine}
+use Rattle.machine.specs.Part.{SEEN}
+use Rattle.machine.specs.Walks.{Stops}
 use Rattle.reach.specs.Work.{Seen, Added}
 use Rattle.reach.proofs.Adding.{added-same}
 use Rattle.reach.proofs.Walks.{walk-same}

@@ -7,8 +7,8 @@ use mathlib.Core.List.{List, [], _∷_}
 use native.Mathlib.Omega.{arith}
 use lib.ListN.{length, getD}
 use Rattle.bits.specs.Sets.{one}
-use Rattle.links.specs.Table.{cell, Wrote}
-use Rattle.walks.specs.Part.{ANSWER, Space}
+use Rattle.table.specs.Table.{cell, Wrote}
+use Rattle.machine.specs.Part.{ANSWER, Space}
 use Rattle.plain.specs.declared.ranges.Range.{Range}
 use Rattle.plain.specs.Plain.{Answered}
 use Rattle.plain.proofs.Steady.{steady-none}

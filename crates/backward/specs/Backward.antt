@@ -7,10 +7,10 @@ use mathlib.Core.List.{List}
 use lib.ListN.{length, getD}
 use Rattle.limits.specs.Limits.{positions}
 use Rattle.bits.specs.Sets.{bit}
-use Rattle.links.specs.Table.{LEFT, RIGHT, PARENT, word}
-use Rattle.walks.specs.declared.Machine.{Machine}
-use Rattle.walks.specs.Part.{SEEN, NODES, POSITIONS}
-use Rattle.walks.specs.Walks.{Leads, Walk, Stops}
+use Rattle.table.specs.Table.{LEFT, RIGHT, PARENT, word}
+use Rattle.machine.specs.declared.Machine.{Machine}
+use Rattle.machine.specs.Part.{SEEN, NODES, POSITIONS}
+use Rattle.machine.specs.Walks.{Leads, Walk, Stops}
 use Rattle.reach.specs.Work.{Seen, Has, nodeOf, Work, Added}
 use Rattle.plain.specs.Ranges.{Some}
 

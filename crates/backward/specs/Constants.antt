@@ -2,8 +2,8 @@
 use Prim.Native.Nat.{ℕ}
 use mathlib.Core.Path.{_≡_}
 use mathlib.Core.List.{List}
-use Rattle.links.specs.Table.{word}
-use Rattle.walks.specs.Part.{HIT}
+use Rattle.table.specs.Table.{word}
+use Rattle.machine.specs.Part.{HIT}
 
 -- w is a hit
 abbrev pub IsHit : List ℕ → ℕ → ℕ → Type 0

@@ -5,10 +5,10 @@ use mathlib.Core.Logic.{_⊎_}
 use mathlib.Core.Bool.{Bool, true, false}
 use mathlib.Core.List.{List, [], _∷_}
 use lib.ListN.{length, getD}
-use Rattle.links.specs.Table.{RANK, cell, word, Wrote, NONE}
-use Rattle.walks.specs.declared.Machine.{Machine}
-use Rattle.walks.specs.Part.{SEEN}
-use Rattle.walks.specs.Walks.{Stops}
+use Rattle.table.specs.Table.{RANK, cell, word, Wrote, NONE}
+use Rattle.machine.specs.declared.Machine.{Machine}
+use Rattle.machine.specs.Part.{SEEN}
+use Rattle.machine.specs.Walks.{Stops}
 use Rattle.reach.specs.Work.{Added}
 use Rattle.plain.specs.Ends.{Held}
 use Rattle.plain.specs.Ranges.{Some, Ranged}

@@ -1,14 +1,14 @@
 // A constant: backwards from the hits.
 use crate::spread::spread;
 use bits::has;
-use links::table::get;
+use machine::Machine;
 use plain::answer;
 use plain::ends::Column;
-use walks::Machine;
+use table::table::get;
 ghost use Prim.Native.Nat.{ℕ, _<_};
 ghost use Rattle.plain.specs.Plain.{Answered};
 ghost use Rattle.reach.specs.Work.{Seen};
-ghost use Rattle.walks.specs.Part.{Space};
+ghost use Rattle.machine.specs.Part.{Space};
 ghost use Rattle.backward.specs.Backward.{LinkedBothWays, Listed, Closed, Joined, Ends};
 ghost use Rattle.backward.specs.Constants.{IsHit, HitAt};
 

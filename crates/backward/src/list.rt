@@ -1,8 +1,8 @@
 // The work list backwards, in the same columns as the one forwards. The columns between what is seen and the list stay as they are here, which the forward list does not promise.
 use bits::union;
+use machine::Part;
 use matrices::sets::without;
 use reach::list::enter;
-use walks::Part;
 ghost use Rattle.reach.specs.Work.{At};
 ghost use Rattle.backward.specs.Backward.{Listed, Joined};
 

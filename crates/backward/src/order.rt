@@ -1,15 +1,15 @@
 // The answers by the ranges of ranks.
 use crate::columns::Column;
-use links::table::get;
-use parts::kinds::Operator;
 use plain::answer;
 use plain::ranges::Range;
 use plain::ranges::ordered;
+use rule_parts::kinds::Operator;
+use table::table::get;
 ghost use mathlib.Core.Path.{_≡_};
 ghost use Prim.Native.Nat.{_≤_, _<_};
 ghost use Rattle.limits.specs.Limits.{wordValues};
-ghost use Rattle.links.specs.Table.{Room};
-ghost use Rattle.walks.specs.Part.{Space};
+ghost use Rattle.table.specs.Table.{Room};
+ghost use Rattle.machine.specs.Part.{Space};
 ghost use Rattle.plain.specs.Plain.{Answered};
 ghost use Rattle.plain.specs.Ranges.{Across};
 ghost use Rattle.backward.specs.Sweeps.{rangeOf};

@@ -4,18 +4,18 @@ use crate::predecessors::predecessors;
 use bits::meet;
 use bits::union;
 use limits::Rule;
-use links::table::Table;
-use links::table::get;
+use machine::Machine;
+use machine::Part;
 use reach::expand::if_linked;
-use walks::Machine;
-use walks::Part;
+use table::table::Table;
+use table::table::get;
 ghost use mathlib.Core.Path.{_≡_};
 ghost use mathlib.Core.Bool.{true};
 ghost use mathlib.Core.Logic.{_↔_};
 ghost use Prim.Native.Nat.{ℕ, _<_};
 ghost use Rattle.limits.specs.Limits.{positions};
 ghost use Rattle.bits.specs.Sets.{bit};
-ghost use Rattle.walks.specs.Part.{Space};
+ghost use Rattle.machine.specs.Part.{Space};
 ghost use Rattle.backward.specs.Backward.{LinkedBothWays, Descends, Sources, Listed, Joined, Into, Before};
 
 // The steps that lead from the parent `v`, if that is a node, down to node `u`.

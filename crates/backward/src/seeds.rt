@@ -1,13 +1,13 @@
 // Backwards from the nodes of a rank, with notes of what is new.
 use crate::notes::note_entries;
 use crate::spread::spread;
-use links::table::get;
+use machine::Machine;
 use skeletons::Column;
-use walks::Machine;
+use table::table::get;
 ghost use mathlib.Core.Path.{_≡_};
 ghost use Prim.Native.Nat.{_<_};
 ghost use Rattle.limits.specs.Limits.{positions, wordValues};
-ghost use Rattle.links.specs.Table.{RANK, word};
+ghost use Rattle.table.specs.Table.{RANK, word};
 ghost use Rattle.backward.specs.Backward.{LinkedBothWays, Listed, Closed};
 ghost use Rattle.skeletons.specs.Skeletons.{Buckets};
 ghost use Rattle.backward.specs.Sweeps.{Paired, Seeded};

@@ -1,7 +1,7 @@
 // The backward walk from some positions at a node.
 use crate::list::join;
 use crate::retrace::retrace;
-use walks::Machine;
+use machine::Machine;
 ghost use Rattle.backward.specs.Backward.{LinkedBothWays, Listed, Closed, Backed};
 
 // All that walks to a position of `set` at node `w` is seen. What was seen before is closed, so only the new entries are gone through. Gives the number of entries.

@@ -7,8 +7,8 @@ use native.Mathlib.Omega.{arith}
 use native.Mathlib.Decide.{ℕ-discrete}
 use Rattle.xpath.specs.Meaning.{Less}
 use Rattle.xpath.proofs.Order.{less-transitive}
-use Rattle.library.specs.Library.{Node}
-use Rattle.library.specs.Binary.{stringOf}
+use Rattle.document_spec.specs.Library.{Node}
+use Rattle.document_spec.specs.Binary.{stringOf}
 use Rattle.ranks.specs.Ranks.{Ranked}
 use Rattle.constants.specs.declared.Place.{Place}
 use Rattle.constants.specs.Places.{rank, Nearest, Placed}

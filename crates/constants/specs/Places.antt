@@ -3,9 +3,9 @@ use Prim.Native.Nat.{ℕ, _≤_, _<_}
 use mathlib.Core.Path.{_≡_}
 use mathlib.Core.List.{List}
 use Rattle.xpath.specs.Meaning.{Less}
-use Rattle.library.specs.Library.{Node}
-use Rattle.library.specs.Binary.{stringOf}
-use Rattle.links.specs.Table.{RANK, word}
+use Rattle.document_spec.specs.Library.{Node}
+use Rattle.document_spec.specs.Binary.{stringOf}
+use Rattle.table.specs.Table.{RANK, word}
 use Rattle.constants.specs.declared.Place.{Place}
 
 abbrev pub rank : List ℕ → ℕ → ℕ → ℕ

@@ -12,12 +12,12 @@ use Rattle.lists.specs.Lists.{All}
 use Rattle.lists.specs.Text.{bytes, Printable, Letter, NameByte}
 use Rattle.limits.specs.Names.{Name}
 use Rattle.lists.proofs.Lists.{all-imp}
-use Rattle.library.specs.Library.{Kind, element, attribute, text, Value, kindLine}
-use Rattle.fields.specs.declared.Ending.{Ending}
-use Rattle.fields.specs.declared.Ending.the-variants.{Next, Bad}
-use Rattle.fields.specs.declared.Class.the-variants.{Label, Text}
-use Rattle.fields.specs.Reading.{Ended, inClass, Run, Behind}
-use Rattle.fields.proofs.Classes.{between-is, is-between, name-byte, label-byte}
+use Rattle.document_spec.specs.Library.{Kind, element, attribute, text, Value, kindLine}
+use Rattle.lexer.specs.declared.Ending.{Ending}
+use Rattle.lexer.specs.declared.Ending.the-variants.{Next, Bad}
+use Rattle.lexer.specs.declared.Class.the-variants.{Label, Text}
+use Rattle.lexer.specs.Reading.{Ended, inClass, Run, Behind}
+use Rattle.lexer.proofs.Classes.{between-is, is-between, name-byte, label-byte}
 use Rattle.document.specs.Nodes.{IsLabel, IsValue}
 
 -- an answer for one form is an answer for any form of the same lines

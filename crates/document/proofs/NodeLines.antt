@@ -6,16 +6,16 @@ use lib.ListN.{length, drop, length-drop, length-append}
 use lib.Seq.{drop-cons, drop-drop, drop-at, slice}
 use native.Mathlib.Omega.{arith}
 use Rattle.lists.specs.Text.{bytes}
-use Rattle.library.specs.Library as Library
-use Rattle.library.specs.Library.{at, Value, depthLine, kindLine, labelLine, valueLine, nodeLines, spell}
-use Rattle.library.specs.Verdict.{firstLine, behindLine, Accepts}
-use Rattle.library.proofs.Lines.{Line, line-first, line-behind}
-use Rattle.library.proofs.Spelling.{nodes-line, depth-line, kind-line, label-line, value-line, depth-injective, kind-injective, label-injective, value-injective}
-use Rattle.library.proofs.Binary.{depth-small}
-use Rattle.fields.specs.declared.Ending.the-variants.{Next, Bad}
-use Rattle.fields.specs.declared.Numeral.the-variants as Numerals
-use Rattle.fields.specs.Reading.{Ended, NumberedLine}
-use Rattle.fields.proofs.Laws.{slice-of}
+use Rattle.document_spec.specs.Library as Library
+use Rattle.document_spec.specs.Library.{at, Value, depthLine, kindLine, labelLine, valueLine, nodeLines, spell}
+use Rattle.document_spec.specs.Verdict.{firstLine, behindLine, Accepts}
+use Rattle.document_spec.proofs.Lines.{Line, line-first, line-behind}
+use Rattle.document_spec.proofs.Spelling.{nodes-line, depth-line, kind-line, label-line, value-line, depth-injective, kind-injective, label-injective, value-injective}
+use Rattle.document_spec.proofs.Binary.{depth-small}
+use Rattle.lexer.specs.declared.Ending.the-variants.{Next, Bad}
+use Rattle.lexer.specs.declared.Numeral.the-variants as Numerals
+use Rattle.lexer.specs.Reading.{Ended, NumberedLine}
+use Rattle.lexer.proofs.Laws.{slice-of}
 use Rattle.document.specs.declared.rules.Kind.{Kind}
 use Rattle.document.specs.declared.lines.KindLine.the-variants.{Is, NoKind}
 use Rattle.document.specs.Nodes.{kindOf, KindRead, IsLabel, IsValue}

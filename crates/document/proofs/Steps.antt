@@ -6,16 +6,16 @@ use lib.ListN.{length, drop, length-drop, length-append}
 use native.Mathlib.Omega.{arith}
 use Rattle.lists.specs.Text.{bytes}
 use Rattle.refusals.specs.Refusals.{lineForm, treeRule, First}
-use Rattle.library.specs.Library as Library
-use Rattle.library.specs.Library.{LabelRule, ValueRule, labelLine, valueLine}
-use Rattle.library.specs.Verdict.{behindLines, DepthIs, KindIs, LabelIs, ValueIs, Breaks, DocumentGround}
-use Rattle.library.specs.Fields.{Field, depth, kind, label, value, lineOf, Formed, Ruled}
-use Rattle.library.proofs.Good.{good-on, first-form, first-rule}
-use Rattle.library.proofs.Rules.{ruled-top, ruled-root, ruled-depth, ruled-kind, ruled-label, ruled-value}
-use Rattle.library.proofs.Cursor.{depth-here, kind-here, label-here, value-here, depth-split, kind-split, label-split, value-split}
-use Rattle.fields.specs.declared.Ending.the-variants.{Next, Bad}
-use Rattle.fields.specs.declared.Numeral.the-variants as Numerals
-use Rattle.fields.specs.Reading.{Ended, NumberedLine}
+use Rattle.document_spec.specs.Library as Library
+use Rattle.document_spec.specs.Library.{LabelRule, ValueRule, labelLine, valueLine}
+use Rattle.document_spec.specs.Verdict.{behindLines, DepthIs, KindIs, LabelIs, ValueIs, Breaks, DocumentGround}
+use Rattle.document_spec.specs.Fields.{Field, depth, kind, label, value, lineOf, Formed, Ruled}
+use Rattle.document_spec.proofs.Good.{good-on, first-form, first-rule}
+use Rattle.document_spec.proofs.Rules.{ruled-top, ruled-root, ruled-depth, ruled-kind, ruled-label, ruled-value}
+use Rattle.document_spec.proofs.Cursor.{depth-here, kind-here, label-here, value-here, depth-split, kind-split, label-split, value-split}
+use Rattle.lexer.specs.declared.Ending.the-variants.{Next, Bad}
+use Rattle.lexer.specs.declared.Numeral.the-variants as Numerals
+use Rattle.lexer.specs.Reading.{Ended, NumberedLine}
 use Rattle.document.specs.declared.rules.Kind.{Kind}
 use Rattle.document.specs.declared.rules.Node.{Node}
 use Rattle.document.specs.declared.lines.KindLine.the-variants.{Is, NoKind}

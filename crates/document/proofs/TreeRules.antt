@@ -10,10 +10,10 @@ use Rattle.lists.specs.Lists.{All}
 use Rattle.lists.specs.Text.{bytes, NameByte}
 use Rattle.limits.specs.Names.{Name}
 use Rattle.lists.proofs.Lists.{all-imp}
-use Rattle.fields.specs.Reading.{Spans}
-use Rattle.fields.proofs.Numbers.{before-lf}
-use Rattle.library.specs.Library as Library
-use Rattle.library.specs.Library.{element, attribute, text, DepthBehind, KindBehind, LabelRule, labelLine}
+use Rattle.lexer.specs.Reading.{Spans}
+use Rattle.lexer.proofs.Numbers.{before-lf}
+use Rattle.document_spec.specs.Library as Library
+use Rattle.document_spec.specs.Library.{element, attribute, text, DepthBehind, KindBehind, LabelRule, labelLine}
 use Rattle.document.specs.declared.rules.Kind.{Kind}
 use Rattle.document.specs.declared.rules.Node.{Node}
 use Rattle.document.specs.Nodes.{kindOf, Told, DepthRule, KindRule}

@@ -9,15 +9,15 @@ use native.Mathlib.Numerals.{add-one}
 use Rattle.limits.specs.Limits.{documentBytes, documentNodes}
 use Rattle.lists.specs.Text.{bytes}
 use Rattle.refusals.specs.Refusals.{lineForm, nodeCount, First}
-use Rattle.library.specs.Library as Library
-use Rattle.library.specs.Verdict.{CountIs, DocumentGround, Accepts, behindLines}
-use Rattle.library.proofs.Lines.{line-none}
-use Rattle.library.proofs.Cursor.{count-here, count-split}
-use Rattle.library.proofs.Grounds.{first-uncounted, first-number}
-use Rattle.library.proofs.Good.{good-start, first-extra}
-use Rattle.library.proofs.Accepted.{good-accepts}
-use Rattle.fields.specs.declared.Numeral.the-variants.{Value, NoNumeral}
-use Rattle.fields.specs.Reading.{NumberedLine}
+use Rattle.document_spec.specs.Library as Library
+use Rattle.document_spec.specs.Verdict.{CountIs, DocumentGround, Accepts, behindLines}
+use Rattle.document_spec.proofs.Lines.{line-none}
+use Rattle.document_spec.proofs.Cursor.{count-here, count-split}
+use Rattle.document_spec.proofs.Grounds.{first-uncounted, first-number}
+use Rattle.document_spec.proofs.Good.{good-start, first-extra}
+use Rattle.document_spec.proofs.Accepted.{good-accepts}
+use Rattle.lexer.specs.declared.Numeral.the-variants.{Value, NoNumeral}
+use Rattle.lexer.specs.Reading.{NumberedLine}
 use Rattle.document.specs.declared.rules.Node.{Node}
 use Rattle.document.specs.Check.{Cursor, Says, Before}
 

@@ -5,9 +5,9 @@ use mathlib.Core.List.{List}
 use lib.ListN.{length, drop}
 use Rattle.limits.specs.Limits.{depthDigits}
 use Rattle.refusals.specs.Refusals.{documentLength, lineForm, nodeCount, treeRule, First}
-use Rattle.library.specs.Library as Library
-use Rattle.library.specs.Verdict.{behindLines, DepthIs, KindIs, DocumentGround, Accepts}
-use Rattle.library.specs.Good.{Good}
+use Rattle.document_spec.specs.Library as Library
+use Rattle.document_spec.specs.Verdict.{behindLines, DepthIs, KindIs, DocumentGround, Accepts}
+use Rattle.document_spec.specs.Good.{Good}
 use Rattle.document.specs.declared.Verdict.{Verdict}
 use Rattle.document.specs.declared.Verdict.the-variants.{Accepted, Length, Form, Count, Tree}
 use Rattle.document.specs.declared.rules.Node.{Node}

@@ -4,9 +4,9 @@ use mathlib.Core.Path.{_≡_}
 use mathlib.Core.List.{List}
 use lib.ListN.{length, drop}
 use lib.Seq.{slice}
-use Rattle.library.specs.Library as Library
-use Rattle.library.specs.Library.{at, nodeLines}
-use Rattle.library.specs.Verdict.{Accepts}
+use Rattle.document_spec.specs.Library as Library
+use Rattle.document_spec.specs.Library.{at, nodeLines}
+use Rattle.document_spec.specs.Verdict.{Accepts}
 use Rattle.document.specs.declared.entries.Entry.{Entry}
 use Rattle.document.specs.Nodes.{kindOf}
 

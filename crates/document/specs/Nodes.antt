@@ -5,9 +5,9 @@ use mathlib.Core.Bool.{Bool, true, false}
 use mathlib.Core.List.{List, _++_}
 use lib.ListN.{drop}
 use Rattle.limits.specs.Names.{Name}
-use Rattle.fields.specs.Reading.{Spans}
-use Rattle.library.specs.Library.{element, attribute, text, DepthBehind, KindBehind, Value, kindLine, labelLine, valueLine}
-use Rattle.library.specs.Library as Library
+use Rattle.lexer.specs.Reading.{Spans}
+use Rattle.document_spec.specs.Library.{element, attribute, text, DepthBehind, KindBehind, Value, kindLine, labelLine, valueLine}
+use Rattle.document_spec.specs.Library as Library
 use Rattle.document.specs.declared.rules.Kind.{Kind}
 use Rattle.document.specs.declared.rules.Kind.the-variants.{Element, Attribute, Text}
 use Rattle.document.specs.declared.rules.Node.{Node}

@@ -4,14 +4,14 @@ use crate::lines::read_kind;
 use crate::lines::read_label;
 use crate::lines::read_value;
 use crate::rules::Kind;
-use fields::Ending;
-use fields::Numeral;
-use fields::number_line;
+use lexer::Ending;
+use lexer::Numeral;
+use lexer::number_line;
 use limits::Document;
 ghost use mathlib.Core.List.{List};
 ghost use Prim.Native.Nat.{ℕ};
-ghost use Rattle.library.specs.Library as Library;
-ghost use Rattle.library.specs.Verdict.{Accepts};
+ghost use Rattle.document_spec.specs.Library as Library;
+ghost use Rattle.document_spec.specs.Verdict.{Accepts};
 ghost use Rattle.document.specs.Entries.{Start, Stands, IsEntry};
 
 // The bytes from one offset up to another.

@@ -4,8 +4,8 @@ mod lines;
 mod nodes;
 pub mod rules;
 
-use fields::Numeral;
-use fields::number_line;
+use lexer::Numeral;
+use lexer::number_line;
 use limits::Document;
 use nodes::Step;
 use nodes::node;

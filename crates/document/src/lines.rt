@@ -1,12 +1,12 @@
 // The kind, label and value lines of a node, at an offset.
 use crate::rules::Kind;
-use fields::Class;
-use fields::Ending;
+use lexer::Class;
+use lexer::Ending;
 use limits::Document;
 ghost use mathlib.Core.Path.{_≡_};
 ghost use Prim.Native.Nat.{_≤_};
 ghost use lib.ListN.{length};
-ghost use Rattle.fields.specs.Reading.{Ended};
+ghost use Rattle.lexer.specs.Reading.{Ended};
 ghost use Rattle.document.specs.Nodes.{KindRead, IsLabel, IsValue};
 
 // A kind and the offset behind its line, or that no kind line stands there.
@@ -19,15 +19,15 @@ pub fn read_kind(s: &[u8], at: usize) -> KindLine
     requires { ⌜ at ≤ length (now s) ⌝ }
     ensures { λ r. ⌜ KindRead (now (s .entry)) at r ⌝ }
 {
-    let element = fields::read_key(s, at, b"kind=e\n");
+    let element = lexer::read_key(s, at, b"kind=e\n");
     if let Ending::Next(j) = element {
         return KindLine::Is(Kind::Element, j);
     }
-    let attribute = fields::read_key(s, at, b"kind=a\n");
+    let attribute = lexer::read_key(s, at, b"kind=a\n");
     if let Ending::Next(j) = attribute {
         return KindLine::Is(Kind::Attribute, j);
     }
-    let text = fields::read_key(s, at, b"kind=t\n");
+    let text = lexer::read_key(s, at, b"kind=t\n");
     if let Ending::Next(j) = text {
         return KindLine::Is(Kind::Text, j);
     }
@@ -39,7 +39,7 @@ pub fn read_label(s: &[u8], at: usize) -> Ending
     requires { ⌜ at ≤ length (now s) ⌝ }
     ensures { λ r. ⌜ Ended IsLabel (now (s .entry)) at r ⌝ }
 {
-    let r = fields::run_line(s, at, b"label=", Class::Label, Document::MAX_LABEL);
+    let r = lexer::run_line(s, at, b"label=", Class::Label, Document::MAX_LABEL);
     let Ending::Next(j) = r else {
         return Ending::Bad;
     };
@@ -57,5 +57,5 @@ pub fn read_value(s: &[u8], at: usize) -> Ending
     requires { ⌜ at ≤ length (now s) ⌝ }
     ensures { λ r. ⌜ Ended IsValue (now (s .entry)) at r ⌝ }
 {
-    fields::run_line(s, at, b"value=", Class::Text, Document::MAX_VALUE)
+    lexer::run_line(s, at, b"value=", Class::Text, Document::MAX_VALUE)
 }

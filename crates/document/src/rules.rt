@@ -1,5 +1,5 @@
 // The tree rules of a line, from the node before it.
-use fields::Ending;
+use lexer::Ending;
 ghost use mathlib.Core.Path.{_≡_};
 ghost use mathlib.Core.List.{List, _++_};
 ghost use Prim.Native.Nat.{ℕ, _+_, _≤_, _<_, _^_};
@@ -7,7 +7,7 @@ ghost use lib.ListN.{length, drop};
 ghost use Rattle.limits.specs.Limits.{documentBytes, depthDigits};
 ghost use Rattle.limits.specs.Names.{Name};
 ghost use Rattle.document.specs.Nodes.{Told, kindOf, DepthRule, KindRule};
-ghost use Rattle.library.specs.Library.{DepthBehind, KindBehind, LabelRule, ValueRule, labelLine};
+ghost use Rattle.document_spec.specs.Library.{DepthBehind, KindBehind, LabelRule, ValueRule, labelLine};
 
 pub enum Kind {
     Element,
@@ -45,7 +45,7 @@ fn depth_behind(d: usize, k: Kind, e: usize) -> bool
 // Whether an attribute of depth `e` may stand behind a node of depth `d` and kind `k`.
 fn attribute_behind(d: usize, k: Kind, e: usize) -> bool
     requires { ⌜ d < 10 ^ depthDigits ⌝ }
-    ensures { λ r. ⌜ Told (KindBehind d (kindOf k) e Rattle.library.specs.Library.attribute) r ⌝ }
+    ensures { λ r. ⌜ Told (KindBehind d (kindOf k) e Rattle.document_spec.specs.Library.attribute) r ⌝ }
 {
     match k {
         Kind::Element => { if e == d + 1 { true } else { false } }
@@ -101,7 +101,7 @@ pub fn label_fits(s: &[u8], at: usize, k: Kind) -> bool
         Kind::Element => true,
         Kind::Attribute => true,
         Kind::Text => {
-            let named = fields::read_key(s, at, b"label=text\n");
+            let named = lexer::read_key(s, at, b"label=text\n");
             match named {
                 Ending::Next(_) => true,
                 Ending::Bad => false,

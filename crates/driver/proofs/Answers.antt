@@ -10,19 +10,19 @@ use Rattle.limits.specs.Limits.{scratchWords}
 use Rattle.bits.specs.Sets.{bit, and}
 use Rattle.xpath.specs.Syntax.{Test, XPath, stay}
 use Rattle.xpath.specs.Meaning.{Holds}
-use Rattle.library.specs.Library.{Node}
-use Rattle.library.specs.Binary.{treeOf}
-use Rattle.library.proofs.Binary.{tree-formed}
-use Rattle.grammar.proofs.Bytes.{clash}
-use Rattle.links.specs.Table.{COLUMNS, word}
-use Rattle.columns.specs.Columns.{held}
-use Rattle.numbering.specs.Tests.{testsOf, pathTests, test}
-use Rattle.numbering.specs.Numbering.{Brackets}
-use Rattle.walks.specs.declared.Machine.{Machine}
+use Rattle.document_spec.specs.Library.{Node}
+use Rattle.document_spec.specs.Binary.{treeOf}
+use Rattle.document_spec.proofs.Binary.{tree-formed}
+use Rattle.rule_spec.proofs.Bytes.{clash}
+use Rattle.table.specs.Table.{COLUMNS, word}
+use Rattle.test_bits.specs.Columns.{held}
+use Rattle.test_numbers.specs.Tests.{testsOf, pathTests, test}
+use Rattle.test_numbers.specs.Numbering.{Brackets}
+use Rattle.machine.specs.declared.Machine.{Machine}
 use Rattle.loops.specs.Loops.{Stage}
-use Rattle.walks.specs.Meaning.{IsStep, IsMachine}
+use Rattle.machine.specs.Meaning.{IsStep, IsMachine}
 use Rattle.plain.specs.Plain.{Answered}
-use Rattle.drawing.specs.Drawing.{Within, Copied, Stayed}
+use Rattle.staging.specs.Drawing.{Within, Copied, Stayed}
 use Rattle.driver.specs.Tasks.{Scene, Task, Tells, Apart, Answers}
 use Rattle.driver.proofs.Frames.{apart-then, within-apart, held-apart}
 use Rattle.driver.proofs.Parts.{part, back, back-apart, back-word}

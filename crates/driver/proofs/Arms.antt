@@ -11,23 +11,23 @@ use lib.Seq.{slice}
 use Rattle.lists.specs.Text.{bytes}
 use Rattle.xpath.specs.Syntax.{Op, Test, named, not, and, or, compare, compareTo, XPath}
 use Rattle.xpath.specs.Meaning.{Holds}
-use Rattle.library.specs.Library.{Node}
-use Rattle.library.specs.Library as Library
-use Rattle.library.specs.Binary.{treeOf}
-use Rattle.grammar.specs.Spelling.{spellTest}
-use Rattle.grammar.proofs.Reading.{test-head}
-use Rattle.fields.proofs.Laws.{slice-of}
-use Rattle.links.specs.Table.{Room}
+use Rattle.document_spec.specs.Library.{Node}
+use Rattle.document_spec.specs.Library as Library
+use Rattle.document_spec.specs.Binary.{treeOf}
+use Rattle.rule_spec.specs.Spelling.{spellTest}
+use Rattle.rule_spec.proofs.Reading.{test-head}
+use Rattle.lexer.proofs.Laws.{slice-of}
+use Rattle.table.specs.Table.{Room}
 use Rattle.ranks.specs.Ranks.{Tabled}
-use Rattle.parts.specs.Standing.{Spans, TestAt}
-use Rattle.parts.specs.Kinds.{testKind}
-use Rattle.parts.specs.declared.kinds.TestKind.{TestKind}
-use Rattle.parts.specs.declared.kinds.TestKind.the-variants.{Named, Not, And, Or, Comparison}
-use Rattle.parts.proofs.Inner.{spans-next}
-use Rattle.columns.specs.Columns.{held, Settled}
-use Rattle.numbering.specs.Tests.{testsOf, test}
-use Rattle.numbering.proofs.Counts.{tests-few}
-use Rattle.numbering.proofs.Following.{inner-not, inner-two}
+use Rattle.rule_parts.specs.Standing.{Spans, TestAt}
+use Rattle.rule_parts.specs.Kinds.{testKind}
+use Rattle.rule_parts.specs.declared.kinds.TestKind.{TestKind}
+use Rattle.rule_parts.specs.declared.kinds.TestKind.the-variants.{Named, Not, And, Or, Comparison}
+use Rattle.rule_parts.proofs.Inner.{spans-next}
+use Rattle.test_bits.specs.Columns.{held, Settled}
+use Rattle.test_numbers.specs.Tests.{testsOf, test}
+use Rattle.test_numbers.proofs.Counts.{tests-few}
+use Rattle.test_numbers.proofs.Following.{inner-not, inner-two}
 use Rattle.driver.specs.Tasks.{Shape, Task, Tells, Decided}
 use Rattle.driver.proofs.Frames.{scene-tabled}
 use Rattle.driver.proofs.Answers.{some-nodes}

@@ -10,21 +10,21 @@ use lib.Seq.{slice}
 use Rattle.lists.specs.Text.{bytes}
 use Rattle.limits.specs.Limits.{scratchWords}
 use Rattle.xpath.specs.Syntax.{Op, Test, compare, compareTo, XPath, empty, size}
-use Rattle.library.specs.Library.{Node}
-use Rattle.parts.specs.Standing.{Spans, TestAt, PathAt}
-use Rattle.parts.specs.Middles.{FirstSide, Parted}
-use Rattle.parts.specs.declared.Middle.{Middle}
-use Rattle.parts.specs.declared.kinds.Operator.{Operator}
-use Rattle.parts.proofs.Inner.{spans-split, spans-next}
+use Rattle.document_spec.specs.Library.{Node}
+use Rattle.rule_parts.specs.Standing.{Spans, TestAt, PathAt}
+use Rattle.rule_parts.specs.Middles.{FirstSide, Parted}
+use Rattle.rule_parts.specs.declared.Middle.{Middle}
+use Rattle.rule_parts.specs.declared.kinds.Operator.{Operator}
+use Rattle.rule_parts.proofs.Inner.{spans-split, spans-next}
 use Rattle.automaton.specs.Compared.{TwoPaths}
-use Rattle.numbering.specs.Tests.{testsOf, pathTests, test, Light}
-use Rattle.numbering.specs.Numbering.{Brackets, TwoNumbered, NumbersTwo, OneNumbered, NumbersOne}
-use Rattle.numbering.proofs.Counts.{tests-few}
-use Rattle.numbering.proofs.Lights.{tests-light}
-use Rattle.numbering.proofs.Following.{room-compare, inner-compare, room-compareTo, inner-compareTo}
-use Rattle.machines.specs.Machines.{Machined, OnePath, MachinedAlone}
-use Rattle.walks.specs.declared.Machine.{Machine}
-use Rattle.walks.specs.Meaning.{IsMachine}
+use Rattle.test_numbers.specs.Tests.{testsOf, pathTests, test, Light}
+use Rattle.test_numbers.specs.Numbering.{Brackets, TwoNumbered, NumbersTwo, OneNumbered, NumbersOne}
+use Rattle.test_numbers.proofs.Counts.{tests-few}
+use Rattle.test_numbers.proofs.Lights.{tests-light}
+use Rattle.test_numbers.proofs.Following.{room-compare, inner-compare, room-compareTo, inner-compareTo}
+use Rattle.compiler.specs.Machines.{Machined, OnePath, MachinedAlone}
+use Rattle.machine.specs.declared.Machine.{Machine}
+use Rattle.machine.specs.Meaning.{IsMachine}
 use Rattle.driver.specs.Tasks.{Task, Paths, Constant}
 use Rattle.driver.proofs.Arms.{spans-slice}
 

@@ -12,14 +12,14 @@ use Rattle.bits.specs.Sets.{bit, and}
 use Rattle.xpath.specs.Syntax.{Op, Test, XPath, stay, steps}
 use Rattle.xpath.specs.Meaning.{Less, Rel, Holds}
 use Rattle.xpath.specs.Tree.{Child}
-use Rattle.library.specs.Library.{Node}
-use Rattle.library.specs.Binary.{stringOf, treeOf}
-use Rattle.links.specs.Table.{COLUMNS, LEFT, RANK, PARENT, column, word}
-use Rattle.links.specs.Links.{Points, IsParent}
-use Rattle.columns.specs.Columns.{held}
-use Rattle.walks.specs.Part.{STAYS, HIT}
-use Rattle.walks.specs.Meaning.{IsStep, Drawn, Judges}
-use Rattle.drawing.specs.Drawing.{Within, Copied, Stayed, Judged}
+use Rattle.document_spec.specs.Library.{Node}
+use Rattle.document_spec.specs.Binary.{stringOf, treeOf}
+use Rattle.table.specs.Table.{COLUMNS, LEFT, RANK, PARENT, column, word}
+use Rattle.table.specs.Links.{Points, IsParent}
+use Rattle.test_bits.specs.Columns.{held}
+use Rattle.machine.specs.Part.{STAYS, HIT}
+use Rattle.machine.specs.Meaning.{IsStep, Drawn, Judges}
+use Rattle.staging.specs.Drawing.{Within, Copied, Stayed, Judged}
 use Rattle.driver.specs.Tasks.{Scene}
 use Rattle.driver.proofs.Parts.{part, part-word}
 

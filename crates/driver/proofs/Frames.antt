@@ -12,14 +12,14 @@ use Rattle.lists.proofs.Numerals.{binary-above}
 use Rattle.limits.specs.Limits.{scratchWords}
 use Rattle.bits.specs.Sets.{bit}
 use Rattle.xpath.specs.Meaning.{Less}
-use Rattle.library.specs.Library.{Node}
-use Rattle.library.specs.Binary.{stringOf}
-use Rattle.links.specs.Table.{COLUMNS, RANK, word}
-use Rattle.links.specs.Links.{Linked}
-use Rattle.links.proofs.Linked.{linked-same}
+use Rattle.document_spec.specs.Library.{Node}
+use Rattle.document_spec.specs.Binary.{stringOf}
+use Rattle.table.specs.Table.{COLUMNS, RANK, word}
+use Rattle.table.specs.Links.{Linked}
+use Rattle.table.proofs.Linked.{linked-same}
 use Rattle.ranks.specs.Ranks.{Ranked, Tabled}
-use Rattle.columns.specs.Columns.{held}
-use Rattle.drawing.specs.Drawing.{Within}
+use Rattle.test_bits.specs.Columns.{held}
+use Rattle.staging.specs.Drawing.{Within}
 use Rattle.driver.specs.Tasks.{Scene, Apart}
 
 -- the scratch's own words are at least 192 for each node

@@ -11,21 +11,21 @@ use Rattle.limits.specs.Limits.{scratchWords}
 use Rattle.xpath.specs.Syntax.{Op, Test, compare, compareTo, XPath, empty}
 use Rattle.xpath.specs.Tree.{Tree}
 use Rattle.xpath.specs.Meaning.{Holds}
-use Rattle.library.specs.Library.{Node}
-use Rattle.library.specs.Binary.{treeOf}
-use Rattle.links.specs.Table.{COLUMNS}
-use Rattle.parts.specs.Kinds.{operator}
-use Rattle.parts.specs.declared.kinds.Operator.{Operator}
-use Rattle.numbering.specs.Tests.{testsOf, test}
-use Rattle.numbering.specs.Numbering.{NumbersTwo, NumbersOne}
-use Rattle.machines.specs.Machines.{Machined, MachinedAlone}
-use Rattle.walks.specs.declared.Machine.{Machine}
-use Rattle.walks.specs.Meaning.{Judges}
+use Rattle.document_spec.specs.Library.{Node}
+use Rattle.document_spec.specs.Binary.{treeOf}
+use Rattle.table.specs.Table.{COLUMNS}
+use Rattle.rule_parts.specs.Kinds.{operator}
+use Rattle.rule_parts.specs.declared.kinds.Operator.{Operator}
+use Rattle.test_numbers.specs.Tests.{testsOf, test}
+use Rattle.test_numbers.specs.Numbering.{NumbersTwo, NumbersOne}
+use Rattle.compiler.specs.Machines.{Machined, MachinedAlone}
+use Rattle.machine.specs.declared.Machine.{Machine}
+use Rattle.machine.specs.Meaning.{Judges}
 use Rattle.loops.specs.Loops.{Stage}
 use Rattle.plain.specs.Plain.{Answered}
 use Rattle.evaluators.specs.Evaluators.{PartRoom, Staged, Adds, Compared, Hit}
 use Rattle.evaluators.specs.declared.Evaluator.{Evaluator}
-use Rattle.drawing.specs.Drawing.{Copied, Stayed, Judged}
+use Rattle.staging.specs.Drawing.{Copied, Stayed, Judged}
 use Rattle.driver.specs.Tasks.{Scene, Task, Paths, Constant, Apart, Answers, Compares}
 use Rattle.driver.proofs.Frames.{scratch-room, scene-same, apart-then, within-apart}
 use Rattle.driver.proofs.Parts.{part, part-long}

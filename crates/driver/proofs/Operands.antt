@@ -9,15 +9,15 @@ use lib.ListN.{length, drop, length-append}
 use lib.Seq.{slice}
 use Rattle.lists.specs.Text.{bytes}
 use Rattle.xpath.specs.Syntax.{Op, Test, compare, compareTo, XPath, empty, one, seq, union, star, toLeft, toRight, fromLeft, fromRight, stay}
-use Rattle.library.specs.Library.{Node}
-use Rattle.grammar.specs.Spelling.{spellPath, spellStep}
+use Rattle.document_spec.specs.Library.{Node}
+use Rattle.rule_spec.specs.Spelling.{spellPath, spellStep}
 use Rattle.rule.specs.Readers.{Lacks, Stood}
-use Rattle.parts.specs.Standing.{Spans, TestAt, PathAt}
-use Rattle.parts.specs.Middles.{Parted}
-use Rattle.parts.specs.declared.Middle.{Middle}
-use Rattle.parts.specs.declared.kinds.TestKind.the-variants.{Comparison}
-use Rattle.parts.proofs.Inner.{spans-split, spans-next}
-use Rattle.numbering.specs.Tests.{testsOf, test}
+use Rattle.rule_parts.specs.Standing.{Spans, TestAt, PathAt}
+use Rattle.rule_parts.specs.Middles.{Parted}
+use Rattle.rule_parts.specs.declared.Middle.{Middle}
+use Rattle.rule_parts.specs.declared.kinds.TestKind.the-variants.{Comparison}
+use Rattle.rule_parts.proofs.Inner.{spans-split, spans-next}
+use Rattle.test_numbers.specs.Tests.{testsOf, test}
 use Rattle.driver.specs.Tasks.{Shape, Task, Paths, Constant}
 use Rattle.driver.proofs.Arms.{spans-slice}
 

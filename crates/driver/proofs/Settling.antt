@@ -10,14 +10,14 @@ use lib.ListN.{length, getD}
 use Rattle.limits.specs.Limits.{scratchWords}
 use Rattle.xpath.specs.Syntax.{Test}
 use Rattle.xpath.specs.Meaning.{Holds}
-use Rattle.library.specs.Library.{Node}
-use Rattle.library.specs.Binary.{treeOf}
-use Rattle.grammar.specs.Verdict.{Accepts}
-use Rattle.links.specs.Table.{COLUMNS, word}
-use Rattle.parts.specs.Standing.{TestAt}
-use Rattle.columns.specs.Columns.{held, Settled}
-use Rattle.numbering.specs.Tests.{testsOf, test}
-use Rattle.numbering.specs.Numbering.{Listed}
+use Rattle.document_spec.specs.Library.{Node}
+use Rattle.document_spec.specs.Binary.{treeOf}
+use Rattle.rule_spec.specs.Verdict.{Accepts}
+use Rattle.table.specs.Table.{COLUMNS, word}
+use Rattle.rule_parts.specs.Standing.{TestAt}
+use Rattle.test_bits.specs.Columns.{held, Settled}
+use Rattle.test_numbers.specs.Tests.{testsOf, test}
+use Rattle.test_numbers.specs.Numbering.{Listed}
 use Rattle.driver.specs.Tasks.{Scene, Tells, Task, Apart, Answers, Decided, Settling}
 use Rattle.driver.proofs.Frames.{scratch-room, held-apart, scene-same}
 

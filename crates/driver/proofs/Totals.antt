@@ -6,13 +6,13 @@ use mathlib.Core.List.{List, []}
 use lib.ListN.{length, drop}
 use Rattle.xpath.specs.Syntax.{Test}
 use Rattle.xpath.specs.Tree.{Tree, WellFormed}
-use Rattle.library.specs.Library.{Node}
-use Rattle.library.specs.Binary.{treeOf}
-use Rattle.library.proofs.Binary.{tree-formed}
-use Rattle.grammar.specs.Verdict.{Accepts}
-use Rattle.numbering.specs.Tests.{testsOf, test}
-use Rattle.numbering.specs.Owned.{own}
-use Rattle.numbering.proofs.Counted.{counted-end, counted-own, counted-no-pair, counted-small}
+use Rattle.document_spec.specs.Library.{Node}
+use Rattle.document_spec.specs.Binary.{treeOf}
+use Rattle.document_spec.proofs.Binary.{tree-formed}
+use Rattle.rule_spec.specs.Verdict.{Accepts}
+use Rattle.test_numbers.specs.Tests.{testsOf, test}
+use Rattle.test_numbers.specs.Owned.{own}
+use Rattle.test_numbers.proofs.Counted.{counted-end, counted-own, counted-no-pair, counted-small}
 use Rattle.evaluators.specs.declared.Evaluator.{Evaluator}
 use Rattle.evaluators.specs.declared.Evaluator.the-variants.{Plain, Snippets}
 use Rattle.evaluators.specs.Evaluators.{Adds}

@@ -11,21 +11,21 @@ use Rattle.xpath.specs.Syntax.{Op, Test, named, not, and, or, compare, compareT
 use Rattle.xpath.specs.Tree.{Tree}
 use Rattle.xpath.specs.Meaning.{Holds}
 use Rattle.snippets.specs.Count.{Counted}
-use Rattle.library.specs.Library.{Node}
-use Rattle.library.specs.Binary.{treeOf}
-use Rattle.library.specs.Verdict as Document
-use Rattle.grammar.specs.Verdict as Rule
-use Rattle.links.specs.Table.{COLUMNS, word}
-use Rattle.links.specs.Links.{Linked}
+use Rattle.document_spec.specs.Library.{Node}
+use Rattle.document_spec.specs.Binary.{treeOf}
+use Rattle.document_spec.specs.Verdict as Document
+use Rattle.rule_spec.specs.Verdict as Rule
+use Rattle.table.specs.Table.{COLUMNS, word}
+use Rattle.table.specs.Links.{Linked}
 use Rattle.ranks.specs.Ranks.{Ranked}
-use Rattle.parts.specs.Standing.{TestAt, PathAt}
-use Rattle.parts.specs.Kinds.{operator}
-use Rattle.parts.specs.declared.kinds.Operator.{Operator}
-use Rattle.parts.specs.declared.kinds.TestKind.{TestKind}
-use Rattle.parts.specs.declared.kinds.TestKind.the-variants.{Named, Not, And, Or, Comparison}
-use Rattle.columns.specs.Columns.{TESTS, held}
-use Rattle.numbering.specs.Tests.{testsOf, test}
-use Rattle.numbering.specs.Owned.{owned}
+use Rattle.rule_parts.specs.Standing.{TestAt, PathAt}
+use Rattle.rule_parts.specs.Kinds.{operator}
+use Rattle.rule_parts.specs.declared.kinds.Operator.{Operator}
+use Rattle.rule_parts.specs.declared.kinds.TestKind.{TestKind}
+use Rattle.rule_parts.specs.declared.kinds.TestKind.the-variants.{Named, Not, And, Or, Comparison}
+use Rattle.test_bits.specs.Columns.{TESTS, held}
+use Rattle.test_numbers.specs.Tests.{testsOf, test}
+use Rattle.test_numbers.specs.Owned.{owned}
 use Rattle.evaluators.specs.declared.Evaluator.{Evaluator}
 use Rattle.evaluators.specs.Evaluators.{Adds}
 use Rattle.evaluators.specs.declared.Evaluator.the-variants.{Plain, Snippets}

@@ -1,25 +1,25 @@
 // A comparison: what its evaluator needs is drawn in its part of the scratch, and that part alone is lent to it.
-use drawing::draw;
-use drawing::draw_hits;
-use drawing::draw_tests;
+use compiler::machine_of;
+use compiler::machine_of_one;
 use evaluators::Evaluator;
 use evaluators::compare_constant;
 use evaluators::compare_paths;
 use limits::Scratch;
-use links::table::Table;
-use machines::machine_of;
-use machines::machine_of_one;
-use numbering::bracket_tests;
-use numbering::bracket_tests_of_one;
-use parts::kinds::Operator;
-use parts::parted;
-use parts::skip_test;
 use rule::tokens::stands;
+use rule_parts::kinds::Operator;
+use rule_parts::parted;
+use rule_parts::skip_test;
+use staging::draw;
+use staging::draw_hits;
+use staging::draw_tests;
+use table::table::Table;
+use test_numbers::bracket_tests;
+use test_numbers::bracket_tests_of_one;
 ghost use mathlib.Core.List.{List};
 ghost use Rattle.xpath.specs.Syntax.{Test};
-ghost use Rattle.library.specs.Library as Library;
-ghost use Rattle.parts.specs.declared.kinds.TestKind.the-variants.{Comparison};
-ghost use Rattle.numbering.specs.Tests.{testsOf, test};
+ghost use Rattle.document_spec.specs.Library as Library;
+ghost use Rattle.rule_parts.specs.declared.kinds.TestKind.the-variants.{Comparison};
+ghost use Rattle.test_numbers.specs.Tests.{testsOf, test};
 ghost use Rattle.driver.specs.Tasks.{Task, Shape, Paths, Constant, Answers, Compares};
 
 // Two paths, the first right behind the comparison's bracket. Their evaluator gets the middle of the scratch.

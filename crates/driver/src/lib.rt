@@ -2,25 +2,25 @@
 // Which evaluation it is goes along as an argument, and shows only where `evaluators` answers a comparison.
 mod comparisons;
 
-use columns::labels::named;
-use columns::passes::both;
-use columns::passes::deny;
-use columns::passes::either;
-use columns::passes::take;
 use comparisons::compare;
 use evaluators::Evaluator;
 use limits::Rule;
-use numbering::second_test;
-use numbering::tests_of;
-use parts::kinds::TestKind;
-use parts::kinds::test_kind;
-use parts::skip_test;
+use rule_parts::kinds::TestKind;
+use rule_parts::kinds::test_kind;
+use rule_parts::skip_test;
+use test_bits::labels::named;
+use test_bits::passes::both;
+use test_bits::passes::deny;
+use test_bits::passes::either;
+use test_bits::passes::take;
+use test_numbers::second_test;
+use test_numbers::tests_of;
 ghost use mathlib.Core.List.{List};
 ghost use Rattle.xpath.specs.Syntax.{Test};
-ghost use Rattle.library.specs.Library as Library;
-ghost use Rattle.grammar.specs.Verdict as Rule;
-ghost use Rattle.parts.specs.declared.kinds.TestKind.the-variants.{Comparison};
-ghost use Rattle.numbering.specs.Tests.{testsOf, test};
+ghost use Rattle.document_spec.specs.Library as Library;
+ghost use Rattle.rule_spec.specs.Verdict as Rule;
+ghost use Rattle.rule_parts.specs.declared.kinds.TestKind.the-variants.{Comparison};
+ghost use Rattle.test_numbers.specs.Tests.{testsOf, test};
 ghost use Rattle.driver.specs.Tasks.{Scene, Task, Shape, Settles, Evaluates};
 
 // The comparison that stands at an offset is test `k`. The number of its snippets is handed back.

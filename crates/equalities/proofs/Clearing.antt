@@ -8,7 +8,7 @@ use native.Mathlib.Nat.{eq-or-lt-of-le, mul-le-mul-right, div-add-mod', div-lt-i
 use native.Mathlib.Omega.{arith}
 use lib.ListN.{length, getD, set, length-set}
 use lib.Seq.{getD-set-same, getD-set-other}
-use Rattle.groups.specs.Groups.{Aside, Rest}
+use Rattle.first_snippets.specs.Groups.{Aside, Rest}
 use Rattle.equalities.specs.Steps.{Zeroed, rowsAt, Cleared, Empty}
 
 -- ── Words from an offset on ──

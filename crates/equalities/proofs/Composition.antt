@@ -21,25 +21,25 @@ use Rattle.snippets.specs.Direct.{Direct}
 use Rattle.snippets.proofs.Settles.{sound, yielded-down}
 use Rattle.snippets.proofs.Counting.{down-inside, ends-small}
 use Rattle.snippets.proofs.Direct.{first-iff, yielded-iff}
-use Rattle.links.specs.Table.{word}
-use Rattle.walks.specs.declared.Machine.{Machine}
-use Rattle.walks.specs.Part.{STAYS, ANSWER}
+use Rattle.table.specs.Table.{word}
+use Rattle.machine.specs.declared.Machine.{Machine}
+use Rattle.machine.specs.Part.{STAYS, ANSWER}
 use Rattle.matrices.specs.Matrices.{Related}
 use Rattle.loops.specs.Loops.{Stage, Loops, Looped}
 use Rattle.loops.proofs.Kept.{stage-kept}
 use Rattle.powers.specs.Powers.{BLOCKS, snippetAt, Powers, Powered}
 use Rattle.powers.proofs.Kept.{ladder-of}
-use Rattle.pairs.specs.Settled.{Settled}
-use Rattle.pairs.specs.Settled as pairs
-use Rattle.pairs.proofs.Finding.{answers-hold}
+use Rattle.settling.specs.Settled.{Settled}
+use Rattle.settling.specs.Settled as pairs
+use Rattle.settling.proofs.Finding.{answers-hold}
 use Rattle.skeletons.specs.Shape.{Shape}
 use Rattle.skeletons.specs.Skeletons.{Bucketed}
 use Rattle.halving.specs.Halving.{Family, Inside, Within, Sets, Marked, Topped, Halved, Halving, Counts}
 use Rattle.halving.proofs.Families.{topped-of, sets-marked, halved-yielded, yielded-halved}
 use Rattle.halving.proofs.Counting.{counts-sets}
-use Rattle.groups.specs.Groups.{Enough, Sizes, Rest, Gains, Base, AddedAll}
-use Rattle.groups.proofs.Rest.{rest-within, powers-rest, loops-rest, stage-rest, stage-shape, sizes-rest}
-use Rattle.groups.proofs.Lengths.{exponent-below}
+use Rattle.first_snippets.specs.Groups.{Enough, Sizes, Rest, Gains, Base, AddedAll}
+use Rattle.first_snippets.proofs.Rest.{rest-within, powers-rest, loops-rest, stage-rest, stage-shape, sizes-rest}
+use Rattle.first_snippets.proofs.Lengths.{exponent-below}
 use Rattle.equalities.specs.Equalities.{Answers, Evaluated}
 use Rattle.equalities.specs.Steps.{Cleared, Empty, Founded, Prepares, FromFirst, Gathers}
 use Rattle.equalities.proofs.Clearing.{cleared-empty, cleared-rest}

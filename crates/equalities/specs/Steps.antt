@@ -11,11 +11,11 @@ use Rattle.xpath.specs.Tree.{Tree}
 use Rattle.snippets.specs.Snippets.{Yielded}
 use Rattle.snippets.specs.Count.{IsSnippet}
 use Rattle.snippets.specs.Direct.{Direct}
-use Rattle.walks.specs.declared.Machine.{Machine}
+use Rattle.machine.specs.declared.Machine.{Machine}
 use Rattle.loops.specs.Loops.{Stage, Loops}
 use Rattle.powers.specs.Powers.{BLOCKS, snippetAt, Powers}
-use Rattle.pairs.specs.Settled.{Marked}
-use Rattle.groups.specs.Groups.{Enough}
+use Rattle.settling.specs.Settled.{Marked}
+use Rattle.first_snippets.specs.Groups.{Enough}
 
 -- ── Rows without snippets ──
 -- the first k words from an offset on become 0

@@ -2,14 +2,14 @@
 mod clear;
 
 use clear::clear_snippets;
-use groups::add_groups;
+use first_snippets::add_groups;
 use halving::count;
 use halving::halve;
 use loops::find_loops;
-use pairs::settle;
+use machine::Machine;
 use powers::find_powers;
+use settling::settle;
 use skeletons::buckets::buckets;
-use walks::Machine;
 ghost use Prim.Native.Nat.{_+_, _*_, _≤_, _<_};
 ghost use lib.ListN.{length};
 ghost use Rattle.limits.specs.Limits.{documentNodes, nodeDigits, wordsPerDigit};
@@ -18,7 +18,7 @@ ghost use Rattle.xpath.specs.Tree.{Tree};
 ghost use Rattle.loops.specs.Loops.{Stage};
 ghost use Rattle.powers.specs.Powers.{BLOCKS};
 ghost use Rattle.skeletons.specs.Shape.{Shape};
-ghost use Rattle.groups.specs.Groups.{Enough, Sizes};
+ghost use Rattle.first_snippets.specs.Groups.{Enough, Sizes};
 ghost use Rattle.equalities.specs.Equalities.{Evaluated};
 ghost use Rattle.equalities.specs.Steps.{Empty, Founded, Prepares, Gathers};
 

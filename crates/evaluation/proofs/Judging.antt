@@ -9,17 +9,17 @@ use Rattle.limits.specs.Limits.{scratchWords}
 use Rattle.refusals.specs.Refusals.{Refusal, scratchLength, marksLength, number, place, First}
 use Rattle.refusals.proofs.Refusals.{first-one}
 use Rattle.xpath.specs.Syntax.{Test}
-use Rattle.library.specs.Library.{Node}
-use Rattle.library.specs.Verdict.{DocumentGround}
-use Rattle.library.specs.Verdict as Document
-use Rattle.library.proofs.Verdict.{document-judged}
-use Rattle.grammar.specs.Verdict.{RuleGround}
-use Rattle.grammar.specs.Verdict as Rule
-use Rattle.grammar.proofs.Judged.{rule-judged}
-use Rattle.selection.specs.Buffers.{Ground, Accepted}
+use Rattle.document_spec.specs.Library.{Node}
+use Rattle.document_spec.specs.Verdict.{DocumentGround}
+use Rattle.document_spec.specs.Verdict as Document
+use Rattle.document_spec.proofs.Verdict.{document-judged}
+use Rattle.rule_spec.specs.Verdict.{RuleGround}
+use Rattle.rule_spec.specs.Verdict as Rule
+use Rattle.rule_spec.proofs.Judged.{rule-judged}
+use Rattle.evaluation_spec.specs.Buffers.{Ground, Accepted}
 use Rattle.evaluators.specs.declared.Evaluator.{Evaluator}
-use Rattle.selection.proofs.Judged.{by-document, by-rule, short-scratch, few-marks, judged, accepted-unrefused, one-library}
-use Rattle.selection.proofs.Agreement.{number-positive}
+use Rattle.evaluation_spec.proofs.Judged.{by-document, by-rule, short-scratch, few-marks, judged, accepted-unrefused, one-library}
+use Rattle.evaluation_spec.proofs.Agreement.{number-positive}
 use Rattle.evaluation.specs.Judging.{Judges}
 use Rattle.evaluation.specs.Outcomes.{refusedBy, selecting, Selection, Evaluated}
 

@@ -10,23 +10,23 @@ use native.Mathlib.Omega.{arith}
 use Rattle.lists.specs.Lists.{Number}
 use Rattle.limits.specs.Limits.{documentNodes, scratchWords}
 use Rattle.xpath.specs.Syntax.{Test}
-use Rattle.library.specs.Library.{Node}
-use Rattle.library.specs.Binary.{treeOf}
-use Rattle.library.proofs.Binary.{tree-formed}
-use Rattle.library.specs.Verdict as Document
-use Rattle.grammar.specs.Verdict as Rule
-use Rattle.selection.specs.Buffers.{Accepted}
-use Rattle.selection.specs.Evaluation.{Selects, Selected}
-use Rattle.selection.proofs.Judged.{one-library}
-use Rattle.links.specs.Table.{COLUMNS, Room, Kept}
-use Rattle.links.specs.Links.{Linked, Built}
-use Rattle.links.proofs.Cells.{kept-then}
+use Rattle.document_spec.specs.Library.{Node}
+use Rattle.document_spec.specs.Binary.{treeOf}
+use Rattle.document_spec.proofs.Binary.{tree-formed}
+use Rattle.document_spec.specs.Verdict as Document
+use Rattle.rule_spec.specs.Verdict as Rule
+use Rattle.evaluation_spec.specs.Buffers.{Accepted}
+use Rattle.evaluation_spec.specs.Evaluation.{Selects, Selected}
+use Rattle.evaluation_spec.proofs.Judged.{one-library}
+use Rattle.table.specs.Table.{COLUMNS, Room, Kept}
+use Rattle.table.specs.Links.{Linked, Built}
+use Rattle.table.proofs.Cells.{kept-then}
 use Rattle.ranks.specs.Ranks.{Tabled, Written, one}
-use Rattle.columns.specs.Columns.{held}
+use Rattle.test_bits.specs.Columns.{held}
 use Rattle.marking.specs.Marking.{Told, Marked}
-use Rattle.numbering.specs.Tests.{testsOf}
-use Rattle.numbering.proofs.Counts.{tests-some}
-use Rattle.numbering.proofs.Counted.{counted-rule}
+use Rattle.test_numbers.specs.Tests.{testsOf}
+use Rattle.test_numbers.proofs.Counts.{tests-some}
+use Rattle.test_numbers.proofs.Counted.{counted-rule}
 use Rattle.driver.proofs.Frames.{scratch-room}
 use Rattle.evaluators.specs.declared.Evaluator.{Evaluator}
 use Rattle.evaluators.specs.declared.Evaluator.the-variants.{Plain, Snippets}

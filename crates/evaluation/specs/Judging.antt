@@ -5,8 +5,8 @@ use mathlib.Core.List.{List}
 use lib.ListN.{length}
 use Rattle.refusals.specs.Refusals.{Refusal, number, place, First}
 use Rattle.xpath.specs.Syntax.{Test}
-use Rattle.library.specs.Library.{Node}
-use Rattle.selection.specs.Buffers.{Ground, Accepted}
+use Rattle.document_spec.specs.Library.{Node}
+use Rattle.evaluation_spec.specs.Buffers.{Ground, Accepted}
 
 -- a number, a place and N: of the first ground and N 0, or no number and the N of the library
 pub record Judges (document rule : List ℕ) (words marks : ℕ) (n p nodes : ℕ) : Type 0 where

@@ -4,10 +4,10 @@ use mathlib.Core.List.{List}
 use lib.ListN.{length}
 use Rattle.xpath.specs.Syntax.{Test}
 use Rattle.xpath.specs.Tree.{Tree}
-use Rattle.library.specs.Library.{Node}
-use Rattle.selection.specs.Buffers.{Accepted}
-use Rattle.selection.specs.Evaluation.{Outcome, Selected, NoSnippets}
-use Rattle.selection.specs.Evaluation as Contract
+use Rattle.document_spec.specs.Library.{Node}
+use Rattle.evaluation_spec.specs.Buffers.{Accepted}
+use Rattle.evaluation_spec.specs.Evaluation.{Outcome, Selected, NoSnippets}
+use Rattle.evaluation_spec.specs.Evaluation as Contract
 use Rattle.snippets.specs.Count.{SnippetCount}
 use Rattle.evaluators.specs.declared.Evaluator.{Evaluator}
 use Rattle.evaluators.specs.declared.Evaluator.the-variants.{Plain, Snippets}

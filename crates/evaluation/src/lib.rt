@@ -1,20 +1,20 @@
 // The evaluations: the inputs are judged, and where they are accepted the rule is settled in the scratch and its nodes are marked.
-use answers::check_document;
-use answers::check_rule;
 use driver::settle_rule;
 use evaluators::Evaluator;
 use limits::Scratch;
-use links::build;
 use marking::clear;
 use marking::mark;
 use ranks::rank;
+use table::build;
+use verdicts::check_document;
+use verdicts::check_rule;
 ghost use mathlib.Core.Path.{_≡_};
 ghost use mathlib.Core.List.{List};
 ghost use lib.ListN.{length};
 ghost use Rattle.xpath.specs.Syntax.{Test};
-ghost use Rattle.library.specs.Library as Library;
-ghost use Rattle.selection.specs.Buffers.{Accepted};
-ghost use Rattle.selection.specs.Evaluation.{PlainEvaluation, SnippetEvaluation};
+ghost use Rattle.document_spec.specs.Library as Library;
+ghost use Rattle.evaluation_spec.specs.Buffers.{Accepted};
+ghost use Rattle.evaluation_spec.specs.Evaluation.{PlainEvaluation, SnippetEvaluation};
 ghost use Rattle.evaluation.specs.Judging.{Judges};
 ghost use Rattle.evaluation.specs.Outcomes.{outcomeOf, Selection, Evaluated};
 

@@ -11,12 +11,12 @@ use Rattle.lists.proofs.Numerals.{binary-above, binary-short}
 use Rattle.xpath.specs.Syntax.{Op, eq, XPath, compare}
 use Rattle.xpath.specs.Tree.{Tree}
 use Rattle.snippets.proofs.Counting.{sized-of}
-use Rattle.walks.specs.declared.Machine.{Machine}
-use Rattle.walks.specs.Walks.{Meets}
-use Rattle.walks.proofs.Comparing.{meets-holds}
-use Rattle.parts.specs.Kinds.{operator}
-use Rattle.parts.specs.declared.kinds.Operator.the-variants.{Equal}
-use Rattle.numbering.proofs.Counted.{counted-pair, counted-no-pair, own-unequal}
+use Rattle.machine.specs.declared.Machine.{Machine}
+use Rattle.machine.specs.Walks.{Meets}
+use Rattle.machine.proofs.Comparing.{meets-holds}
+use Rattle.rule_parts.specs.Kinds.{operator}
+use Rattle.rule_parts.specs.declared.kinds.Operator.the-variants.{Equal}
+use Rattle.test_numbers.proofs.Counted.{counted-pair, counted-no-pair, own-unequal}
 use Rattle.loops.specs.Loops.{Stage}
 use Rattle.plain.specs.Plain.{Answered}
 use Rattle.plain.proofs.Signs.{equal-sign}
@@ -24,7 +24,7 @@ use Rattle.skeletons.specs.Shape.{Shape}
 use Rattle.skeletons.proofs.Within.{within-back}
 use Rattle.skeletons.proofs.Shape.{shape-within, drawn-within}
 use Rattle.levels.specs.Levels.{Levelled}
-use Rattle.groups.specs.Groups.{Enough}
+use Rattle.first_snippets.specs.Groups.{Enough}
 use Rattle.equalities.specs.Equalities.{Evaluated}
 use Rattle.evaluators.specs.declared.Evaluator.the-variants.{Snippets}
 use Rattle.evaluators.specs.Evaluators.{PartRoom, Compared}

@@ -8,8 +8,8 @@ use mathlib.Core.List.{List}
 use Rattle.lists.specs.Text.{binaryDigits}
 use Rattle.xpath.specs.Syntax.{XPath}
 use Rattle.xpath.specs.Tree.{Tree}
-use Rattle.walks.specs.declared.Machine.{Machine}
-use Rattle.walks.specs.Part.{Space}
+use Rattle.machine.specs.declared.Machine.{Machine}
+use Rattle.machine.specs.Part.{Space}
 use Rattle.loops.specs.Loops.{Stage}
 use Rattle.plain.specs.Plain.{Answered}
 use Rattle.evaluators.specs.Evaluators.{PartRoom}

@@ -9,9 +9,9 @@ use Rattle.xpath.specs.Syntax.{Op, Test, XPath, empty, compare, compareTo}
 use Rattle.xpath.specs.Tree.{Tree}
 use Rattle.xpath.specs.Meaning.{Holds}
 use Rattle.snippets.specs.Count.{Counted}
-use Rattle.numbering.specs.Owned.{own}
-use Rattle.walks.specs.declared.Machine.{Machine}
-use Rattle.walks.specs.Meaning.{Judges}
+use Rattle.test_numbers.specs.Owned.{own}
+use Rattle.machine.specs.declared.Machine.{Machine}
+use Rattle.machine.specs.Meaning.{Judges}
 use Rattle.loops.specs.Loops.{Stage}
 use Rattle.plain.specs.Plain.{Answered}
 use Rattle.evaluators.specs.declared.Evaluator.{Evaluator}

@@ -2,12 +2,12 @@
 use equalities::compare_equal;
 use levels::levels;
 use limits::Document;
-use parts::kinds::Operator;
-use walks::Machine;
+use machine::Machine;
+use rule_parts::kinds::Operator;
 ghost use mathlib.Core.Path.{_≡_};
 ghost use Rattle.xpath.specs.Syntax.{XPath, Op};
 ghost use Rattle.xpath.specs.Tree.{Tree};
-ghost use Rattle.parts.specs.Kinds.{operator};
+ghost use Rattle.rule_parts.specs.Kinds.{operator};
 ghost use Rattle.loops.specs.Loops.{Stage};
 ghost use Rattle.evaluators.specs.Evaluators.{PartRoom, Staged, Compared, Hit};
 ghost use Rattle.evaluators.specs.declared.Evaluator.the-variants.{Plain, Snippets};

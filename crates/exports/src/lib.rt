@@ -1,18 +1,18 @@
 // What C and Rust call: numbers pass as themselves, and a slice as a pointer and a length.
-use answers::DocumentAnswer;
-use answers::RuleAnswer;
 use evaluation::Evaluation;
+use verdicts::DocumentAnswer;
+use verdicts::RuleAnswer;
 ghost use Rattle.evaluation.specs.Outcomes.{outcomeOf};
-ghost use Rattle.grammar.specs.Verdict as Grammar;
-ghost use Rattle.library.specs.Verdict.{Checked};
-ghost use Rattle.selection.specs.Evaluation.{PlainEvaluation, SnippetEvaluation};
+ghost use Rattle.rule_spec.specs.Verdict as Grammar;
+ghost use Rattle.document_spec.specs.Verdict.{Checked};
+ghost use Rattle.evaluation_spec.specs.Evaluation.{PlainEvaluation, SnippetEvaluation};
 
 // Judges a document by numbers 1 to 4.
 #[no_mangle]
 pub extern "C" fn yurzhoad_check_document(document: &[u8]) -> DocumentAnswer
     ensures { λ r. ⌜ Checked (now (document .entry)) (r .number) (r .place) (r .nodes) ⌝ }
 {
-    answers::check_document(document)
+    verdicts::check_document(document)
 }
 
 // Judges a rule by numbers 5 to 9.
@@ -20,7 +20,7 @@ pub extern "C" fn yurzhoad_check_document(document: &[u8]) -> DocumentAnswer
 pub extern "C" fn yurzhoad_check_rule(rule: &[u8]) -> RuleAnswer
     ensures { λ r. ⌜ Grammar.Checked (now (rule .entry)) (r .number) (r .place) ⌝ }
 {
-    answers::check_rule(rule)
+    verdicts::check_rule(rule)
 }
 
 // Marks the nodes of a document at which a rule holds, or refuses the call by numbers 1 to 11.

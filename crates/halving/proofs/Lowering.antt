@@ -15,7 +15,7 @@ use Rattle.xpath.specs.Tree.{Tree, WellFormed, Down}
 use Rattle.xpath.proofs.Trees.{down-le}
 use Rattle.snippets.proofs.Counting.{down-inside}
 use Rattle.snippets.proofs.Edges.{comes-few}
-use Rattle.links.specs.Links.{Points}
+use Rattle.table.specs.Links.{Points}
 use Rattle.matrices.specs.Matrices.{Related}
 use Rattle.powers.specs.Powers.{BLOCKS, upAt, snippetAt, upperAt, Power, Powers}
 use Rattle.powers.proofs.Kept.{power-kept}

@@ -7,7 +7,7 @@ use native.Mathlib.Decide.{ℕ-discrete}
 use native.Mathlib.Omega.{arith}
 use Rattle.xpath.specs.Tree.{Tree, Child, Down, here, deeper}
 use Rattle.xpath.proofs.Trees.{child-after, down-le}
-use Rattle.links.specs.Table.{PARENT, NONE, cell, word, Wrote}
+use Rattle.table.specs.Table.{PARENT, NONE, cell, word, Wrote}
 use Rattle.skeletons.specs.Shape.{Shape, Within}
 use Rattle.skeletons.proofs.Within.{within-none, within-then, within-put, before-within}
 use Rattle.skeletons.proofs.Shape.{shape-within, parent-of, parent-case}

@@ -1,14 +1,14 @@
 // How many levels the tree in a comparison's part has: one more than the edges of its longest way down.
-use links::table::get;
-use links::table::parent;
-use links::table::put;
+use table::table::get;
+use table::table::parent;
+use table::table::put;
 ghost use mathlib.Core.List.{[], _∷_};
 ghost use mathlib.Core.Logic.{_⊎_};
 ghost use mathlib.Core.Path.{_≡_};
 ghost use Prim.Native.Nat.{suc, _≤_, _<_, _-_};
 ghost use Rattle.limits.specs.Limits.{wordValues};
 ghost use Rattle.xpath.specs.Tree.{Tree};
-ghost use Rattle.links.specs.Table.{PARENT, cell, word, Room, Wrote};
+ghost use Rattle.table.specs.Table.{PARENT, cell, word, Room, Wrote};
 ghost use Rattle.skeletons.specs.Shape.{Shape};
 ghost use Rattle.levels.specs.Levels.{LEVEL, Levelled};
 

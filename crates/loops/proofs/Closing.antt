@@ -10,9 +10,9 @@ use Rattle.xpath.proofs.Trees.{child-after, under-refl}
 use Rattle.positions.specs.Positions.{Follows, Comes}
 use Rattle.snippets.proofs.Edges.{stepDown, stepUp, count, comes-few, not-under, enters, leaves}
 use Rattle.matrices.specs.Matrices.{Related}
-use Rattle.walks.specs.declared.Machine.{Machine}
-use Rattle.walks.specs.Meaning.{IsStep}
-use Rattle.walks.proofs.Walking.{child-inside, step-few}
+use Rattle.machine.specs.declared.Machine.{Machine}
+use Rattle.machine.specs.Meaning.{IsStep}
+use Rattle.machine.proofs.Walking.{child-inside, step-few}
 use Rattle.loops.specs.Loops.{Stage, loopAt}
 use Rattle.loops.specs.Closed.{Closed}
 use Rattle.loops.proofs.Sides.{goes-down, goes-up, goes-stay, child-side}

@@ -15,7 +15,7 @@ use Rattle.matrices.proofs.Members.{and-parts, and-both, or-left, lowest, size-
 use Rattle.matrices.proofs.Chains.{chain-one, chain-map}
 use Rattle.matrices.proofs.Drawing.{drawing-none, drawing-more, drawing-only, undrawn, apart-same}
 use Rattle.matrices.proofs.Pairs.{pairs-more, pairs-same, pairs-mono}
-use Rattle.walks.specs.declared.Machine.{Machine}
+use Rattle.machine.specs.declared.Machine.{Machine}
 use Rattle.loops.specs.Closed.{Detour}
 use Rattle.loops.specs.Growing.{Joined, Widened, Widening, Visited}
 

@@ -10,10 +10,10 @@ use lib.ListN.{length}
 use Rattle.xpath.specs.Syntax.{XPath}
 use Rattle.xpath.specs.Tree.{Tree}
 use Rattle.positions.specs.Positions.{Comes}
-use Rattle.links.specs.Table.{PARENT, word}
+use Rattle.table.specs.Table.{PARENT, word}
 use Rattle.matrices.specs.Matrices.{Related, Chain}
 use Rattle.matrices.proofs.Chains.{chain-one}
-use Rattle.walks.specs.declared.Machine.{Machine}
+use Rattle.machine.specs.declared.Machine.{Machine}
 use Rattle.loops.specs.Loops.{Stage, loopAt}
 use Rattle.loops.specs.Closed.{downs, ups, OnSide, Detour}
 use Rattle.loops.specs.Growing.{Ready, Widened, Visited, SoundBelow, Grown, Passed, Rises, Falls}

@@ -9,7 +9,7 @@ use lib.ListN.{length}
 use Rattle.xpath.specs.Syntax.{XPath}
 use Rattle.xpath.specs.Tree.{Tree}
 use Rattle.matrices.proofs.Pairs.{pairs-le}
-use Rattle.walks.specs.declared.Machine.{Machine}
+use Rattle.machine.specs.declared.Machine.{Machine}
 use Rattle.loops.specs.Loops.{Stage, Looped}
 use Rattle.loops.specs.Closed.{Closed}
 use Rattle.loops.specs.Growing.{Ready, Woven, Started, total, Grown, Passed, Rises, Falls, Everywhere, Settled}

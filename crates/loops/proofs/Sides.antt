@@ -12,11 +12,11 @@ use Rattle.xpath.specs.Meaning.{Holds}
 use Rattle.xpath.proofs.Trees.{parent-of, one-parent, child-after}
 use Rattle.positions.specs.Positions.{Follows}
 use Rattle.snippets.proofs.Edges.{stepDown, stepUp}
-use Rattle.links.specs.Table.{LEFT, PARENT, NONE, word}
-use Rattle.walks.specs.declared.Machine.{Machine}
-use Rattle.walks.specs.Part.{STAYS}
-use Rattle.walks.specs.Meaning.{IsStep}
-use Rattle.walks.proofs.Walking.{child-inside, link-child, parent-word}
+use Rattle.table.specs.Table.{LEFT, PARENT, NONE, word}
+use Rattle.machine.specs.declared.Machine.{Machine}
+use Rattle.machine.specs.Part.{STAYS}
+use Rattle.machine.specs.Meaning.{IsStep}
+use Rattle.machine.proofs.Walking.{child-inside, link-child, parent-word}
 use Rattle.loops.specs.Loops.{Stage}
 use Rattle.loops.specs.Closed.{downs, ups, OnSide, Goes}
 

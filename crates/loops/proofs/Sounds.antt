@@ -8,10 +8,10 @@ use Rattle.xpath.specs.Tree.{Tree, Child}
 use Rattle.positions.specs.Positions.{Comes}
 use Rattle.snippets.proofs.Settles.{comes-join}
 use Rattle.snippets.proofs.Edges.{stepDown, stepUp, moves-down, moves-up}
-use Rattle.links.specs.Table.{PARENT, word}
+use Rattle.table.specs.Table.{PARENT, word}
 use Rattle.matrices.specs.Matrices.{Chain}
-use Rattle.walks.specs.declared.Machine.{Machine}
-use Rattle.walks.specs.Part.{STAYS}
+use Rattle.machine.specs.declared.Machine.{Machine}
+use Rattle.machine.specs.Part.{STAYS}
 use Rattle.loops.specs.Loops.{Stage, loopAt, Loops}
 use Rattle.loops.specs.Closed.{downs, ups, OnSide, Goes, Detour, Closed}
 use Rattle.loops.specs.Sound.{Sound}

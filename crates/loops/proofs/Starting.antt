@@ -4,11 +4,11 @@ use mathlib.Core.Path.{_≡_, refl, sym, _∙_, subst}
 use mathlib.Core.Logic.{_↔_}
 use mathlib.Core.List.{List}
 use native.Mathlib.Omega.{arith}
-use Rattle.links.specs.Table.{word}
+use Rattle.table.specs.Table.{word}
 use Rattle.matrices.specs.Matrices.{Related, Chain, Redrawn, Drawing}
 use Rattle.matrices.proofs.Chains.{chain-map}
-use Rattle.walks.specs.declared.Machine.{Machine}
-use Rattle.walks.specs.Part.{STAYS}
+use Rattle.machine.specs.declared.Machine.{Machine}
+use Rattle.machine.specs.Part.{STAYS}
 use Rattle.loops.specs.Loops.{Stage, loopAt}
 use Rattle.loops.specs.Closed.{Goes}
 use Rattle.loops.specs.Growing.{Steps, Begun, Started}

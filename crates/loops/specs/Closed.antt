@@ -7,10 +7,10 @@ use mathlib.Core.List.{List}
 use lib.ListN.{getD}
 use Rattle.limits.specs.Limits.{positions}
 use Rattle.bits.specs.Sets.{bit}
-use Rattle.links.specs.Table.{LEFT, PARENT, word}
+use Rattle.table.specs.Table.{LEFT, PARENT, word}
 use Rattle.matrices.specs.Matrices.{Related}
-use Rattle.walks.specs.declared.Machine.{Machine}
-use Rattle.walks.specs.Part.{STAYS}
+use Rattle.machine.specs.declared.Machine.{Machine}
+use Rattle.machine.specs.Part.{STAYS}
 use Rattle.loops.specs.Loops.{loopAt}
 
 -- the steps down to a child on a side, and the steps up from it

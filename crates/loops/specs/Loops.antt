@@ -9,9 +9,9 @@ use Rattle.xpath.specs.Syntax.{XPath}
 use Rattle.xpath.specs.Tree.{Tree, WellFormed}
 use Rattle.positions.specs.Positions.{Comes}
 use Rattle.matrices.specs.Matrices.{Related}
-use Rattle.walks.specs.declared.Machine.{Machine}
-use Rattle.walks.specs.Meaning.{IsMachine, Drawn}
-use Rattle.walks.specs.Part.{LOOPS, PAIRS}
+use Rattle.machine.specs.declared.Machine.{Machine}
+use Rattle.machine.specs.Meaning.{IsMachine, Drawn}
+use Rattle.machine.specs.Part.{LOOPS, PAIRS}
 
 -- a comparison of two paths on a tree, and the words that stand for them
 pub record Stage (P R : XPath) (t : Tree) (m : Machine) (n : ℕ) (p : List ℕ) : Type 0 where

@@ -4,14 +4,14 @@ mod rounds;
 mod start;
 mod visit;
 
+use machine::Machine;
 use rounds::round;
 use start::start;
-use walks::Machine;
 ghost use Prim.Native.Nat.{_*_, _≤_, _<_};
 ghost use lib.ListN.{length};
 ghost use Rattle.xpath.specs.Syntax.{XPath};
 ghost use Rattle.xpath.specs.Tree.{Tree};
-ghost use Rattle.walks.specs.Part.{PAIRS};
+ghost use Rattle.machine.specs.Part.{PAIRS};
 ghost use Rattle.loops.specs.Loops.{Stage, Looped};
 
 // The matrix of each node, behind the 16 columns of the part.

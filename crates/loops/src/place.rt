@@ -1,13 +1,13 @@
 // Where the matrices stand, behind the 16 columns of the part, and where a node hangs.
 use limits::Rule;
-use links::table::Table;
-use links::table::get;
-use walks::Part;
+use machine::Part;
+use table::table::Table;
+use table::table::get;
 ghost use mathlib.Core.Path.{_≡_};
 ghost use mathlib.Core.Bool.{true, false};
 ghost use Prim.Native.Nat.{_+_, _≤_, _<_};
 ghost use Rattle.limits.specs.Limits.{documentNodes, positions};
-ghost use Rattle.links.specs.Table.{PARENT, word};
+ghost use Rattle.table.specs.Table.{PARENT, word};
 ghost use Rattle.loops.specs.Loops.{loopAt};
 ghost use Rattle.loops.specs.Closed.{OnSide};
 ghost use Rattle.loops.specs.Growing.{Ready};

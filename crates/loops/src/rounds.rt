@@ -3,7 +3,7 @@ use crate::place::above;
 use crate::place::is_left;
 use crate::place::loop_at;
 use crate::visit::visit;
-use walks::Machine;
+use machine::Machine;
 ghost use Prim.Native.Nat.{_<_};
 ghost use Rattle.loops.specs.Growing.{Ready, Passed, Rises, Falls, Everywhere, Settled};
 

@@ -2,9 +2,9 @@
 use crate::place::loop_at;
 use bits::meet;
 use limits::Rule;
-use links::table::get;
+use machine::Machine;
 use matrices::close;
-use walks::Machine;
+use table::table::get;
 ghost use Prim.Native.Nat.{_+_, _≤_, _<_};
 ghost use lib.ListN.{length};
 ghost use Rattle.limits.specs.Limits.{positions};

@@ -2,11 +2,11 @@
 use bits::meet;
 use bits::union;
 use limits::Rule;
+use machine::Machine;
 use matrices::close;
 use matrices::followers::followers;
 use matrices::image;
 use matrices::sets::without;
-use walks::Machine;
 ghost use mathlib.Core.Path.{_≡_};
 ghost use mathlib.Core.Bool.{true};
 ghost use mathlib.Core.Logic.{_↔_};

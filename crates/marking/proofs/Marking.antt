@@ -11,7 +11,7 @@ use mir.Val.{boolByte}
 use native.Mathlib.Decide.{ℕ-discrete}
 use Rattle.lists.specs.Lists.{Number, Occurs}
 use Rattle.ranks.specs.Ranks.{one}
-use Rattle.columns.specs.Columns.{held}
+use Rattle.test_bits.specs.Columns.{held}
 use Rattle.marking.specs.Marking.{Marked}
 
 -- ── How many numbers below i pass a test ──

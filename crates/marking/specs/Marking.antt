@@ -6,7 +6,7 @@ use mathlib.Core.List.{List}
 use lib.ListN.{length, getD, drop}
 use Rattle.lists.specs.Lists.{Number}
 use Rattle.ranks.specs.Ranks.{one}
-use Rattle.columns.specs.Columns.{held}
+use Rattle.test_bits.specs.Columns.{held}
 
 -- the nodes at which test 0 holds by its bit
 abbrev pub Told : List ℕ → ℕ → ℕ → Type 0

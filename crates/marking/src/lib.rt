@@ -1,9 +1,9 @@
 // What is handed back when the tests of a rule are settled: the marks, and a scratch of zeros.
-use columns::holds;
+use test_bits::holds;
 ghost use mathlib.Core.Path.{_≡_};
 ghost use Prim.Native.Nat.{_≤_};
 ghost use lib.ListN.{length, take, drop, replicate};
-ghost use Rattle.links.specs.Table.{Room};
+ghost use Rattle.table.specs.Table.{Room};
 ghost use Rattle.marking.specs.Marking.{Marked};
 
 // Each of the first `n` marks tells whether test 0, the rule itself, holds at its node. Returns at how many nodes it holds.

@@ -6,11 +6,11 @@ use mathlib.Core.Bool.{Bool, true}
 use mathlib.Core.List.{List}
 use native.Mathlib.Omega.{arith}
 use Rattle.xpath.specs.Syntax.{Op, eq}
-use Rattle.links.specs.Table.{RANK, cell, word}
-use Rattle.parts.specs.Kinds.{operator}
-use Rattle.walks.specs.declared.Machine.{Machine}
-use Rattle.walks.specs.Part.{MARK, HIT, Space}
-use Rattle.walks.specs.Walks.{Stops, Meets, Hits}
+use Rattle.table.specs.Table.{RANK, cell, word}
+use Rattle.rule_parts.specs.Kinds.{operator}
+use Rattle.machine.specs.declared.Machine.{Machine}
+use Rattle.machine.specs.Part.{MARK, HIT, Space}
+use Rattle.machine.specs.Walks.{Stops, Meets, Hits}
 use Rattle.reach.specs.Reached.{Reached}
 use Rattle.plain.specs.declared.ranges.Range.{Range}
 use Rattle.plain.specs.Plain.{Small}

@@ -5,8 +5,8 @@ use mathlib.Core.Logic.{inl, inr}
 use mathlib.Core.List.{List, [], _∷_}
 use native.Mathlib.Decide.{ℕ-discrete}
 use native.Mathlib.Omega.{arith}
-use Rattle.links.specs.Table.{RANK, cell, word, Wrote}
-use Rattle.walks.specs.Part.{MARK, SEEN}
+use Rattle.table.specs.Table.{RANK, cell, word, Wrote}
+use Rattle.machine.specs.Part.{MARK, SEEN}
 use Rattle.plain.specs.Plain.{Small}
 use Rattle.plain.specs.Ends.{Ended, Steady}
 use Rattle.plain.specs.Marks.{Clear, MarkedAt, Marked}

@@ -5,9 +5,9 @@ use mathlib.Core.Logic.{_⊎_, inl, inr, ⊎-elim, _↔_, _≢_}
 use native.Mathlib.Decide.{ℕ-discrete, decLt}
 use native.Mathlib.Omega.{arith}
 use Rattle.xpath.specs.Syntax.{Op, eq, ne, lt, le, gt, ge}
-use Rattle.parts.specs.Kinds.{operator}
-use Rattle.parts.specs.declared.kinds.Operator.the-variants.{Unequal}
-use Rattle.walks.specs.Walks.{Compares}
+use Rattle.rule_parts.specs.Kinds.{operator}
+use Rattle.rule_parts.specs.declared.kinds.Operator.the-variants.{Unequal}
+use Rattle.machine.specs.Walks.{Compares}
 use Rattle.plain.specs.declared.ranges.Range.{Range}
 use Rattle.plain.specs.Ranges.{Some, Ranged, Under, Across}
 

@@ -6,10 +6,10 @@ use native.Mathlib.Omega.{arith}
 use types.Run.{OneOf, miss}
 use denote.Enum.Declared.{tagOf}
 use Rattle.xpath.specs.Syntax.{Op, eq, ne, lt, le, gt, ge}
-use Rattle.parts.specs.Kinds.{operator}
-use Rattle.parts.specs.declared.kinds.Operator.{Operator}
-use Rattle.parts.specs.declared.kinds.Operator.the-variants.{Equal}
-use Rattle.parts.proofs.kinds.Operator.{the-type}
+use Rattle.rule_parts.specs.Kinds.{operator}
+use Rattle.rule_parts.specs.declared.kinds.Operator.{Operator}
+use Rattle.rule_parts.specs.declared.kinds.Operator.the-variants.{Equal}
+use Rattle.rule_parts.proofs.kinds.Operator.{the-type}
 
 pub equal-sign : (q : Op) → Equal ≡ operator q → q ≡ eq
 equal-sign eq e = refl

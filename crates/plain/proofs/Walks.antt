@@ -5,10 +5,10 @@ use mathlib.Core.Logic.{_↔_}
 use mathlib.Core.List.{List}
 use native.Mathlib.Omega.{arith}
 use Rattle.xpath.specs.Syntax.{Op}
-use Rattle.links.specs.Table.{RANK}
-use Rattle.walks.specs.declared.Machine.{Machine}
-use Rattle.walks.specs.Part.{HIT}
-use Rattle.walks.specs.Walks.{Compares, Stops, Meets, Hits}
+use Rattle.table.specs.Table.{RANK}
+use Rattle.machine.specs.declared.Machine.{Machine}
+use Rattle.machine.specs.Part.{HIT}
+use Rattle.machine.specs.Walks.{Compares, Stops, Meets, Hits}
 use Rattle.reach.proofs.Walks.{walk-same}
 use Rattle.plain.specs.Ends.{Held}
 use Rattle.plain.proofs.Steady.{held-back, held-word}

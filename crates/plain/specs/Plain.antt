@@ -4,8 +4,8 @@ use mathlib.Core.Path.{_≡_}
 use mathlib.Core.Logic.{_⊎_}
 use mathlib.Core.List.{List}
 use lib.ListN.{length}
-use Rattle.links.specs.Table.{RANK, word}
-use Rattle.walks.specs.Part.{ANSWER}
+use Rattle.table.specs.Table.{RANK, word}
+use Rattle.machine.specs.Part.{ANSWER}
 
 -- 1 where A holds, and else 0
 pub record Answered (n : ℕ) (A : ℕ → Type 0) (p p′ : List ℕ) : Type 0 where

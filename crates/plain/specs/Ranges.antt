@@ -2,9 +2,9 @@
 use Prim.Native.Nat.{ℕ, suc, _+_, _≤_, _<_}
 use mathlib.Core.Path.{_≡_}
 use mathlib.Core.Logic.{_⊎_}
-use Rattle.parts.specs.declared.kinds.Operator.{Operator}
-use Rattle.parts.specs.declared.kinds.Operator.the-variants.{Equal, Unequal, Less, LessEqual, Greater, GreaterEqual}
-use Rattle.links.specs.Table.{NONE}
+use Rattle.rule_parts.specs.declared.kinds.Operator.{Operator}
+use Rattle.rule_parts.specs.declared.kinds.Operator.the-variants.{Equal, Unequal, Less, LessEqual, Greater, GreaterEqual}
+use Rattle.table.specs.Table.{NONE}
 use Rattle.plain.specs.declared.ranges.Range.{Range}
 
 -- a node below n that E holds of

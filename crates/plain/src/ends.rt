@@ -1,11 +1,11 @@
 // Where a walk ends: the nodes that it comes to at one of the last positions.
-use links::table::get;
+use table::table::get;
 ghost use mathlib.Core.Bool.{true};
 ghost use mathlib.Core.Logic.{_↔_};
 ghost use mathlib.Core.Path.{_≡_};
 ghost use Prim.Native.Nat.{ℕ, _<_};
-ghost use Rattle.links.specs.Table.{Room, word};
-ghost use Rattle.walks.specs.Part.{HIT};
+ghost use Rattle.table.specs.Table.{Room, word};
+ghost use Rattle.machine.specs.Part.{HIT};
 ghost use Rattle.plain.specs.Ends.{Ended};
 
 // The columns of a comparison's part that the tree's table does not have.

@@ -1,20 +1,20 @@
 // Equal ranks, by marks: the ranks where the first path ends are marked, and the ends of the second path looked up.
 use crate::ends::Column;
 use crate::ends::ends_at;
-use links::table::Table;
-use links::table::get;
-use links::table::put;
+use machine::Machine;
 use reach::reach;
-use walks::Machine;
+use table::table::Table;
+use table::table::get;
+use table::table::put;
 ghost use mathlib.Core.Bool.{true};
 ghost use mathlib.Core.Logic.{_↔_};
 ghost use mathlib.Core.Path.{_≡_};
 ghost use Prim.Native.Nat.{ℕ, _<_};
 ghost use Rattle.limits.specs.Limits.{positions};
 ghost use Rattle.xpath.specs.Syntax.{eq};
-ghost use Rattle.links.specs.Table.{RANK, Room, word};
-ghost use Rattle.walks.specs.Part.{MARK, Space};
-ghost use Rattle.walks.specs.Walks.{Meets};
+ghost use Rattle.table.specs.Table.{RANK, Room, word};
+ghost use Rattle.machine.specs.Part.{MARK, Space};
+ghost use Rattle.machine.specs.Walks.{Meets};
 ghost use Rattle.plain.specs.Plain.{Small};
 ghost use Rattle.plain.specs.Ends.{Ended, Steady};
 ghost use Rattle.plain.specs.Marks.{Clear, MarkedAt, Marked};

@@ -1,20 +1,20 @@
 // The order of ranks: of the ranks where a path ends only the least and the greatest count.
 use crate::ends::ends_at;
-use links::table::Table;
-use links::table::get;
-use parts::kinds::Operator;
+use machine::Machine;
 use reach::reach;
-use walks::Machine;
+use rule_parts::kinds::Operator;
+use table::table::Table;
+use table::table::get;
 ghost use mathlib.Core.Bool.{true};
 ghost use mathlib.Core.Logic.{_⊎_, _↔_, _≢_};
 ghost use mathlib.Core.Path.{_≡_};
 ghost use Prim.Native.Nat.{suc, _≤_, _<_};
 ghost use Rattle.limits.specs.Limits.{positions, wordValues};
 ghost use Rattle.xpath.specs.Syntax.{Op, eq};
-ghost use Rattle.parts.specs.Kinds.{operator};
-ghost use Rattle.links.specs.Table.{RANK, Room, word};
-ghost use Rattle.walks.specs.Part.{Space};
-ghost use Rattle.walks.specs.Walks.{Meets};
+ghost use Rattle.rule_parts.specs.Kinds.{operator};
+ghost use Rattle.table.specs.Table.{RANK, Room, word};
+ghost use Rattle.machine.specs.Part.{Space};
+ghost use Rattle.machine.specs.Walks.{Meets};
 ghost use Rattle.plain.specs.Plain.{Small};
 ghost use Rattle.plain.specs.Ends.{Ended, Steady};
 ghost use Rattle.plain.specs.Ranges.{Ranged, Under, Across};

@@ -10,8 +10,8 @@ use Rattle.xpath.specs.Tree.{Tree, WellFormed, Down}
 use Rattle.xpath.proofs.Trees.{down-le}
 use Rattle.positions.specs.Positions.{Comes}
 use Rattle.snippets.proofs.Edges.{pass-down, pass-up, comes-few}
-use Rattle.links.specs.Table.{NONE}
-use Rattle.links.specs.Links.{Points}
+use Rattle.table.specs.Table.{NONE}
+use Rattle.table.specs.Links.{Points}
 use Rattle.matrices.specs.Matrices.{Related, Composed}
 use Rattle.powers.specs.Powers.{downAt, upAt, upperAt, Power}
 use Rattle.powers.specs.Blocks.{Twice}

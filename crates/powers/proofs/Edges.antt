@@ -11,10 +11,10 @@ use Rattle.xpath.specs.Tree.{Tree, Child, Down}
 use Rattle.xpath.proofs.Trees.{child-after, down-le}
 use Rattle.positions.specs.Positions.{Follows, Comes}
 use Rattle.snippets.proofs.Edges.{Crossing, stepDown, stepUp, edge-down, edge-up, comes-few}
-use Rattle.links.specs.Table.{PARENT, NONE, word}
-use Rattle.walks.specs.declared.Machine.{Machine}
-use Rattle.walks.specs.Meaning.{IsStep}
-use Rattle.walks.proofs.Walking.{step-few}
+use Rattle.table.specs.Table.{PARENT, NONE, word}
+use Rattle.machine.specs.declared.Machine.{Machine}
+use Rattle.machine.specs.Meaning.{IsStep}
+use Rattle.machine.proofs.Walking.{step-few}
 use Rattle.loops.specs.Loops.{loopAt}
 use Rattle.loops.specs.Closed.{downs, ups, OnSide, Goes}
 use Rattle.loops.proofs.Sides.{goes-down, goes-up, side-child, parent-before}

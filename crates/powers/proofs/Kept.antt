@@ -10,8 +10,8 @@ use Rattle.bits.specs.Sets.{bit}
 use Rattle.xpath.specs.Syntax.{XPath}
 use Rattle.xpath.specs.Tree.{Tree, Down}
 use Rattle.positions.specs.Positions.{Comes}
-use Rattle.links.specs.Links.{Points}
-use Rattle.walks.specs.declared.Machine.{Machine}
+use Rattle.table.specs.Links.{Points}
+use Rattle.machine.specs.declared.Machine.{Machine}
 use Rattle.loops.specs.Loops.{Stage, loopAt, Loops}
 use Rattle.loops.proofs.Kept.{stage-kept}
 use Rattle.powers.specs.Powers.{BLOCKS, blockAt, downAt, upAt, upperAt, Power, Powers, Powered}

@@ -9,7 +9,7 @@ use lib.Seq.{getD-set-same, getD-set-other}
 use native.Mathlib.Omega.{arith}
 use Rattle.bits.specs.Sets.{bit}
 use Rattle.matrices.specs.Matrices.{Related, Redrawn, Composed}
-use Rattle.walks.specs.declared.Machine.{Machine}
+use Rattle.machine.specs.declared.Machine.{Machine}
 use Rattle.loops.specs.Loops.{loopAt}
 use Rattle.powers.specs.Powers.{blockAt, downAt, upAt, upperAt}
 use Rattle.powers.specs.Blocks.{Fits, Only, Crossed, Block, Edge, Twice}

@@ -9,8 +9,8 @@ use native.Mathlib.Nat.{eq-or-lt-of-le}
 use native.Mathlib.Omega.{arith}
 use Rattle.xpath.specs.Syntax.{XPath}
 use Rattle.xpath.specs.Tree.{Tree, Down}
-use Rattle.links.specs.Table.{LEFT, PARENT, NONE, word}
-use Rattle.walks.specs.declared.Machine.{Machine}
+use Rattle.table.specs.Table.{LEFT, PARENT, NONE, word}
+use Rattle.machine.specs.declared.Machine.{Machine}
 use Rattle.loops.specs.Loops.{Stage, Loops}
 use Rattle.loops.specs.Closed.{downs, ups, OnSide}
 use Rattle.powers.specs.Powers.{BLOCKS, blockAt, upperAt, Power, Powers, Powered}

@@ -14,7 +14,7 @@ use Rattle.xpath.specs.Tree.{Tree, Down}
 use Rattle.xpath.proofs.Trees.{down-le, down-split, down-zero}
 use Rattle.positions.specs.Positions.{Comes}
 use Rattle.snippets.proofs.Edges.{pass-down, pass-up, comes-few}
-use Rattle.links.specs.Links.{Points}
+use Rattle.table.specs.Links.{Points}
 use Rattle.matrices.specs.Matrices.{Related, Before}
 use Rattle.loops.specs.Loops.{loopAt}
 use Rattle.powers.specs.Powers.{downAt, upAt, upperAt, Lifts}

@@ -10,7 +10,7 @@ use Rattle.bits.specs.Sets.{bit}
 use Rattle.xpath.specs.Syntax.{XPath, size}
 use Rattle.xpath.specs.Tree.{Tree, WellFormed}
 use Rattle.matrices.specs.Matrices.{Related, Composed}
-use Rattle.walks.specs.declared.Machine.{Machine}
+use Rattle.machine.specs.declared.Machine.{Machine}
 use Rattle.loops.specs.Loops.{Stage, loopAt, Loops}
 use Rattle.powers.specs.Powers.{blockAt, downAt, upAt, upperAt, Power, Powers}
 

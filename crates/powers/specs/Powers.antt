@@ -10,7 +10,7 @@ use Rattle.bits.specs.Sets.{bit}
 use Rattle.xpath.specs.Syntax.{XPath}
 use Rattle.xpath.specs.Tree.{Tree, Down}
 use Rattle.positions.specs.Positions.{Comes}
-use Rattle.links.specs.Links.{Points}
+use Rattle.table.specs.Links.{Points}
 use Rattle.matrices.specs.Matrices.{Related}
 
 -- ── The part behind its first 112 columns: 64 words for each exponent and node ──

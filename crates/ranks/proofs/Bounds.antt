@@ -7,10 +7,10 @@ use lib.ListN.{length, length-append}
 use lib.Seq.{slice, slice-empty, slice-cons}
 use native.Mathlib.Omega.{arith}
 use native.Mathlib.Decide.{decLt}
-use Rattle.library.specs.Library.{Node, at}
-use Rattle.library.specs.Binary.{textOf}
-use Rattle.library.specs.Intervals.{texts}
-use Rattle.links.specs.Table.{NONE}
+use Rattle.document_spec.specs.Library.{Node, at}
+use Rattle.document_spec.specs.Binary.{textOf}
+use Rattle.document_spec.specs.Intervals.{texts}
+use Rattle.table.specs.Table.{NONE}
 use Rattle.ranks.specs.Texts.{Silent, Spoken, Bounds}
 
 module _ (ns : List Node) where

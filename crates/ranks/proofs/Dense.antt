@@ -7,8 +7,8 @@ use native.Mathlib.Omega.{arith}
 use native.Mathlib.Decide.{ℕ-discrete}
 use Rattle.xpath.specs.Meaning.{Less}
 use Rattle.xpath.proofs.Order.{less-irreflexive, less-distinct, less-trichotomous}
-use Rattle.library.specs.Library.{Node}
-use Rattle.library.specs.Binary.{before, stringOf}
+use Rattle.document_spec.specs.Library.{Node}
+use Rattle.document_spec.specs.Binary.{before, stringOf}
 use Rattle.ranks.specs.Ranks.{one, isSmaller}
 use Rattle.ranks.specs.Sorting.{Le, dense}
 use Rattle.ranks.proofs.Less.{one-le, one-less, one-not}

@@ -8,12 +8,12 @@ use lib.ListN.{length}
 use native.Mathlib.Omega.{arith}
 use native.Mathlib.Decide.{ℕ-discrete, decLt}
 use Rattle.xpath.specs.Tree.{Child}
-use Rattle.library.specs.Library.{Node, Legal}
-use Rattle.library.specs.Binary.{treeOf}
-use Rattle.library.specs.Intervals.{deep, End}
-use Rattle.library.proofs.Binary.{left-child, right-child}
-use Rattle.library.proofs.Intervals.{end-of}
-use Rattle.links.specs.Links.{Points}
+use Rattle.document_spec.specs.Library.{Node, Legal}
+use Rattle.document_spec.specs.Binary.{treeOf}
+use Rattle.document_spec.specs.Intervals.{deep, End}
+use Rattle.document_spec.proofs.Binary.{left-child, right-child}
+use Rattle.document_spec.proofs.Intervals.{end-of}
+use Rattle.table.specs.Links.{Points}
 use Rattle.ranks.specs.Texts.{Extent, Content}
 
 module _ {ns : List Node} (ok : Legal ns) {v : ℕ} (l : v < length ns) where

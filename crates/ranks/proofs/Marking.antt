@@ -9,13 +9,13 @@ use native.Mathlib.Omega.{arith}
 use native.Mathlib.Decide.{ℕ-discrete}
 use Rattle.xpath.specs.Tree.{Child}
 use Rattle.lists.specs.Lists.{All}
-use Rattle.library.specs.Library.{Node}
-use Rattle.library.specs.Binary.{treeOf}
-use Rattle.library.specs.Verdict.{Accepts}
-use Rattle.library.specs.Intervals.{End}
-use Rattle.library.proofs.Intervals.{end-of}
-use Rattle.links.specs.Table.{LEFT, RIGHT, NONE, column, cell, word, Wrote}
-use Rattle.links.specs.Links.{Points}
+use Rattle.document_spec.specs.Library.{Node}
+use Rattle.document_spec.specs.Binary.{treeOf}
+use Rattle.document_spec.specs.Verdict.{Accepts}
+use Rattle.document_spec.specs.Intervals.{End}
+use Rattle.document_spec.proofs.Intervals.{end-of}
+use Rattle.table.specs.Table.{LEFT, RIGHT, NONE, column, cell, word, Wrote}
+use Rattle.table.specs.Links.{Points}
 use Rattle.ranks.specs.Ranks.{Tabled}
 use Rattle.ranks.specs.Texts.{FIRST-TEXT, LAST-TEXT, Bounds, Extent, Content, Told, Arranged}
 use Rattle.ranks.specs.Values.{Inner}

@@ -6,14 +6,14 @@ use mathlib.Core.List.{List, [], _∷_}
 use lib.ListN.{length}
 use lib.Seq.{slice, length-slice}
 use native.Mathlib.Omega.{arith}
-use Rattle.library.specs.Library.{Node, element, text, at, Value}
-use Rattle.library.specs.Binary.{stringOf}
-use Rattle.library.specs.Verdict.{Accepts}
-use Rattle.library.proofs.Binary.{depth-small}
+use Rattle.document_spec.specs.Library.{Node, element, text, at, Value}
+use Rattle.document_spec.specs.Binary.{stringOf}
+use Rattle.document_spec.specs.Verdict.{Accepts}
+use Rattle.document_spec.proofs.Binary.{depth-small}
 use Rattle.document.specs.declared.entries.Entry.{Entry}
 use Rattle.document.specs.Entries.{IsEntry}
-use Rattle.links.specs.Table.{NONE, cell, word, Wrote}
-use Rattle.links.proofs.Wrote.{wrote-then}
+use Rattle.table.specs.Table.{NONE, cell, word, Wrote}
+use Rattle.table.proofs.Wrote.{wrote-then}
 use Rattle.values.specs.Comes.{Lies}
 use Rattle.values.proofs.Cursor.{used-up}
 use Rattle.ranks.specs.Values.{Inside, Lasts}

@@ -4,10 +4,10 @@ use mathlib.Core.Path.{_≡_, refl, sym, ap, ap₂, _∙_}
 use mathlib.Core.List.{List, [], _∷_}
 use native.Mathlib.Omega.{arith}
 use native.Mathlib.Decide.{ℕ-discrete}
-use Rattle.library.specs.Library.{Node}
-use Rattle.library.specs.Binary.{before, stringOf}
-use Rattle.library.specs.Verdict.{Accepts}
-use Rattle.links.specs.Table.{RANK, cell, word, Wrote}
+use Rattle.document_spec.specs.Library.{Node}
+use Rattle.document_spec.specs.Binary.{before, stringOf}
+use Rattle.document_spec.specs.Verdict.{Accepts}
+use Rattle.table.specs.Table.{RANK, cell, word, Wrote}
 use Rattle.ranks.specs.Ranks.{one, isSmaller}
 use Rattle.ranks.specs.Texts.{FIRST-TEXT, Arranged}
 use Rattle.ranks.specs.Sorting.{ORDER, entry, Entries, Sorted, dense, Numbered}

@@ -6,11 +6,11 @@ use mathlib.Core.List.{List, _++_}
 use lib.ListN.{drop}
 use native.Mathlib.Omega.{arith}
 use native.Mathlib.Numerals.{add-one}
-use Rattle.library.specs.Library.{Node}
-use Rattle.library.specs.Binary.{joined, stringOf}
-use Rattle.library.specs.Verdict.{Accepts}
+use Rattle.document_spec.specs.Library.{Node}
+use Rattle.document_spec.specs.Binary.{joined, stringOf}
+use Rattle.document_spec.specs.Verdict.{Accepts}
 use Rattle.document.specs.Entries.{Start}
-use Rattle.links.specs.Table.{NONE, offsetOf}
+use Rattle.table.specs.Table.{NONE, offsetOf}
 use Rattle.values.specs.Comes.{Comes}
 use Rattle.values.proofs.Cursor.{alone-comes}
 use Rattle.ranks.specs.Values.{Inside, Lasts, IsValue}

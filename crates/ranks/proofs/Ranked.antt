@@ -8,11 +8,11 @@ use native.Mathlib.Omega.{arith}
 use native.Mathlib.Decide.{decLt}
 use Rattle.xpath.specs.Meaning.{Less}
 use Rattle.xpath.proofs.Order.{less-irreflexive, less-trichotomous}
-use Rattle.library.specs.Library.{Node}
-use Rattle.library.specs.Binary.{stringOf}
-use Rattle.library.specs.Verdict.{Accepts}
-use Rattle.links.specs.Table.{RANK, word}
-use Rattle.links.specs.Links.{Linked}
+use Rattle.document_spec.specs.Library.{Node}
+use Rattle.document_spec.specs.Binary.{stringOf}
+use Rattle.document_spec.specs.Verdict.{Accepts}
+use Rattle.table.specs.Table.{RANK, word}
+use Rattle.table.specs.Links.{Linked}
 use Rattle.ranks.specs.Ranks.{Tabled, Ranked, Written}
 use Rattle.ranks.specs.Notes.{Noted}
 use Rattle.ranks.specs.Sorting.{entry, Sorted, dense, Sorting, Numbered}

@@ -4,12 +4,12 @@ use mathlib.Core.Path.{_≡_, sym, ap, _∙_, subst}
 use mathlib.Core.List.{List}
 use lib.ListN.{length}
 use native.Mathlib.Omega.{arith}
-use Rattle.library.specs.Library.{Node}
-use Rattle.library.specs.Verdict.{Accepts}
-use Rattle.library.proofs.Accepted.{accepts-one}
+use Rattle.document_spec.specs.Library.{Node}
+use Rattle.document_spec.specs.Verdict.{Accepts}
+use Rattle.document_spec.proofs.Accepted.{accepts-one}
 use Rattle.document.specs.Entries.{Stands}
-use Rattle.links.specs.Table.{NONE, offsetOf}
-use Rattle.links.specs.Links.{Linked}
+use Rattle.table.specs.Table.{NONE, offsetOf}
+use Rattle.table.specs.Links.{Linked}
 use Rattle.ranks.specs.Ranks.{Tabled}
 
 module _ {s : List ℕ} {n : ℕ} {t : List ℕ} (h : Tabled s n t) where

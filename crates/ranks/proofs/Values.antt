@@ -7,11 +7,11 @@ use lib.ListN.{length, drop}
 use lib.Seq.{slice, slice-empty}
 use native.Mathlib.Omega.{arith}
 use Rattle.xpath.specs.Meaning.{Less}
-use Rattle.library.specs.Library.{Node, Kind, element, attribute, text, at}
-use Rattle.library.specs.Binary.{textOf, joined, stringOf}
-use Rattle.library.specs.Intervals.{deep, texts}
-use Rattle.library.proofs.Intervals.{joined-in, joined-slice, element-value}
-use Rattle.links.specs.Table.{NONE}
+use Rattle.document_spec.specs.Library.{Node, Kind, element, attribute, text, at}
+use Rattle.document_spec.specs.Binary.{textOf, joined, stringOf}
+use Rattle.document_spec.specs.Intervals.{deep, texts}
+use Rattle.document_spec.proofs.Intervals.{joined-in, joined-slice, element-value}
+use Rattle.table.specs.Table.{NONE}
 use Rattle.values.proofs.Cursor.{element-text, attribute-text, text-text, text-value}
 use Rattle.ranks.specs.Texts.{Spoken, Bounds}
 use Rattle.ranks.specs.Values.{Inside, Lasts}

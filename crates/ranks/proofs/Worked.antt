@@ -5,11 +5,11 @@ use mathlib.Core.List.{List, [], _∷_}
 use lib.ListN.{length}
 use native.Mathlib.Nat.{mul-le-mul-right}
 use native.Mathlib.Omega.{arith}
-use Rattle.library.specs.Library.{Node}
-use Rattle.library.specs.Verdict.{Accepts}
-use Rattle.links.specs.Table.{COLUMNS, RANK, cell, Wrote, Kept}
-use Rattle.links.specs.Links.{Linked}
-use Rattle.links.proofs.Linked.{linked-same}
+use Rattle.document_spec.specs.Library.{Node}
+use Rattle.document_spec.specs.Verdict.{Accepts}
+use Rattle.table.specs.Table.{COLUMNS, RANK, cell, Wrote, Kept}
+use Rattle.table.specs.Links.{Linked}
+use Rattle.table.proofs.Linked.{linked-same}
 use Rattle.ranks.specs.Ranks.{Tabled, Confined, Worked}
 use Rattle.ranks.specs.Texts.{Arranged}
 use Rattle.ranks.specs.Notes.{Noted}

@@ -4,12 +4,12 @@ use mathlib.Core.Path.{_≡_}
 use mathlib.Core.Logic.{_⊎_}
 use mathlib.Core.List.{List, [], _∷_}
 use Rattle.limits.specs.Limits.{wordValues}
-use Rattle.library.specs.Library.{Node}
-use Rattle.library.specs.Binary.{stringOf}
-use Rattle.library.specs.Verdict.{Accepts}
-use Rattle.library.specs.Intervals.{End}
+use Rattle.document_spec.specs.Library.{Node}
+use Rattle.document_spec.specs.Binary.{stringOf}
+use Rattle.document_spec.specs.Verdict.{Accepts}
+use Rattle.document_spec.specs.Intervals.{End}
 use Rattle.document.specs.declared.entries.Span.{Span}
-use Rattle.links.specs.Table.{NONE, cell, word}
+use Rattle.table.specs.Table.{NONE, cell, word}
 use Rattle.values.specs.Comes.{Lies}
 use Rattle.ranks.specs.Ranks.{Tabled, Confined}
 use Rattle.ranks.specs.Texts.{FIRST-TEXT, Bounds, Told}

@@ -7,11 +7,11 @@ use mathlib.Core.List.{List}
 use lib.ListN.{length, getD}
 use Rattle.xpath.specs.Meaning.{Less}
 use Rattle.xpath.specs.Order.{lessb}
-use Rattle.library.specs.Library.{Node}
-use Rattle.library.specs.Binary.{pick, stringOf}
-use Rattle.library.specs.Verdict.{Accepts}
-use Rattle.links.specs.Table.{COLUMNS, RANK, word, Room, Kept}
-use Rattle.links.specs.Links.{Linked}
+use Rattle.document_spec.specs.Library.{Node}
+use Rattle.document_spec.specs.Binary.{pick, stringOf}
+use Rattle.document_spec.specs.Verdict.{Accepts}
+use Rattle.table.specs.Table.{COLUMNS, RANK, word, Room, Kept}
+use Rattle.table.specs.Links.{Linked}
 
 -- t begins with the table of the tree of an accepted document with n nodes
 pub record Tabled (s : List ℕ) (n : ℕ) (t : List ℕ) : Type 0 where

@@ -4,10 +4,10 @@ use mathlib.Core.Path.{_≡_}
 use mathlib.Core.Logic.{_⊎_}
 use mathlib.Core.List.{List, []}
 use lib.ListN.{length}
-use Rattle.library.specs.Library.{Node, at}
-use Rattle.library.specs.Binary.{textOf}
-use Rattle.library.specs.Intervals.{End}
-use Rattle.links.specs.Table.{RANK, NONE, word}
+use Rattle.document_spec.specs.Library.{Node, at}
+use Rattle.document_spec.specs.Binary.{textOf}
+use Rattle.document_spec.specs.Intervals.{End}
+use Rattle.table.specs.Table.{RANK, NONE, word}
 use Rattle.ranks.specs.Ranks.{Confined}
 
 abbrev pub FIRST-TEXT : ℕ

@@ -5,10 +5,10 @@ use mathlib.Core.Logic.{_⊎_}
 use mathlib.Core.List.{List, [], _++_}
 use lib.ListN.{length}
 use lib.Seq.{slice}
-use Rattle.library.specs.Library.{Node, element, at}
-use Rattle.library.specs.Binary.{textOf, stringOf}
-use Rattle.library.specs.Intervals.{texts}
-use Rattle.links.specs.Table.{NONE}
+use Rattle.document_spec.specs.Library.{Node, element, at}
+use Rattle.document_spec.specs.Binary.{textOf, stringOf}
+use Rattle.document_spec.specs.Intervals.{texts}
+use Rattle.table.specs.Table.{NONE}
 use Rattle.values.specs.Comes.{Comes}
 use Rattle.ranks.specs.Texts.{Content, Bounds}
 use Rattle.ranks.specs.declared.comparison.Value.{Value}

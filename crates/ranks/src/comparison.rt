@@ -1,17 +1,17 @@
 // The order of the string values of two nodes. Where both begin at the same node they need not be read: then one begins with the other, and how far they go decides.
 use crate::notes::get_note;
 use limits::Scratch;
-use links::table::Table;
-use links::table::offset;
+use table::table::Table;
+use table::table::offset;
 use values::order::Order;
 use values::order::compare;
 use values::reading::Reading;
 ghost use mathlib.Core.List.{List};
 ghost use mathlib.Core.Path.{_≡_};
 ghost use Prim.Native.Nat.{ℕ, _≤_, _<_};
-ghost use Rattle.library.specs.Library as Library;
-ghost use Rattle.library.specs.Binary.{stringOf};
-ghost use Rattle.library.specs.Verdict.{Accepts};
+ghost use Rattle.document_spec.specs.Library as Library;
+ghost use Rattle.document_spec.specs.Binary.{stringOf};
+ghost use Rattle.document_spec.specs.Verdict.{Accepts};
 ghost use Rattle.values.specs.Comes.{Comes};
 ghost use Rattle.values.specs.Ordered.{Ordered};
 ghost use Rattle.ranks.specs.Ranks.{one, isSmaller};

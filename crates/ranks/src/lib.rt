@@ -11,9 +11,9 @@ use marks::mark_all;
 use number::number;
 use sort::sort;
 ghost use mathlib.Core.List.{List};
-ghost use Rattle.library.specs.Library as Library;
-ghost use Rattle.library.specs.Verdict.{Accepts};
-ghost use Rattle.links.specs.Links.{Linked};
+ghost use Rattle.document_spec.specs.Library as Library;
+ghost use Rattle.document_spec.specs.Verdict.{Accepts};
+ghost use Rattle.table.specs.Links.{Linked};
 ghost use Rattle.ranks.specs.Ranks.{Tabled, Written};
 
 // The rank of each node, in the column for it: so values are compared here, and behind this only numbers.

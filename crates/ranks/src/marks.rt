@@ -7,12 +7,12 @@ use crate::texts::gather;
 use crate::texts::inside;
 use crate::texts::own;
 use document::entries::read_entry;
-use links::table::offset;
-use links::table::put;
+use table::table::offset;
+use table::table::put;
 ghost use mathlib.Core.List.{List};
 ghost use Prim.Native.Nat.{suc, _<_};
-ghost use Rattle.library.specs.Library as Library;
-ghost use Rattle.library.specs.Verdict.{Accepts};
+ghost use Rattle.document_spec.specs.Library as Library;
+ghost use Rattle.document_spec.specs.Verdict.{Accepts};
 ghost use Rattle.ranks.specs.Ranks.{Tabled};
 ghost use Rattle.ranks.specs.Notes.{Marked, Seen, Noted};
 

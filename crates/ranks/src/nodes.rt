@@ -1,13 +1,13 @@
 // The string value of a node, found through the table of the tree.
-use links::table::offset;
+use table::table::offset;
 use values::reading::Reading;
 use values::reading::open;
 ghost use mathlib.Core.List.{List};
 ghost use Prim.Native.Nat.{_<_};
-ghost use Rattle.library.specs.Library as Library;
-ghost use Rattle.library.specs.Binary.{stringOf};
-ghost use Rattle.library.specs.Verdict.{Accepts};
-ghost use Rattle.links.specs.Links.{Linked};
+ghost use Rattle.document_spec.specs.Library as Library;
+ghost use Rattle.document_spec.specs.Binary.{stringOf};
+ghost use Rattle.document_spec.specs.Verdict.{Accepts};
+ghost use Rattle.table.specs.Links.{Linked};
 ghost use Rattle.values.specs.Comes.{Comes};
 ghost use Rattle.ranks.specs.Ranks.{Tabled};
 

@@ -2,9 +2,9 @@
 use crate::comparison::one_if_smaller;
 use crate::comparison::value_of;
 use crate::sort::ORDER;
-use links::table::Table;
-use links::table::get;
-use links::table::put;
+use table::table::Table;
+use table::table::get;
+use table::table::put;
 ghost use Rattle.ranks.specs.Sorting.{Entries, Numbered};
 ghost use Rattle.ranks.specs.Notes.{Marked};
 

@@ -1,20 +1,20 @@
 // Where the text under each node of the binary tree begins and ends, in two columns: all text under a node stands between them, so nodes with the same two have the same text.
 use document::entries::Entry;
 use document::rules::Kind;
-use links::table::Table;
-use links::table::get;
-use links::table::left;
-use links::table::right;
+use table::table::Table;
+use table::table::get;
+use table::table::left;
+use table::table::right;
 ghost use mathlib.Core.List.{List};
 ghost use mathlib.Core.Logic.{_⊎_, _≢_};
 ghost use mathlib.Core.Path.{_≡_};
 ghost use Prim.Native.Nat.{ℕ, suc, _≤_, _<_};
 ghost use lib.ListN.{length};
-ghost use Rattle.library.specs.Library as Library;
-ghost use Rattle.library.specs.Verdict.{Accepts};
-ghost use Rattle.library.specs.Intervals.{End};
+ghost use Rattle.document_spec.specs.Library as Library;
+ghost use Rattle.document_spec.specs.Verdict.{Accepts};
+ghost use Rattle.document_spec.specs.Intervals.{End};
 ghost use Rattle.document.specs.Entries.{IsEntry};
-ghost use Rattle.links.specs.Table.{NONE, Room};
+ghost use Rattle.table.specs.Table.{NONE, Room};
 ghost use Rattle.ranks.specs.Texts.{Bounds, Extent, Told};
 ghost use Rattle.ranks.specs.Values.{Inner};
 ghost use Rattle.ranks.specs.Notes.{Marked};

@@ -8,10 +8,10 @@ use native.Mathlib.Decide.{ℕ-discrete}
 use native.Mathlib.Omega.{arith}
 use lib.ListN.{length, getD}
 use Rattle.bits.specs.Sets.{bit, or, is}
-use Rattle.walks.specs.declared.Machine.{Machine}
-use Rattle.walks.specs.Part.{SEEN}
-use Rattle.walks.specs.Walks.{Leads, Walk, here, on}
-use Rattle.walks.proofs.Walking.{walk-inside}
+use Rattle.machine.specs.declared.Machine.{Machine}
+use Rattle.machine.specs.Part.{SEEN}
+use Rattle.machine.specs.Walks.{Leads, Walk, here, on}
+use Rattle.machine.proofs.Walking.{walk-inside}
 use Rattle.reach.specs.Reached.{Reached}
 use Rattle.reach.specs.Work.{Seen, Has, nodeOf, Work, Added, At, Cleared, Onward, After}
 use Rattle.matrices.proofs.Members.{single-in, single-out}

@@ -6,11 +6,11 @@ use mathlib.Core.List.{List}
 use native.Mathlib.Omega.{arith}
 use lib.ListN.{getD}
 use Rattle.bits.specs.Sets.{bit}
-use Rattle.links.specs.Table.{LEFT, cell}
-use Rattle.walks.specs.declared.Machine.{Machine}
-use Rattle.walks.specs.Part.{STAYS, SEEN}
-use Rattle.walks.specs.Walks.{Leads, left, right, fromLeft, fromRight, stays, Walk, here, on}
-use Rattle.walks.proofs.Walking.{walk-inside}
+use Rattle.table.specs.Table.{LEFT, cell}
+use Rattle.machine.specs.declared.Machine.{Machine}
+use Rattle.machine.specs.Part.{STAYS, SEEN}
+use Rattle.machine.specs.Walks.{Leads, left, right, fromLeft, fromRight, stays, Walk, here, on}
+use Rattle.machine.proofs.Walking.{walk-inside}
 
 pub walk-on : {m : Machine} {n : ℕ} {p : List ℕ} {i v j u k w : ℕ} → Walk m n p i v j u → k < 16 → bit (getD (m .rows) j 0) k ≡ true → Leads m n p u k w
     → Walk m n p i v k w

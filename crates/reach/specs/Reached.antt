@@ -7,10 +7,10 @@ use mathlib.Core.List.{List}
 use lib.ListN.{length, getD}
 use Rattle.limits.specs.Limits.{positions}
 use Rattle.bits.specs.Sets.{bit}
-use Rattle.links.specs.Table.{word}
-use Rattle.walks.specs.declared.Machine.{Machine}
-use Rattle.walks.specs.Part.{SEEN}
-use Rattle.walks.specs.Walks.{Walk}
+use Rattle.table.specs.Table.{word}
+use Rattle.machine.specs.declared.Machine.{Machine}
+use Rattle.machine.specs.Part.{SEEN}
+use Rattle.machine.specs.Walks.{Walk}
 
 -- the column says what i at v comes to, and all before it is as it was
 pub record Reached (m : Machine) (n i v : ℕ) (p p′ : List ℕ) : Type 0 where

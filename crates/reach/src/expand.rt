@@ -2,18 +2,18 @@
 use crate::list::add;
 use bits::meet;
 use bits::union;
-use links::table::Table;
-use links::table::get;
+use machine::Machine;
+use machine::Part;
 use matrices::followers::followers;
-use walks::Machine;
-use walks::Part;
+use table::table::Table;
+use table::table::get;
 ghost use mathlib.Core.Path.{_≡_};
 ghost use mathlib.Core.Bool.{true};
 ghost use mathlib.Core.Logic.{_↔_};
 ghost use Prim.Native.Nat.{ℕ, _<_};
 ghost use Rattle.bits.specs.Sets.{bit};
-ghost use Rattle.links.specs.Table.{COLUMNS, Room, word};
-ghost use Rattle.walks.specs.Part.{Space};
+ghost use Rattle.table.specs.Table.{COLUMNS, Room, word};
+ghost use Rattle.machine.specs.Part.{Space};
 ghost use Rattle.reach.specs.Work.{Work, Added, Climbs, Onward, After};
 
 // The set `w` if `v` stands in column `c` of node `u`, and else the empty set.

@@ -6,10 +6,10 @@ use bits::insert;
 use expand::expand;
 use list::add;
 use list::clear;
-use walks::Machine;
+use machine::Machine;
 ghost use Prim.Native.Nat.{_<_};
 ghost use Rattle.limits.specs.Limits.{positions};
-ghost use Rattle.walks.specs.Part.{Space};
+ghost use Rattle.machine.specs.Part.{Space};
 ghost use Rattle.reach.specs.Reached.{Reached};
 
 // What `i` at node `v` comes to, at every node.

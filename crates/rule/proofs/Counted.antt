@@ -11,9 +11,9 @@ use lib.Dec.{leb}
 use borrow.Author.Tests.{ne-eqb, leb-true, leb-false}
 use Rattle.limits.specs.Limits.{comparisonSteps}
 use Rattle.lists.specs.Lists.{All, Occurs}
-use Rattle.grammar.specs.Parts.{Part, Sort, tests}
-use Rattle.grammar.specs.Verdict.{Heavy}
-use Rattle.grammar.specs.Bytes.{choose}
+use Rattle.rule_spec.specs.Parts.{Part, Sort, tests}
+use Rattle.rule_spec.specs.Verdict.{Heavy}
+use Rattle.rule_spec.specs.Bytes.{choose}
 use Rattle.rule.specs.declared.tally.Tally.{Tally}
 use Rattle.rule.specs.Tallies.{nowhere, tally, crowds, begins, begun, heavier, weighed, noted, tallied}
 

@@ -10,8 +10,8 @@ use borrow.Author.Tests.{ne-eqb}
 use denote.Enum.Declared.{tagOf}
 use types.Run.{OneOf}
 use Rattle.limits.specs.Limits.{ruleNesting}
-use Rattle.grammar.specs.Machine.{Symbol, test, path, Stack, Values, move, rest, stopped, close}
-use Rattle.grammar.proofs.Comes.{ends-as, meets-here}
+use Rattle.rule_spec.specs.Machine.{Symbol, test, path, Stack, Values, move, rest, stopped, close}
+use Rattle.rule_spec.proofs.Comes.{ends-as, meets-here}
 use Rattle.rule.specs.declared.heads.TestHead.{TestHead}
 use Rattle.rule.specs.declared.heads.TestHead.the-variants.{Name, Not, TwoTests, Comparison, NoTest, DeepTest}
 use Rattle.rule.specs.declared.heads.PathHead.{PathHead}

@@ -9,7 +9,7 @@ use denote.Enum.Declared.{tagOf}
 use types.Run.{OneOf}
 use Rattle.limits.specs.Limits.{ruleNesting}
 use Rattle.xpath.specs.Syntax.{Test}
-use Rattle.grammar.specs.Machine.{Symbol, Answer, Key}
+use Rattle.rule_spec.specs.Machine.{Symbol, Answer, Key}
 use Rattle.rule.specs.declared.tally.Tally.{Tally}
 use Rattle.rule.specs.declared.readers.Read.{Read}
 use Rattle.rule.specs.declared.readers.Read.the-variants.{Behind, Stuck, Deep}

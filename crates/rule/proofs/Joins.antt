@@ -7,10 +7,10 @@ use mathlib.Core.List.{List, _∷_, _++_, map-append}
 use lib.ListN.{length, drop}
 use Rattle.lists.proofs.Lists.{all-append}
 use Rattle.xpath.specs.Syntax.{Test}
-use Rattle.grammar.specs.Parts.{Part}
-use Rattle.grammar.specs.Machine.{Symbol, Stack, Value, move, Answer, stopped, close, Key}
-use Rattle.grammar.specs.Readers.{key, keys, Returns}
-use Rattle.grammar.proofs.Comes.{fresh, comes-as, ends-as, comes-none, comes-one, ends-one, comes-two, ends-first, ends-second}
+use Rattle.rule_spec.specs.Parts.{Part}
+use Rattle.rule_spec.specs.Machine.{Symbol, Stack, Value, move, Answer, stopped, close, Key}
+use Rattle.rule_spec.specs.Readers.{key, keys, Returns}
+use Rattle.rule_spec.proofs.Comes.{fresh, comes-as, ends-as, comes-none, comes-one, ends-one, comes-two, ends-first, ends-second}
 use Rattle.rule.specs.declared.tally.Tally.{Tally}
 use Rattle.rule.specs.declared.readers.Read.{Read}
 use Rattle.rule.specs.declared.readers.Read.the-variants.{Behind, Stuck, Deep}

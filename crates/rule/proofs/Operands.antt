@@ -8,11 +8,11 @@ use lib.ListN.{drop, length-append}
 use borrow.Author.Tests.{ne-eqb}
 use Rattle.lists.proofs.Lists.{all-append}
 use Rattle.xpath.specs.Syntax.{Op, Test}
-use Rattle.grammar.specs.Spelling.{spellPath}
-use Rattle.grammar.specs.Parts.{pathParts}
-use Rattle.grammar.specs.Machine.{path, byte, signed, operand, Stack, Values, rest, over, Answer, stopped, close, Key}
-use Rattle.grammar.specs.Readers.{goes, keys}
-use Rattle.grammar.proofs.Reading.{as-path}
+use Rattle.rule_spec.specs.Spelling.{spellPath}
+use Rattle.rule_spec.specs.Parts.{pathParts}
+use Rattle.rule_spec.specs.Machine.{path, byte, signed, operand, Stack, Values, rest, over, Answer, stopped, close, Key}
+use Rattle.rule_spec.specs.Readers.{goes, keys}
+use Rattle.rule_spec.proofs.Reading.{as-path}
 use Rattle.rule.specs.declared.tally.Tally.{Tally}
 use Rattle.rule.specs.declared.readers.Read.{Read}
 use Rattle.rule.specs.declared.readers.Read.the-variants.{Behind, Stuck, Deep}

@@ -9,9 +9,9 @@ use mathlib.Core.List.{List, [], _∷_, _++_, append-nil}
 use lib.ListN.{length, length-append}
 use Rattle.limits.specs.Limits.{ruleNesting}
 use Rattle.xpath.specs.Syntax.{Test, XPath, empty, one, seq, union, star, toLeft, toRight, fromLeft, fromRight, stay, steps}
-use Rattle.grammar.specs.Spelling.{spellTest, spellPath, spellStep}
-use Rattle.grammar.specs.Parts.{Sort, testParts, pathParts, stepParts}
-use Rattle.grammar.specs.Machine.{test, path, byte, Stack, move, Answer, Key}
+use Rattle.rule_spec.specs.Spelling.{spellTest, spellPath, spellStep}
+use Rattle.rule_spec.specs.Parts.{Sort, testParts, pathParts, stepParts}
+use Rattle.rule_spec.specs.Machine.{test, path, byte, Stack, move, Answer, Key}
 use Rattle.rule.specs.declared.tally.Tally.{Tally}
 use Rattle.rule.specs.declared.readers.Read.{Read}
 use Rattle.rule.specs.declared.heads.PathHead.the-variants as head

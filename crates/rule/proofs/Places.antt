@@ -10,10 +10,10 @@ use lib.Seq.{drop-cons, drop-length}
 use lib.Dec.{eqb}
 use borrow.Author.Tests.{eqb-true, eqb-false}
 use Rattle.xpath.specs.Syntax.{Test}
-use Rattle.grammar.specs.Machine.{Symbol, Stack, Value, move, rest, over, Answer, stopped, close, Key}
-use Rattle.grammar.specs.Readers.{Returns}
-use Rattle.grammar.proofs.Comes.{ends-as, stops-here}
-use Rattle.grammar.proofs.Readers.{end-fails}
+use Rattle.rule_spec.specs.Machine.{Symbol, Stack, Value, move, rest, over, Answer, stopped, close, Key}
+use Rattle.rule_spec.specs.Readers.{Returns}
+use Rattle.rule_spec.proofs.Comes.{ends-as, stops-here}
+use Rattle.rule_spec.proofs.Readers.{end-fails}
 use Rattle.rule.specs.Readers.{Lacks, Stands, Stood, Halts, StuckAt, Turns}
 
 module _ (s : List ℕ) where

@@ -8,8 +8,8 @@ use mathlib.Core.List.{List, [], _∷_, _++_}
 use lib.Dec.{leb, ltb}
 use borrow.Author.Tests.{eq-eqb, ne-eqb, le-leb, lt-leb, lt-ltb, le-ltb}
 use Rattle.limits.specs.Limits.{comparisonSteps}
-use Rattle.grammar.specs.Parts.{Part, Sort}
-use Rattle.grammar.specs.Bytes.{choose}
+use Rattle.rule_spec.specs.Parts.{Part, Sort}
+use Rattle.rule_spec.specs.Bytes.{choose}
 use Rattle.rule.specs.declared.tally.Tally.{Tally}
 use Rattle.rule.specs.declared.Verdict.the-variants.{Accepted, Tests, Steps}
 use Rattle.rule.specs.Check.{judgedBy}

@@ -8,10 +8,10 @@ use mathlib.Core.Option.{some}
 use mathlib.Core.List.{List, [], _∷_, _++_, append-nil}
 use lib.ListN.{length, length-append}
 use Rattle.xpath.specs.Syntax.{Op, Test, named, not, and, or, XPath, size}
-use Rattle.grammar.specs.Spelling.{sign, spellTest, spellPath}
-use Rattle.grammar.specs.Parts.{Part, Sort, testParts, pathParts}
-use Rattle.grammar.specs.Machine.{test, path, label, signed, move, comparing, Operand, Answer, Key}
-use Rattle.grammar.specs.Readers.{spellOperand}
+use Rattle.rule_spec.specs.Spelling.{sign, spellTest, spellPath}
+use Rattle.rule_spec.specs.Parts.{Part, Sort, testParts, pathParts}
+use Rattle.rule_spec.specs.Machine.{test, path, label, signed, move, comparing, Operand, Answer, Key}
+use Rattle.rule_spec.specs.Readers.{spellOperand}
 use Rattle.rule.specs.declared.tally.Tally.{Tally}
 use Rattle.rule.specs.declared.readers.Read.{Read}
 use Rattle.rule.specs.declared.heads.TestHead.the-variants.{Name, Not, TwoTests}

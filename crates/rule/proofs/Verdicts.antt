@@ -16,19 +16,19 @@ use Rattle.lists.proofs.Lists.{all-occurs, all-imp, occurs-right}
 use Rattle.refusals.specs.Refusals.{Refusal, ruleLength, unreadable, nesting, tests, steps, stage, Earlier, First}
 use Rattle.refusals.proofs.Refusals.{earlier-irrefl}
 use Rattle.xpath.specs.Syntax.{Test}
-use Rattle.grammar.specs.Parts as Parts
-use Rattle.grammar.specs.Parts.{Part, parts}
-use Rattle.grammar.specs.Verdict.{Reads, Unreadable, TooDeep, ManyTests, ManySteps, RuleGround}
-use Rattle.grammar.specs.Bytes.{choose}
-use Rattle.grammar.specs.Machine.{test, read, stopped, close, over, move, rest, Key}
-use Rattle.grammar.specs.Readers.{goes, keys, Returns}
-use Rattle.grammar.proofs.Machine.{answer, ruleStart}
-use Rattle.grammar.proofs.Runs.{seenOf, answer-seen}
-use Rattle.grammar.proofs.Seen.{read-part, deep-before}
-use Rattle.grammar.proofs.Least.{Settles}
-use Rattle.grammar.proofs.Grounds.{reads-one, deep-iff, manyTestsAt, tests-settles, manyStepsAt, steps-settles}
-use Rattle.grammar.proofs.Accepted.{unrefused-accepted}
-use Rattle.grammar.proofs.Readers.{rule-reads, rule-goes-on, rule-stops, rule-deep}
+use Rattle.rule_spec.specs.Parts as Parts
+use Rattle.rule_spec.specs.Parts.{Part, parts}
+use Rattle.rule_spec.specs.Verdict.{Reads, Unreadable, TooDeep, ManyTests, ManySteps, RuleGround}
+use Rattle.rule_spec.specs.Bytes.{choose}
+use Rattle.rule_spec.specs.Machine.{test, read, stopped, close, over, move, rest, Key}
+use Rattle.rule_spec.specs.Readers.{goes, keys, Returns}
+use Rattle.rule_spec.proofs.Machine.{answer, ruleStart}
+use Rattle.rule_spec.proofs.Runs.{seenOf, answer-seen}
+use Rattle.rule_spec.proofs.Seen.{read-part, deep-before}
+use Rattle.rule_spec.proofs.Least.{Settles}
+use Rattle.rule_spec.proofs.Grounds.{reads-one, deep-iff, manyTestsAt, tests-settles, manyStepsAt, steps-settles}
+use Rattle.rule_spec.proofs.Accepted.{unrefused-accepted}
+use Rattle.rule_spec.proofs.Readers.{rule-reads, rule-goes-on, rule-stops, rule-deep}
 use Rattle.rule.specs.declared.tally.Tally.{Tally}
 use Rattle.rule.specs.declared.Verdict.the-variants.{Accepted, Tests, Steps}
 use Rattle.rule.specs.Tallies.{nowhere, untold}

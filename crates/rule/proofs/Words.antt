@@ -14,16 +14,16 @@ use borrow.Author.Tests.{eq-eqb, ne-eqb}
 use Rattle.limits.specs.Limits.{constantBytes}
 use Rattle.lists.specs.Text.{Letter}
 use Rattle.xpath.specs.Syntax.{Op, eq, ne, lt, le, gt, ge, Test}
-use Rattle.grammar.specs.Spelling.{sign}
-use Rattle.grammar.specs.Bytes.{choose, isLetter, isNameByte, isPrintable}
-use Rattle.grammar.specs.Machine.{Symbol, byte, label, tail, quoted, signed, orEqual, operand, Stack, Value, Values, move, rest, over, Answer, stopped, close, Key}
-use Rattle.grammar.specs.Readers.{goes, Unnamed, Returns}
-use Rattle.grammar.proofs.Bytes.{letter-iff, nameByte-iff, clash}
-use Rattle.grammar.proofs.Comes.{comes-as, comes-none}
-use Rattle.grammar.proofs.Reading.{as-operand}
-use Rattle.grammar.proofs.Readers.{name-ends, name-full}
-use Rattle.fields.specs.declared.Class.the-variants.{Label, Text}
-use Rattle.fields.specs.Reading.{isBetween, inClass}
+use Rattle.rule_spec.specs.Spelling.{sign}
+use Rattle.rule_spec.specs.Bytes.{choose, isLetter, isNameByte, isPrintable}
+use Rattle.rule_spec.specs.Machine.{Symbol, byte, label, tail, quoted, signed, orEqual, operand, Stack, Value, Values, move, rest, over, Answer, stopped, close, Key}
+use Rattle.rule_spec.specs.Readers.{goes, Unnamed, Returns}
+use Rattle.rule_spec.proofs.Bytes.{letter-iff, nameByte-iff, clash}
+use Rattle.rule_spec.proofs.Comes.{comes-as, comes-none}
+use Rattle.rule_spec.proofs.Reading.{as-operand}
+use Rattle.rule_spec.proofs.Readers.{name-ends, name-full}
+use Rattle.lexer.specs.declared.Class.the-variants.{Label, Text}
+use Rattle.lexer.specs.Reading.{isBetween, inClass}
 use Rattle.rule.specs.declared.tally.Tally.{Tally}
 use Rattle.rule.specs.declared.readers.Read.{Read}
 use Rattle.rule.specs.Tallies.{tallied}

@@ -4,8 +4,8 @@ use mathlib.Core.List.{List}
 use lib.Dec.{ltb}
 use Rattle.refusals.specs.Refusals.{ruleLength, unreadable, nesting, tests, steps, First}
 use Rattle.xpath.specs.Syntax.{Test}
-use Rattle.grammar.specs.Verdict.{RuleGround, Accepts}
-use Rattle.grammar.specs.Bytes.{choose}
+use Rattle.rule_spec.specs.Verdict.{RuleGround, Accepts}
+use Rattle.rule_spec.specs.Bytes.{choose}
 use Rattle.rule.specs.declared.tally.Tally.{Tally}
 use Rattle.rule.specs.declared.Verdict.{Verdict}
 use Rattle.rule.specs.declared.Verdict.the-variants.{Accepted, Length, Unreadable, Nesting, Tests, Steps}

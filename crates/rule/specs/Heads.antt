@@ -5,7 +5,7 @@ use mathlib.Core.Logic.{_⊎_}
 use mathlib.Core.List.{List, _∷_}
 use mathlib.Core.Option.{none}
 use Rattle.limits.specs.Limits.{ruleNesting}
-use Rattle.grammar.specs.Machine.{test, path, move, Stack}
+use Rattle.rule_spec.specs.Machine.{test, path, move, Stack}
 use Rattle.rule.specs.declared.heads.TestHead.{TestHead}
 use Rattle.rule.specs.declared.heads.TestHead.the-variants.{Name, Not, TwoTests, Comparison, NoTest, DeepTest}
 use Rattle.rule.specs.declared.heads.PathHead.{PathHead}

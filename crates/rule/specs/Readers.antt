@@ -8,11 +8,11 @@ use lib.ListN.{length, drop}
 use Rattle.limits.specs.Limits.{labelBytes, ruleNesting}
 use Rattle.lists.specs.Lists.{All}
 use Rattle.xpath.specs.Syntax.{Op, Test, size}
-use Rattle.grammar.specs.Spelling.{sign, spellTest, spellPath}
-use Rattle.grammar.specs.Parts.{Part, testParts, pathParts}
-use Rattle.grammar.specs.Bytes.{choose}
-use Rattle.grammar.specs.Machine.{Symbol, test, path, byte, label, tail, quoted, signed, orEqual, operand, Stack, Value, Values, Operand, Answer, stopped, close, Key}
-use Rattle.grammar.specs.Readers.{goes, Ends, Stop, Meet, keys, spellOperand, Returns}
+use Rattle.rule_spec.specs.Spelling.{sign, spellTest, spellPath}
+use Rattle.rule_spec.specs.Parts.{Part, testParts, pathParts}
+use Rattle.rule_spec.specs.Bytes.{choose}
+use Rattle.rule_spec.specs.Machine.{Symbol, test, path, byte, label, tail, quoted, signed, orEqual, operand, Stack, Value, Values, Operand, Answer, stopped, close, Key}
+use Rattle.rule_spec.specs.Readers.{goes, Ends, Stop, Meet, keys, spellOperand, Returns}
 use Rattle.rule.specs.declared.tally.Tally.{Tally}
 use Rattle.rule.specs.declared.tokens.Sign.{Sign}
 use Rattle.rule.specs.declared.tokens.Sign.the-variants.{Passed, NoSign}

@@ -3,8 +3,8 @@ use Prim.Native.Nat.{ℕ, zero, suc, min}
 use mathlib.Core.List.{List, [], _∷_}
 use lib.Dec.{eqb, leb}
 use Rattle.limits.specs.Limits.{ruleBytes, ruleTests, comparisonSteps}
-use Rattle.grammar.specs.Parts.{Part, Sort}
-use Rattle.grammar.specs.Bytes.{choose}
+use Rattle.rule_spec.specs.Parts.{Part, Sort}
+use Rattle.rule_spec.specs.Bytes.{choose}
 use Rattle.rule.specs.declared.tally.Tally.{Tally}
 
 -- no part of a rule that is short enough begins there

@@ -13,7 +13,7 @@ use crate::tokens::constant;
 use crate::tokens::name;
 use crate::tokens::read_sign;
 use crate::tokens::stands;
-ghost use Rattle.grammar.specs.Machine.{test, path, signed, operand};
+ghost use Rattle.rule_spec.specs.Machine.{test, path, signed, operand};
 ghost use Rattle.rule.specs.Readers.{Due, Opened, Reading};
 
 // Behind the part: the offset, the steps and the tally. Or where no rule goes on so, or where a part too deep begins.

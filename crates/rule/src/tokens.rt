@@ -1,13 +1,13 @@
 // Bytes, names, constants and signs: what no test or path stands in.
 use crate::readers::Read;
 use crate::tally::Tally;
-use fields::Class;
-use fields::fits;
+use lexer::Class;
+use lexer::fits;
 use limits::Document;
 use limits::Rule;
 ghost use Prim.Native.Nat.{ℕ, _≤_};
 ghost use lib.ListN.{length};
-ghost use Rattle.grammar.specs.Machine.{label, byte, quoted, operand};
+ghost use Rattle.rule_spec.specs.Machine.{label, byte, quoted, operand};
 ghost use Rattle.limits.specs.Limits.{constantBytes};
 ghost use Rattle.rule.specs.Readers.{Stands, Stood, NameEnds, Reading, SignRead};
 

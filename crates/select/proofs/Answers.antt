@@ -10,14 +10,14 @@ use native.Mathlib.Decide.{decLt}
 use Rattle.limits.specs.Limits.{programInput, programWords, programMarks}
 use Rattle.refusals.specs.Refusals.{Refusal, First}
 use Rattle.xpath.specs.Syntax.{Test}
-use Rattle.library.specs.Library.{Node}
+use Rattle.document_spec.specs.Library.{Node}
 use Rattle.snippets.specs.Count.{SnippetCount}
 use Rattle.streams.specs.Input.{Parts, SplitAt}
 use Rattle.streams.specs.Output.{Marked}
 use Rattle.streams.proofs.Splitting.{parts-some, parts-one}
-use Rattle.selection.specs.Buffers.{Ground, Accepted}
-use Rattle.selection.specs.Evaluation.{Outcome, Selects, Selected, SnippetEvaluation}
-use Rattle.selection.proofs.Agreement.{snippet-evaluation-one}
+use Rattle.evaluation_spec.specs.Buffers.{Ground, Accepted}
+use Rattle.evaluation_spec.specs.Evaluation.{Outcome, Selects, Selected, SnippetEvaluation}
+use Rattle.evaluation_spec.proofs.Agreement.{snippet-evaluation-one}
 use Rattle.evaluation.specs.Outcomes.{refusedBy}
 use Rattle.select.specs.Session.{rest, Answered, Session}
 

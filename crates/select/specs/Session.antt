@@ -5,7 +5,7 @@ use lib.ListN.{length, take, drop, replicate}
 use Rattle.limits.specs.Limits.{programInput, programWords, programMarks}
 use Rattle.refusals.specs.Refusals.{documentLength}
 use Rattle.streams.specs.Input.{Parts}
-use Rattle.selection.specs.Evaluation.{Outcome, Refused, SnippetEvaluation}
+use Rattle.evaluation_spec.specs.Evaluation.{Outcome, Refused, SnippetEvaluation}
 
 -- the bytes from b on, in the form in which they are lent
 abbrev pub rest : ℕ → List ℕ → List ℕ

@@ -6,7 +6,7 @@ use limits::Program;
 ghost use Prim.Native.Nat.{_≤_};
 ghost use mathlib.Core.Path.{_≡_};
 ghost use lib.ListN.{length, take};
-ghost use Rattle.selection.specs.Evaluation.{SnippetEvaluation};
+ghost use Rattle.evaluation_spec.specs.Evaluation.{SnippetEvaluation};
 ghost use Rattle.evaluation.specs.Outcomes.{outcomeOf};
 ghost use Rattle.select.specs.Session.{rest, Answered, Session};
 

@@ -4,7 +4,7 @@ use mathlib.Core.Path.{_≡_, ap, _∙_}
 use mathlib.Core.List.{List, [], _∷_}
 use native.Mathlib.Decide.{ℕ-discrete}
 use native.Mathlib.Omega.{arith}
-use Rattle.links.specs.Table.{cell, word, Wrote}
+use Rattle.table.specs.Table.{cell, word, Wrote}
 use Rattle.skeletons.specs.Steps.{Filled}
 use Rattle.skeletons.proofs.Within.{within-none, within-then, within-put}
 

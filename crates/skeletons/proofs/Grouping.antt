@@ -12,8 +12,8 @@ use Rattle.xpath.proofs.Trees.{one-parent, child-after}
 use Rattle.snippets.specs.Snippets.{Has, Skeleton}
 use Rattle.snippets.specs.Marks.{Marked}
 use Rattle.snippets.proofs.Marks.{BothMarked, skeleton-iff, skeleton-inside}
-use Rattle.links.specs.Table.{RANK, word}
-use Rattle.links.specs.Links.{Points}
+use Rattle.table.specs.Table.{RANK, word}
+use Rattle.table.specs.Links.{Points}
 use Rattle.skeletons.specs.Shape.{Shape, Within}
 use Rattle.skeletons.specs.Skeletons.{FIRST, NEXT, MARKED, IsMarked, IsNoted, Least, Buckets, Ranks, Group, Grouped}
 use Rattle.skeletons.specs.Steps.{Filled, Closed, Joined}

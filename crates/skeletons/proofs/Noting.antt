@@ -4,7 +4,7 @@ use mathlib.Core.Path.{_≡_, sym, ap, _∙_, subst}
 use mathlib.Core.List.{List, [], _∷_}
 use native.Mathlib.Decide.{ℕ-discrete}
 use native.Mathlib.Omega.{arith}
-use Rattle.links.specs.Table.{PARENT, cell, word, Wrote}
+use Rattle.table.specs.Table.{PARENT, cell, word, Wrote}
 use Rattle.skeletons.specs.Skeletons.{MARKED, IsMarked, IsNoted}
 use Rattle.skeletons.specs.Steps.{Marking, Noting, Fork, Closed}
 use Rattle.skeletons.proofs.Within.{within-put, before-within}

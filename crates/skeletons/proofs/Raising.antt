@@ -7,7 +7,7 @@ use native.Mathlib.Decide.{ℕ-discrete}
 use native.Mathlib.Omega.{arith}
 use Rattle.xpath.specs.Tree.{Tree, Child, Under}
 use Rattle.xpath.proofs.Trees.{under-refl, under-trans, under-child}
-use Rattle.links.specs.Table.{PARENT, NONE, word}
+use Rattle.table.specs.Table.{PARENT, NONE, word}
 use Rattle.skeletons.specs.Shape.{Shape, Within}
 use Rattle.skeletons.specs.Skeletons.{MARKED, IsMarked, IsNoted}
 use Rattle.skeletons.specs.Steps.{Marking, Noting, Fork, Closed, Raised, Joined}

@@ -10,10 +10,10 @@ use Rattle.xpath.specs.Syntax.{Test, XPath, stay}
 use Rattle.xpath.specs.Tree.{Tree, Child, WellFormed}
 use Rattle.xpath.specs.Meaning.{Holds}
 use Rattle.xpath.proofs.Trees.{one-child}
-use Rattle.links.specs.Table.{PARENT, RANK, NONE, column, word}
-use Rattle.links.specs.Links.{Points}
-use Rattle.walks.specs.Part.{STAYS}
-use Rattle.walks.specs.Meaning.{IsStep, Drawn}
+use Rattle.table.specs.Table.{PARENT, RANK, NONE, column, word}
+use Rattle.table.specs.Links.{Points}
+use Rattle.machine.specs.Part.{STAYS}
+use Rattle.machine.specs.Meaning.{IsStep, Drawn}
 use Rattle.skeletons.specs.Shape.{Shape, Within}
 use Rattle.skeletons.specs.Skeletons.{Ranks}
 use Rattle.skeletons.proofs.Within.{before-within, small-within}

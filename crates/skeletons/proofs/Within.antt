@@ -4,7 +4,7 @@ use mathlib.Core.Path.{_≡_, refl, sym, _∙_}
 use mathlib.Core.List.{List, [], _∷_}
 use native.Mathlib.Nat.{mul-le-mul-right}
 use native.Mathlib.Omega.{arith}
-use Rattle.links.specs.Table.{RANK, cell, word, Room, Wrote}
+use Rattle.table.specs.Table.{RANK, cell, word, Room, Wrote}
 use Rattle.skeletons.specs.Shape.{Small, Within}
 
 pub within-none : (n c d : ℕ) (p : List ℕ) → Within n c d p p

@@ -7,8 +7,8 @@ use mathlib.Core.List.{List}
 use lib.ListN.{length, getD}
 use Rattle.limits.specs.Limits.{documentNodes}
 use Rattle.xpath.specs.Tree.{Tree, Child, WellFormed}
-use Rattle.links.specs.Table.{PARENT, RANK, NONE, column, word}
-use Rattle.links.specs.Links.{Points}
+use Rattle.table.specs.Table.{PARENT, RANK, NONE, column, word}
+use Rattle.table.specs.Links.{Points}
 
 -- the words hold the links of the tree t, which has n nodes: what `Drawn` says of them
 pub record Shape (t : Tree) (n : ℕ) (p : List ℕ) : Type 0 where

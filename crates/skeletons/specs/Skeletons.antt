@@ -7,8 +7,8 @@ use mathlib.Core.List.{List}
 use Rattle.xpath.specs.Tree.{Tree, Child, Under}
 use Rattle.snippets.specs.Snippets.{Skeleton, Edge}
 use Rattle.snippets.specs.Marks.{Marked}
-use Rattle.links.specs.Table.{RANK, NONE, word}
-use Rattle.links.specs.Links.{Points}
+use Rattle.table.specs.Table.{RANK, NONE, word}
+use Rattle.table.specs.Links.{Points}
 use Rattle.skeletons.specs.Shape.{Shape, Within}
 
 -- ── The columns ──

@@ -4,7 +4,7 @@ use mathlib.Core.Path.{_≡_}
 use mathlib.Core.Logic.{_⊎_, _≢_}
 use mathlib.Core.List.{List, [], _∷_}
 use Rattle.xpath.specs.Tree.{Tree, Under}
-use Rattle.links.specs.Table.{PARENT, RANK, cell, word}
+use Rattle.table.specs.Table.{PARENT, RANK, cell, word}
 use Rattle.skeletons.specs.Shape.{Shape, Within}
 use Rattle.skeletons.specs.Skeletons.{FIRST, NEXT, MARKED, IsMarked, IsNoted}
 

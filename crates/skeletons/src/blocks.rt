@@ -1,12 +1,12 @@
 // Blocks of 16 nodes. The few that can have skeleton nodes are noted while the group is marked, so that all others are passed over in one step.
 use crate::Column;
-use links::table::get;
-use links::table::put;
+use table::table::get;
+use table::table::put;
 ghost use mathlib.Core.Bool.{true};
 ghost use mathlib.Core.Path.{_≡_};
 ghost use Prim.Native.Nat.{ℕ, _/_, _≤_, _<_};
 ghost use Rattle.limits.specs.Limits.{documentNodes};
-ghost use Rattle.links.specs.Table.{Room};
+ghost use Rattle.table.specs.Table.{Room};
 ghost use Rattle.skeletons.specs.Skeletons.{IsNoted, BLOCK};
 ghost use Rattle.skeletons.specs.Steps.{Noting};
 

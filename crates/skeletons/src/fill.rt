@@ -1,8 +1,8 @@
 // One word all over a column.
-use links::table::put;
+use table::table::put;
 ghost use Prim.Native.Nat.{_<_};
 ghost use Rattle.limits.specs.Limits.{wordValues};
-ghost use Rattle.links.specs.Table.{COLUMNS, Room};
+ghost use Rattle.table.specs.Table.{COLUMNS, Room};
 ghost use Rattle.skeletons.specs.Steps.{Filled};
 
 // Column `c` of every node becomes `x`.

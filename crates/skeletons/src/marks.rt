@@ -2,12 +2,12 @@
 use crate::Column;
 use crate::blocks::note;
 use crate::fill::fill;
-use links::table::get;
-use links::table::parent;
-use links::table::put;
+use table::table::get;
+use table::table::parent;
+use table::table::put;
 ghost use Prim.Native.Nat.{_<_};
 ghost use Rattle.xpath.specs.Tree.{Tree};
-ghost use Rattle.links.specs.Table.{Room};
+ghost use Rattle.table.specs.Table.{Room};
 ghost use Rattle.skeletons.specs.Shape.{Shape};
 ghost use Rattle.skeletons.specs.Skeletons.{Buckets, Grouped};
 ghost use Rattle.skeletons.specs.Steps.{Marking, Closed, Raised, Joined};

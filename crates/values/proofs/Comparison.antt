@@ -5,7 +5,7 @@ use mathlib.Core.Logic.{inl, inr}
 use mathlib.Core.List.{List, [], _∷_}
 use Rattle.xpath.specs.Meaning as Meaning
 use Rattle.xpath.proofs.Order.{less-distinct, less-asymmetric}
-use Rattle.library.specs.Library as Library
+use Rattle.document_spec.specs.Library as Library
 use Rattle.values.specs.declared.reading.Reading.{Reading}
 use Rattle.values.specs.declared.order.Order.{Order}
 use Rattle.values.specs.declared.order.Order.the-variants.{Less, Same, Greater}

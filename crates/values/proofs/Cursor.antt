@@ -7,11 +7,11 @@ use lib.Seq.{slice, slice-cons, length-slice}
 use native.Mathlib.Omega.{arith}
 use native.Mathlib.Numerals.{add-one}
 use Rattle.limits.specs.Limits.{valueBytes}
-use Rattle.library.specs.Library as Library
-use Rattle.library.specs.Library.{element, attribute, text, at, Legal, Value}
-use Rattle.library.specs.Binary.{textOf, joined, stringOf}
-use Rattle.library.specs.Verdict.{Accepts}
-use Rattle.library.proofs.Intervals.{joined-in, joined-out, element-value}
+use Rattle.document_spec.specs.Library as Library
+use Rattle.document_spec.specs.Library.{element, attribute, text, at, Legal, Value}
+use Rattle.document_spec.specs.Binary.{textOf, joined, stringOf}
+use Rattle.document_spec.specs.Verdict.{Accepts}
+use Rattle.document_spec.proofs.Intervals.{joined-in, joined-out, element-value}
 use Rattle.document.specs.declared.entries.Entry.{Entry}
 use Rattle.document.specs.declared.entries.Span.{Span}
 use Rattle.document.specs.declared.rules.Kind.{Kind}

@@ -5,9 +5,9 @@ use mathlib.Core.List.{List, [], _∷_, _++_}
 use lib.ListN.{length, drop}
 use lib.Seq.{slice}
 use Rattle.limits.specs.Limits.{valueBytes}
-use Rattle.library.specs.Library as Library
-use Rattle.library.specs.Binary.{joined}
-use Rattle.library.specs.Verdict.{Accepts}
+use Rattle.document_spec.specs.Library as Library
+use Rattle.document_spec.specs.Binary.{joined}
+use Rattle.document_spec.specs.Verdict.{Accepts}
 use Rattle.document.specs.declared.entries.Span.{Span}
 use Rattle.document.specs.Entries.{Start}
 use Rattle.values.specs.declared.reading.Reading.{Reading}

@@ -6,7 +6,7 @@ ghost use mathlib.Core.List.{List, []};
 ghost use Prim.Native.Nat.{ℕ, _≤_};
 ghost use lib.ListN.{length};
 ghost use lib.Seq.{slice};
-ghost use Rattle.library.specs.Library as Library;
+ghost use Rattle.document_spec.specs.Library as Library;
 ghost use Rattle.values.specs.declared.reading.Reading.{Reading as Cursor};
 ghost use Rattle.values.specs.Comes.{Comes, Readable, Advanced};
 ghost use Rattle.values.specs.Ordered.{Ordered};

@@ -7,10 +7,10 @@ ghost use mathlib.Core.List.{List};
 ghost use mathlib.Core.Path.{_≡_};
 ghost use Prim.Native.Nat.{ℕ, suc, _+_, _≤_, _<_};
 ghost use lib.ListN.{length};
-ghost use Rattle.library.specs.Library as Library;
-ghost use Rattle.library.specs.Library.{at};
-ghost use Rattle.library.specs.Binary.{textOf, stringOf};
-ghost use Rattle.library.specs.Verdict.{Accepts};
+ghost use Rattle.document_spec.specs.Library as Library;
+ghost use Rattle.document_spec.specs.Library.{at};
+ghost use Rattle.document_spec.specs.Binary.{textOf, stringOf};
+ghost use Rattle.document_spec.specs.Verdict.{Accepts};
 ghost use Rattle.document.specs.Entries.{Stands, IsEntry};
 ghost use Rattle.values.specs.Comes.{Lies, Comes, Readable, weight, Filled, Advanced};
 

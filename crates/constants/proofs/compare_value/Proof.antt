@@ -1,5 +1,5 @@
 -- `constants::compare_value` meets its contract.
-use Rattle.library.specs.Binary.{stringOf}
+use Rattle.document_spec.specs.Binary.{stringOf}
 use Rattle.ranks.proofs.Trees.{tree-linked}
 use borrow.Author.Needs.{needs}
 use Rattle.constants.proofs.compare_value.Statement.{statement}

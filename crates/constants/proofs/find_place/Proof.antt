@@ -4,9 +4,9 @@ use mathlib.Core.Path.{subst}
 use mathlib.Core.List.{List}
 use lib.Seq.{slice}
 use native.Mathlib.Omega.{arith}
-use Rattle.library.specs.Library.{Node}
-use Rattle.library.specs.Binary.{stringOf}
-use Rattle.library.specs.Verdict.{Accepts}
+use Rattle.document_spec.specs.Library.{Node}
+use Rattle.document_spec.specs.Binary.{stringOf}
+use Rattle.document_spec.specs.Verdict.{Accepts}
 use Rattle.values.specs.Ordered.{Ordered}
 use Rattle.ranks.specs.Ranks.{Ranked}
 use Rattle.ranks.proofs.Trees.{tree-size}

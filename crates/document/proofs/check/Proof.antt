@@ -3,9 +3,9 @@ use mathlib.Core.Path.{subst}
 use mathlib.Core.Logic.{inl, inr}
 use native.Mathlib.Omega.{arith}
 use Rattle.lists.specs.Text.{bytes}
-use Rattle.library.proofs.Grounds.{first-long}
-use Rattle.fields.specs.declared.Numeral.the-variants.{Value}
-use Rattle.fields.specs.Reading.{NumberedLine}
+use Rattle.document_spec.proofs.Grounds.{first-long}
+use Rattle.lexer.specs.declared.Numeral.the-variants.{Value}
+use Rattle.lexer.specs.Reading.{NumberedLine}
 use Rattle.document.proofs.Walk.{no-count, bad-count, good-count}
 use borrow.Author.Needs.{needs}
 use Rattle.document.proofs.check.Statement.{statement}

@@ -1,7 +1,7 @@
 -- `driver::comparison` meets its contract.
 use Prim.Native.Nat.{ℕ, _*_, _≤_, _<_}
 use native.Mathlib.Omega.{arith}
-use Rattle.numbering.specs.Tests.{testsOf, test}
+use Rattle.test_numbers.specs.Tests.{testsOf, test}
 use Rattle.driver.proofs.Frames.{scratch-room}
 use Rattle.driver.proofs.Answers.{some-nodes}
 use Rattle.driver.proofs.Arms.{number-small}

@@ -4,9 +4,9 @@ use native.Mathlib.Omega.{arith}
 use mathlib.Core.Path.{_≡_, sym, ap, subst}
 use lib.ListN.{length}
 use Rattle.xpath.specs.Syntax.{Test}
-use Rattle.library.specs.Binary.{treeOf}
-use Rattle.numbering.specs.Tests.{testsOf, test}
-use Rattle.numbering.specs.Owned.{own}
+use Rattle.document_spec.specs.Binary.{treeOf}
+use Rattle.test_numbers.specs.Tests.{testsOf, test}
+use Rattle.test_numbers.specs.Owned.{own}
 use Rattle.driver.proofs.Totals.{adds-none}
 use Rattle.driver.proofs.Arms.{shaped, test-begins, number-small, room, tabled, name-spans, named-decided, not-decided, not-small, and-small, and-decided, or-small, or-decided}
 use borrow.Author.Needs.{needs}

@@ -5,10 +5,10 @@ use mathlib.Core.Path.{_≡_, refl, _∙_, subst}
 use mathlib.Core.List.{List}
 use lib.ListN.{length}
 use Rattle.xpath.specs.Syntax.{Test}
-use Rattle.library.specs.Library.{Node}
-use Rattle.grammar.specs.Verdict.{Accepts}
-use Rattle.numbering.specs.Numbering.{Listed}
-use Rattle.numbering.proofs.Counts.{tests-few}
+use Rattle.document_spec.specs.Library.{Node}
+use Rattle.rule_spec.specs.Verdict.{Accepts}
+use Rattle.test_numbers.specs.Numbering.{Listed}
+use Rattle.test_numbers.proofs.Counts.{tests-few}
 use Rattle.driver.specs.Tasks.{Scene}
 use Rattle.driver.proofs.Settling.{task}
 use Rattle.driver.proofs.Totals.{Driven, driven-none, driven-before, driven-step, driven-small}

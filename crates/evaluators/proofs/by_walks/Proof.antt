@@ -1,6 +1,6 @@
 -- `evaluators::by_walks` meets its contract.
 use mathlib.Core.Path.{refl}
-use Rattle.walks.proofs.Comparing.{meets-holds}
+use Rattle.machine.proofs.Comparing.{meets-holds}
 use Rattle.evaluators.proofs.Staging.{stage-space, stage-second, answered-as}
 use borrow.Author.Needs.{needs}
 use Rattle.evaluators.proofs.by_walks.Statement.{statement}

@@ -1,5 +1,5 @@
 -- `evaluators::compare_constant` meets its contract.
-use Rattle.walks.proofs.Comparing.{hits-holds}
+use Rattle.machine.proofs.Comparing.{hits-holds}
 use Rattle.backward.proofs.Linked.{linked-drawn}
 use Rattle.evaluators.proofs.Staging.{stage-space, answered-as}
 use borrow.Author.Needs.{needs}

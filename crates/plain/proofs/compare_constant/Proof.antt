@@ -2,7 +2,7 @@
 use Prim.Native.Nat.{_-_}
 use mathlib.Core.Logic.{Iff·trans, Iff·symm}
 use native.Mathlib.Omega.{arith}
-use Rattle.walks.specs.Walks.{Hits}
+use Rattle.machine.specs.Walks.{Hits}
 use Rattle.plain.specs.Ends.{Held}
 use Rattle.plain.proofs.Steady.{held-none, held-then, held-space, held-answer}
 use Rattle.plain.proofs.Walks.{hits-same}

@@ -4,8 +4,8 @@ use mathlib.Core.Path.{_≡_}
 use mathlib.Core.Logic.{Iff·trans, Iff·symm}
 use native.Mathlib.Omega.{arith}
 use Rattle.xpath.specs.Syntax.{Op}
-use Rattle.parts.specs.Kinds.{operator}
-use Rattle.walks.specs.Walks.{Meets}
+use Rattle.rule_parts.specs.Kinds.{operator}
+use Rattle.machine.specs.Walks.{Meets}
 use Rattle.plain.specs.Ends.{Held}
 use Rattle.plain.proofs.Steady.{held-none, held-then, held-space, held-small, held-answer}
 use Rattle.plain.proofs.Walks.{meets-same}

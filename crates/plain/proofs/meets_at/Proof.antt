@@ -2,7 +2,7 @@
 use mathlib.Core.Path.{_≡_, sym, _∙_, subst}
 use mathlib.Core.Logic.{_↔_}
 use mathlib.Core.Bool.{true}
-use Rattle.walks.specs.Walks.{Meets}
+use Rattle.machine.specs.Walks.{Meets}
 use Rattle.plain.proofs.Signs.{equal-sign, other-sign}
 use borrow.Author.Needs.{needs}
 use Rattle.plain.proofs.meets_at.Statement.{statement}

@@ -1,7 +1,7 @@
 -- `rule::check` meets its contract.
 use native.Mathlib.Omega.{arith}
 use mathlib.Core.Path.{sym, subst}
-use Rattle.grammar.specs.Machine.{test}
+use Rattle.rule_spec.specs.Machine.{test}
 use Rattle.rule.specs.Tallies.{untold}
 use Rattle.rule.specs.Readers.{Reading}
 use Rattle.rule.specs.Check.{Judged}

@@ -11,8 +11,8 @@ use borrow.Fn.PlainCycle.{Measures, is, falls, and}
 use Rattle.automaton.proofs.places.locate.Reads as locate
 use Rattle.automaton.proofs.places.locate.Kinds as locate-kinds
 use Rattle.automaton.proofs.places.+locate.Lts-locate as locate-lts
-use Rattle.parts.proofs.kinds.path_kind.Reads as path-kind-reads
-use Rattle.parts.proofs.skip_path.Reads as skip-path-reads
+use Rattle.rule_parts.proofs.kinds.path_kind.Reads as path-kind-reads
+use Rattle.rule_parts.proofs.skip_path.Reads as skip-path-reads
 use Rattle.automaton.proofs.places.+locate.{statement}
 use Rattle.automaton.proofs.places.+locate.Tie.{close}
 

@@ -13,7 +13,7 @@ use Rattle.automaton.proofs.relation.related.Kinds as related-kinds
 use Rattle.automaton.proofs.relation.+related.Lts-related as related-lts
 use Rattle.automaton.proofs.scan.scan.Reads as scan-reads
 use Rattle.bits.proofs.square.joined.Reads as joined-reads
-use Rattle.parts.proofs.kinds.path_kind.Reads as path-kind-reads
+use Rattle.rule_parts.proofs.kinds.path_kind.Reads as path-kind-reads
 use Rattle.automaton.proofs.relation.+related.{statement}
 use Rattle.automaton.proofs.relation.+related.Tie.{close}
 

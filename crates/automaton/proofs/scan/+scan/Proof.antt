@@ -15,8 +15,8 @@ use Rattle.automaton.proofs.sets.in_sequence.Reads as in-sequence-reads
 use Rattle.automaton.proofs.sets.no_step.Reads as no-step-reads
 use Rattle.automaton.proofs.sets.one_step.Reads as one-step-reads
 use Rattle.automaton.proofs.sets.repeated.Reads as repeated-reads
-use Rattle.parts.proofs.kinds.path_kind.Reads as path-kind-reads
-use Rattle.parts.proofs.skip_path.Reads as skip-path-reads
+use Rattle.rule_parts.proofs.kinds.path_kind.Reads as path-kind-reads
+use Rattle.rule_parts.proofs.skip_path.Reads as skip-path-reads
 use Rattle.automaton.proofs.scan.+scan.{statement}
 use Rattle.automaton.proofs.scan.+scan.Tie.{close}
 

@@ -1,8 +1,8 @@
 -- `backward::retrace::retrace` meets its contract.
 use Prim.Native.Nat.{_*_, _<_}
 use native.Mathlib.Omega.{arith}
-use Rattle.links.specs.Table.{cell}
-use Rattle.walks.specs.Part.{NODES}
+use Rattle.table.specs.Table.{cell}
+use Rattle.machine.specs.Part.{NODES}
 use Rattle.reach.proofs.Totals.{work-room}
 use borrow.Author.Needs.{needs}
 use Rattle.backward.proofs.retrace.retrace.Statement.{statement}

@@ -1,7 +1,7 @@
 -- `document::entries::first_entry` meets its contract.
 use mathlib.Core.Path.{subst}
 use Rattle.lists.specs.Text.{bytes}
-use Rattle.fields.specs.Reading.{NumberedLine}
+use Rattle.lexer.specs.Reading.{NumberedLine}
 use Rattle.document.proofs.NodeLines.{count-there, count-is}
 use borrow.Author.Needs.{needs}
 use Rattle.document.proofs.entries.first_entry.Statement.{statement}

@@ -6,11 +6,11 @@ use lib.ListN.{drop}
 use lib.Seq.{slice}
 use native.Mathlib.Omega.{arith}
 use Rattle.lists.specs.Text.{bytes}
-use Rattle.library.specs.Library as Library
-use Rattle.library.specs.Library.{at}
-use Rattle.fields.specs.declared.Ending.the-variants.{Next}
-use Rattle.fields.specs.declared.Numeral.the-variants.{Value}
-use Rattle.fields.specs.Reading.{Ended, NumberedLine}
+use Rattle.document_spec.specs.Library as Library
+use Rattle.document_spec.specs.Library.{at}
+use Rattle.lexer.specs.declared.Ending.the-variants.{Next}
+use Rattle.lexer.specs.declared.Numeral.the-variants.{Value}
+use Rattle.lexer.specs.Reading.{Ended, NumberedLine}
 use Rattle.document.specs.declared.lines.KindLine.the-variants.{Is}
 use Rattle.document.specs.Nodes.{kindOf, KindRead, IsLabel, IsValue}
 use Rattle.document.specs.Entries.{Start, Stands}

@@ -1,8 +1,8 @@
 -- `document::lines::read_kind` meets its contract.
 use mathlib.Core.Path.{_≡_, subst}
-use Rattle.fields.specs.Reading.{Ended}
-use Rattle.library.specs.Library.{element, attribute, text, kindLine}
-use Rattle.fields.proofs.Keys.{key-spans}
+use Rattle.lexer.specs.Reading.{Ended}
+use Rattle.document_spec.specs.Library.{element, attribute, text, kindLine}
+use Rattle.lexer.proofs.Keys.{key-spans}
 use Rattle.document.proofs.LineForms.{kind-none}
 use borrow.Author.Needs.{needs}
 use Rattle.document.proofs.lines.read_kind.Statement.{statement}

@@ -1,10 +1,10 @@
 -- `document::lines::read_label` meets its contract.
 use mathlib.Core.Path.{subst}
 use native.Mathlib.Omega.{arith}
-use Rattle.fields.specs.Reading.{Ended, Behind, Run}
+use Rattle.lexer.specs.Reading.{Ended, Behind, Run}
 use Rattle.lists.specs.Text.{bytes}
-use Rattle.fields.specs.declared.Ending.the-variants.{Next}
-use Rattle.fields.specs.declared.Class.the-variants.{Label}
+use Rattle.lexer.specs.declared.Ending.the-variants.{Next}
+use Rattle.lexer.specs.declared.Class.the-variants.{Label}
 use Rattle.document.proofs.LineForms.{label-none, label-unled, label-room, label-led}
 use borrow.Author.Needs.{needs}
 use Rattle.document.proofs.lines.read_label.Statement.{statement}

@@ -1,7 +1,7 @@
 -- `document::lines::read_value` meets its contract.
-use Rattle.fields.specs.Reading.{Behind, Run}
+use Rattle.lexer.specs.Reading.{Behind, Run}
 use Rattle.lists.specs.Text.{bytes}
-use Rattle.fields.specs.declared.Class.the-variants.{Text}
+use Rattle.lexer.specs.declared.Class.the-variants.{Text}
 use Rattle.document.specs.Nodes.{IsValue}
 use Rattle.document.proofs.LineForms.{ended-as, run-value, value-run}
 use borrow.Author.Needs.{needs}

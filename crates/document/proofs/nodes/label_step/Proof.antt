@@ -1,9 +1,9 @@
 -- `document::nodes::label_step` meets its contract.
 use mathlib.Core.Path.{subst}
-use Rattle.fields.specs.Reading.{Ended}
+use Rattle.lexer.specs.Reading.{Ended}
 use Rattle.document.specs.Nodes.{Told, kindOf, IsLabel}
-use Rattle.library.specs.Library.{LabelRule}
-use Rattle.fields.specs.declared.Ending.the-variants.{Next}
+use Rattle.document_spec.specs.Library.{LabelRule}
+use Rattle.lexer.specs.declared.Ending.the-variants.{Next}
 use Rattle.document.proofs.Steps.{label-form, label-spelled, label-on, label-tree}
 use borrow.Author.Needs.{needs}
 use Rattle.document.proofs.nodes.label_step.Statement.{statement}

@@ -2,8 +2,8 @@
 use mathlib.Core.Path.{subst}
 use Rattle.document.specs.Nodes.{Told, DepthRule}
 use Rattle.lists.specs.Text.{bytes}
-use Rattle.fields.specs.Reading.{NumberedLine}
-use Rattle.fields.specs.declared.Numeral.the-variants.{Value}
+use Rattle.lexer.specs.Reading.{NumberedLine}
+use Rattle.lexer.specs.declared.Numeral.the-variants.{Value}
 use Rattle.document.proofs.Steps.{depth-form, depth-on, depth-tree}
 use borrow.Author.Needs.{needs}
 use Rattle.document.proofs.nodes.node.Statement.{statement}

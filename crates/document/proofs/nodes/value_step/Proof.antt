@@ -1,10 +1,10 @@
 -- `document::nodes::value_step` meets its contract.
 use mathlib.Core.Path.{subst}
 use native.Mathlib.Omega.{arith}
-use Rattle.fields.specs.Reading.{Ended}
+use Rattle.lexer.specs.Reading.{Ended}
 use Rattle.document.specs.Nodes.{Told, kindOf, IsValue}
-use Rattle.library.specs.Library.{ValueRule}
-use Rattle.fields.specs.declared.Ending.the-variants.{Next}
+use Rattle.document_spec.specs.Library.{ValueRule}
+use Rattle.lexer.specs.declared.Ending.the-variants.{Next}
 use Rattle.document.proofs.Steps.{value-form, value-length, value-on, value-tree}
 use borrow.Author.Needs.{needs}
 use Rattle.document.proofs.nodes.value_step.Statement.{statement}

@@ -3,7 +3,7 @@ use mathlib.Core.Path.{sym, ap, subst}
 use mathlib.Core.Logic.{inl, inr}
 use Rattle.document.specs.Nodes.{kindOf, Told}
 use mathlib.Core.Bool.{true}
-use Rattle.library.specs.Library.{KindBehind}
+use Rattle.document_spec.specs.Library.{KindBehind}
 use Rattle.document.proofs.TreeRules.{not-element, not-attribute, kind-not-first, element-fits, kind-later}
 use borrow.Author.Needs.{needs}
 use Rattle.document.proofs.rules.kind_fits.Statement.{statement}

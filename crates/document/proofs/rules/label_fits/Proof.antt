@@ -1,11 +1,11 @@
 -- `document::rules::label_fits` meets its contract.
-use Rattle.fields.proofs.Keys.{key-spans}
+use Rattle.lexer.proofs.Keys.{key-spans}
 use mathlib.Core.Path.{_≡_, ap, subst}
 use mathlib.Core.Logic.{inl, inr}
 use Rattle.document.specs.Nodes.{kindOf}
 use Rattle.lists.specs.Text.{bytes}
-use Rattle.library.specs.Library.{labelLine}
-use Rattle.fields.specs.Reading.{Ended}
+use Rattle.document_spec.specs.Library.{labelLine}
+use Rattle.lexer.specs.Reading.{Ended}
 use Rattle.document.proofs.TreeRules.{not-text, label-is-text}
 use borrow.Author.Needs.{needs}
 use Rattle.document.proofs.rules.label_fits.Statement.{statement}

@@ -3,9 +3,9 @@ use Prim.Native.Nat.{ℕ, _+_, _-_, _≤_}
 use native.Mathlib.Omega.{arith}
 use mathlib.Core.Path.{_≡_, sym, ap, subst}
 use Rattle.rule.specs.Readers.{Stood}
-use Rattle.library.specs.Binary.{treeOf}
-use Rattle.numbering.specs.Tests.{testsOf, test}
-use Rattle.numbering.specs.Owned.{own}
+use Rattle.document_spec.specs.Binary.{treeOf}
+use Rattle.test_numbers.specs.Tests.{testsOf, test}
+use Rattle.test_numbers.specs.Owned.{own}
 use Rattle.driver.specs.Tasks.{Constant}
 use Rattle.driver.proofs.Arms.{test-begins}
 use Rattle.driver.proofs.Totals.{adds-none}

@@ -4,7 +4,7 @@ use mathlib.Core.Path.{_≡_, sym, ap, _∙_}
 use native.Mathlib.Omega.{arith}
 use borrow.Author.Needs.{needs}
 use borrow.Author.Tests.{eqb-true, eqb-false}
-use Rattle.links.specs.Table.{LEFT, PARENT, word}
+use Rattle.table.specs.Table.{LEFT, PARENT, word}
 use Rattle.loops.proofs.place.is_left.Statement.{statement}
 use Rattle.loops.proofs.place.is_left.Tie as tie
 

@@ -3,8 +3,8 @@ use Prim.Native.Nat.{ℕ, _-_, _<_}
 use mathlib.Core.Path.{_≡_}
 use borrow.Author.Count.{below-none, below-more}
 use native.Mathlib.Omega.{arith}
-use Rattle.links.specs.Table.{RANK, word}
-use Rattle.walks.specs.Part.{MARK}
+use Rattle.table.specs.Table.{RANK, word}
+use Rattle.machine.specs.Part.{MARK}
 use Rattle.plain.specs.Ends.{Ended}
 use Rattle.plain.proofs.Telling.{tells-yes, tells-no, denied}
 use Rattle.plain.proofs.marks.any_marked.Statement.{statement}

@@ -4,8 +4,8 @@ use Prim.Native.Nat.{_<_}
 use mathlib.Core.Logic.{inl, inr}
 use mathlib.Core.List.{[], _∷_}
 use native.Mathlib.Omega.{arith}
-use Rattle.links.specs.Table.{cell, Wrote}
-use Rattle.walks.specs.Part.{MARK}
+use Rattle.table.specs.Table.{cell, Wrote}
+use Rattle.machine.specs.Part.{MARK}
 use Rattle.plain.proofs.Telling.{denied}
 use borrow.Author.Needs.{needs}
 use Rattle.plain.proofs.marks.mark_rank.Statement.{statement}

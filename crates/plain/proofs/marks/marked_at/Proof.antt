@@ -3,8 +3,8 @@ use mathlib.Core.Path.{_∙_, sym, ap, subst}
 use Prim.Native.Nat.{ℕ, _<_}
 use borrow.Author.Tests.{eqb-true, eq-eqb}
 use native.Mathlib.Omega.{arith}
-use Rattle.links.specs.Table.{word}
-use Rattle.walks.specs.Part.{MARK}
+use Rattle.table.specs.Table.{word}
+use Rattle.machine.specs.Part.{MARK}
 use Rattle.plain.proofs.Telling.{tells-no, denied}
 use borrow.Author.Needs.{needs}
 use Rattle.plain.proofs.marks.marked_at.Statement.{statement}

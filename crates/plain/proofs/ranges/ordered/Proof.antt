@@ -3,7 +3,7 @@ use mathlib.Core.Path.{_≡_, sym, subst}
 use mathlib.Core.Logic.{_↔_, inl, inr, ⊎-elim}
 use mathlib.Core.Bool.{true, false}
 use lib.Dec.{ltb}
-use Rattle.grammar.proofs.Bytes.{lt-iff}
+use Rattle.rule_spec.proofs.Bytes.{lt-iff}
 use Rattle.plain.specs.Ranges.{Across}
 use Rattle.plain.proofs.Telling.{tells-no, denied}
 use borrow.Author.Needs.{needs}

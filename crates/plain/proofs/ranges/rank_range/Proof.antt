@@ -3,7 +3,7 @@ use Prim.Native.Nat.{_-_, _≤_}
 use mathlib.Core.Path.{_≡_, subst}
 use native.Mathlib.Numerals.{add-one}
 use native.Mathlib.Omega.{arith}
-use Rattle.links.specs.Table.{RANK, word}
+use Rattle.table.specs.Table.{RANK, word}
 use Rattle.plain.specs.Ends.{Ended}
 use Rattle.plain.specs.Ranges.{Ranged}
 use Rattle.plain.proofs.Ranged.{ranged-none}

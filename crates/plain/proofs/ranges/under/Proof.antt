@@ -1,6 +1,6 @@
 -- `plain::ranges::under` meets its contract.
 use Prim.Native.Nat.{_+_}
-use Rattle.grammar.proofs.Bytes.{lt-iff}
+use Rattle.rule_spec.proofs.Bytes.{lt-iff}
 use borrow.Author.Needs.{needs}
 use Rattle.plain.proofs.ranges.under.Statement.{statement}
 use Rattle.plain.proofs.ranges.under.Tie as tie

@@ -3,7 +3,7 @@ use Prim.Native.Nat.{ℕ, _+_}
 use mathlib.Core.Path.{_≡_, sym, subst}
 use lib.ListN.{getD, set}
 use borrow.Author.Needs.{needs}
-use Rattle.links.specs.Table.{NONE}
+use Rattle.table.specs.Table.{NONE}
 use Rattle.powers.specs.Powers.{upperAt}
 use Rattle.powers.specs.Blocks.{Only}
 use Rattle.powers.proofs.Making.{only-upper, upper-set}

@@ -1,7 +1,7 @@
 -- `ranks::comparison::compare_values` meets its contract.
 use mathlib.Core.Path.{sym}
 use native.Mathlib.Omega.{arith}
-use Rattle.library.specs.Binary.{stringOf}
+use Rattle.document_spec.specs.Binary.{stringOf}
 use Rattle.ranks.proofs.Trees.{tree-small}
 use Rattle.ranks.proofs.Values.{lasts-same, lasts-less}
 use borrow.Author.Needs.{needs}

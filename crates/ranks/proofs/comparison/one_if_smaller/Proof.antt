@@ -4,8 +4,8 @@ use mathlib.Core.Path.{subst}
 use mathlib.Core.List.{List}
 use native.Mathlib.Omega.{arith}
 use Rattle.xpath.proofs.Order.{less-distinct, less-asymmetric}
-use Rattle.library.specs.Library.{Node}
-use Rattle.library.specs.Binary.{stringOf}
+use Rattle.document_spec.specs.Library.{Node}
+use Rattle.document_spec.specs.Binary.{stringOf}
 use Rattle.values.specs.Ordered.{Ordered}
 use Rattle.ranks.specs.Values.{IsValue}
 use Rattle.ranks.proofs.Less.{one-less, one-not}

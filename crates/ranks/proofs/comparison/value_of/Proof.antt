@@ -3,8 +3,8 @@ use Prim.Native.Nat.{ℕ}
 use mathlib.Core.Path.{sym, subst}
 use mathlib.Core.List.{List}
 use native.Mathlib.Omega.{arith}
-use Rattle.library.specs.Library.{Node}
-use Rattle.library.specs.Verdict.{Accepts}
+use Rattle.document_spec.specs.Library.{Node}
+use Rattle.document_spec.specs.Verdict.{Accepts}
 use Rattle.ranks.specs.Notes.{Valued, Marked}
 use Rattle.ranks.proofs.Values.{inside-lasts}
 use Rattle.ranks.proofs.Opening.{note-whole, note-several}

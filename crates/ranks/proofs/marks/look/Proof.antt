@@ -1,7 +1,7 @@
 -- `ranks::marks::look` meets its contract.
 use mathlib.Core.List.{List}
-use Rattle.library.specs.Library.{Node}
-use Rattle.library.specs.Verdict.{Accepts}
+use Rattle.document_spec.specs.Library.{Node}
+use Rattle.document_spec.specs.Verdict.{Accepts}
 use Rattle.document.specs.Entries.{IsEntry}
 use Rattle.ranks.proofs.Trees.{stands-at}
 use borrow.Author.Needs.{needs}

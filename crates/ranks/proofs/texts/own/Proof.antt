@@ -4,7 +4,7 @@ use mathlib.Core.Logic.{inl, inr}
 use lib.ListN.{length}
 use lib.Seq.{length-slice}
 use native.Mathlib.Omega.{arith}
-use Rattle.library.specs.Library.{at}
+use Rattle.document_spec.specs.Library.{at}
 use Rattle.values.proofs.Cursor.{used-up, element-text, attribute-text, text-text, kind-is}
 use Rattle.ranks.proofs.Bounds.{silent-one, spoken-one}
 use borrow.Author.Needs.{needs}

@@ -4,7 +4,7 @@ use native.Mathlib.Omega.{arith}
 use mathlib.Core.Path.{sym, subst}
 use lib.ListN.{length}
 use borrow.Author.Needs.{needs}
-use Rattle.grammar.specs.Machine.{test, path, label, signed, operand}
+use Rattle.rule_spec.specs.Machine.{test, path, label, signed, operand}
 use Rattle.rule.specs.Readers.{Stands, Stood, Back, Reading, SignRead}
 use Rattle.rule.specs.Heads.{TestBegins, PathBegins}
 use Rattle.rule.proofs.Halted.{due, back, halted}

@@ -2,7 +2,7 @@
 use Prim.Native.Nat.{_+_}
 use mathlib.Core.Path.{subst}
 use Rattle.limits.specs.Limits.{constantBytes}
-use Rattle.grammar.specs.Machine.{quoted, operand}
+use Rattle.rule_spec.specs.Machine.{quoted, operand}
 use Rattle.rule.specs.Readers.{Reading}
 use Rattle.rule.proofs.Halted.{halted}
 use Rattle.rule.proofs.Words.{constant-halts, constant-reads}

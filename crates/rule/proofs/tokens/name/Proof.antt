@@ -1,7 +1,7 @@
 -- `rule::tokens::name` meets its contract.
 use native.Mathlib.Omega.{arith}
 use mathlib.Core.Path.{refl}
-use Rattle.grammar.specs.Machine.{rest}
+use Rattle.rule_spec.specs.Machine.{rest}
 use Rattle.rule.proofs.Places.{at-end, stuck-end}
 use Rattle.rule.proofs.Words.{name-back, name-stuck}
 use borrow.Author.Needs.{needs}

@@ -2,7 +2,7 @@
 use Prim.Native.Nat.{_-_}
 use mathlib.Core.Path.{_≡_, _∙_}
 use native.Mathlib.Omega.{arith}
-use Rattle.links.specs.Table.{word}
+use Rattle.table.specs.Table.{word}
 use Rattle.skeletons.specs.Skeletons.{NEXT, Buckets}
 use Rattle.skeletons.proofs.Within.{within-then, before-within, room-within}
 use Rattle.skeletons.proofs.Shape.{shape-within}

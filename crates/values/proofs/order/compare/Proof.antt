@@ -3,7 +3,7 @@ use Prim.Native.Nat.{ℕ}
 use mathlib.Core.Path.{sym, subst}
 use mathlib.Core.List.{List}
 use native.Mathlib.Omega.{arith}
-use Rattle.library.specs.Library as Library
+use Rattle.document_spec.specs.Library as Library
 use Rattle.values.specs.declared.order.Order.the-variants.{Less, Greater}
 use Rattle.values.specs.Comes.{Comes, weight, Split, Advanced}
 use Rattle.values.specs.Ordered.{Ordered}

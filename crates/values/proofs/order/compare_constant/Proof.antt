@@ -4,7 +4,7 @@ use mathlib.Core.Path.{_≡_, sym, _∙_, subst}
 use mathlib.Core.List.{List, []}
 use lib.Seq.{slice}
 use native.Mathlib.Omega.{arith}
-use Rattle.library.specs.Library as Library
+use Rattle.document_spec.specs.Library as Library
 use Rattle.values.specs.declared.order.Order.the-variants.{Less, Same, Greater}
 use Rattle.values.specs.Comes.{Comes, Split, Advanced}
 use Rattle.values.proofs.Cursor.{used-up, first-of}

@@ -1,6 +1,6 @@
 -- `values::reading::open` meets its contract.
 use mathlib.Core.Path.{sym}
-use Rattle.library.specs.Binary.{stringOf}
+use Rattle.document_spec.specs.Binary.{stringOf}
 use Rattle.values.proofs.Cursor.{element-comes, attribute-value, text-value, kind-is, value-lies}
 use borrow.Author.Needs.{needs}
 use Rattle.values.proofs.reading.open.Statement.{statement}

@@ -3,7 +3,7 @@
 use Prim.Native.Nat.{ℕ, _≤_}
 use mathlib.Core.List.{List}
 use native.Mathlib.Omega.{arith}
-use Rattle.library.specs.Library as Library
+use Rattle.document_spec.specs.Library as Library
 use Rattle.values.specs.Comes.{Comes, weight}
 use Rattle.values.proofs.Cursor.{nothing-left}
 use Rattle.values.proofs.reading.refill.Statement.{statement}

@@ -1,7 +1,7 @@
 -- `values::reading::text_of` meets its contract.
 use mathlib.Core.Path.{sym}
 use native.Mathlib.Omega.{arith}
-use Rattle.library.specs.Library.{at}
+use Rattle.document_spec.specs.Library.{at}
 use Rattle.values.proofs.Cursor.{element-text, attribute-text, text-text, kind-is, value-lies}
 use borrow.Author.Needs.{needs}
 use Rattle.values.proofs.reading.text_of.Statement.{statement}

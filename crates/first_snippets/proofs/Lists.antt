@@ -1,0 +1,95 @@
+-- The values of a list, one after the other; and the list of all.
+use Prim.Native.Nat.{ℕ, suc, _+_, _*_, _≤_, _<_}
+use mathlib.Core.Path.{_≡_, refl, sym, ap, _∙_, subst}
+use mathlib.Core.Logic.{_⊎_, inl, inr, _↔_}
+use mathlib.Core.List.{List, [], _∷_}
+use native.Mathlib.Decide.{ℕ-discrete}
+use native.Mathlib.Nat.{eq-or-lt-of-le, mul-le-mul-right}
+use native.Mathlib.Omega.{arith}
+use Rattle.xpath.specs.Syntax.{XPath}
+use Rattle.xpath.specs.Tree.{Tree}
+use Rattle.snippets.specs.Direct.{Direct}
+use Rattle.snippets.proofs.Direct.{direct-iff}
+use Rattle.table.specs.Table.{RANK, cell, word, Wrote}
+use Rattle.machine.specs.declared.Machine.{Machine}
+use Rattle.loops.specs.Loops.{Stage}
+use Rattle.skeletons.specs.Skeletons.{FIRST, NEXT, MARKED}
+use Rattle.skeletons.proofs.Within.{within-none, within-then, within-put}
+use Rattle.first_snippets.specs.Groups.{LIST, Rest, Base, OfRanks, AddedOf, Listed, Listing, AddedAll}
+use Rattle.first_snippets.specs.Steps.{Ranged}
+use Rattle.first_snippets.proofs.Rest.{rest-then, rest-more, rest-within, same-word, powers-rest, loops-rest, stage-rest}
+use Rattle.first_snippets.proofs.Gains.{gains-iff, gains-before}
+use Rattle.first_snippets.proofs.Adding.{buckets-same, base-by, added-none, added-then}
+
+-- ── The list of all ranks ──
+pub ranged-none : (n : ℕ) (p : List ℕ) → Ranged n 0 p p
+ranged-none n p = record { inside = omega arith; within = within-none n LIST (suc LIST) p; entries = λ i h. absurd (omega arith) }
+
+pub ranged-step : {n k : ℕ} {p₀ p p′ : List ℕ} → Ranged n k p₀ p → k < n → Wrote ((cell n LIST k, k) ∷ []) p p′ → Ranged n (k + 1) p₀ p′
+ranged-step {n} {k} {p₀} {p} {p′} f l w =
+    record { inside = omega arith; within = within-then (f .within) (within-put (omega arith) (omega arith) l w); entries = λ i h. go i h (ℕ-discrete i k) }
+  where
+    go : (i : ℕ) → i < k + 1 → Dec (i ≡ k) → word p′ n LIST i ≡ i
+    go i h (yes e) = ap (λ (x : ℕ). word p′ n LIST x) e ∙ w .here .0 ∙ sym e
+    go i h (no d) = w .other (cell n LIST i) (omega arith, tt) ∙ f .entries i (omega arith)
+
+pub ranged-listing : {n : ℕ} {p p′ : List ℕ} → Ranged n n p p′ → Listing n n p′
+ranged-listing f = record { few = omega arith; ranks = λ i h. let e = f .entries i h in omega arith }
+
+pub ranged-base : {m : Machine} {n b : ℕ} {p p′ : List ℕ} → Ranged n n p p′ → Base m n b p → Base m n b p′
+ranged-base {n = n} {b} {p} {p′} f s = base-by rest (omega arith) (buckets-same same (s .buckets)) s
+  where
+    rest : Rest LIST n b p p′
+    rest = rest-within (omega arith) (f .within)
+
+    same : (c v : ℕ) → (c ≡ RANK) ⊎ ((c ≡ FIRST) ⊎ (c ≡ NEXT)) → v < n → word p′ n c v ≡ word p n c v
+    same c v (inl e) l = same-word rest c v (omega arith) l
+    same c v (inr (inl e)) l = let h : 9 * n ≤ c * n = mul-le-mul-right n (omega arith) in f .within .behind (c * n + v) (omega arith)
+    same c v (inr (inr e)) l = let h : 9 * n ≤ c * n = mul-le-mul-right n (omega arith) in f .within .behind (c * n + v) (omega arith)
+
+-- ── One entry after the other ──
+module _ {m : Machine} {n b first : ℕ} where
+  pub listed-none : (p : List ℕ) → AddedOf (Listed n 0 p) m n b first p p
+  listed-none p = added-none p (λ z (i, h, e). let f : ⊥ = omega arith in f)
+
+  pub listed-step : {i r : ℕ} {p p₁ p₂ : List ℕ} → i < n → r ≡ word p₁ n LIST i → AddedOf (Listed n i p) m n b first p p₁ → AddedOf (λ z. z ≡ r) m n b first p₁ p₂ → AddedOf (Listed n (i + 1) p) m n b first p p₂
+  listed-step {i} {r} {p} l e g h = added-then g h (λ z. (to z, from z))
+    where
+      same : r ≡ word p n LIST i
+      same = e ∙ same-word (g .rest) LIST i (omega arith) l
+
+      to : (z : ℕ) → Listed n i p z ⊎ (z ≡ r) → Listed n (i + 1) p z
+      to z (inl (j, a, q)) = (j, omega arith, q)
+      to z (inr q) = (i, omega arith, sym same ∙ sym q)
+
+      from : (z : ℕ) → Listed n (i + 1) p z → Listed n i p z ⊎ (z ≡ r)
+      from z (j, a, q) = go (eq-or-lt-of-le (omega arith))
+        where
+          go : (j ≡ i) ⊎ (j < i) → Listed n i p z ⊎ (z ≡ r)
+          go (inl o) = inr (sym q ∙ ap (λ (x : ℕ). word p n LIST x) o ∙ sym same)
+          go (inr o) = inl (j, o, q)
+
+  -- ── The whole list ──
+  -- each value that yields anything is that of a node
+  pub ranged-all : {p p₁ p₂ : List ℕ} → Ranged n n p p₁ → AddedOf (Listed n n p₁) m n b first p₁ p₂ → AddedAll m n b first p p₂
+  ranged-all {p} {p₁} {p₂} f h = record {
+    rest = rest-then rest (rest-more (omega arith) (h .rest));
+    found = λ P R t stage loops powers split.
+        let stage₁ = stage-rest rest (omega arith) stage in
+        gains-before (λ l q. f .within .behind l (omega arith))
+        (gains-iff (λ k x y i j _ _ _ _ _. ((λ (w, node, e, g). (t .value w, g)), from P R t stage₁ k x y i j)) (h .found P R t stage₁ (loops-rest rest loops) (powers-rest rest powers) split));
+  }
+    where
+      rest : Rest LIST n b p p₁
+      rest = rest-within (omega arith) (f .within)
+
+      from : (P R : XPath) (t : Tree) → Stage P R t m n p₁ → (k x y i j : ℕ) → (d : List ℕ) × Direct t P R d k x y i j → OfRanks (Listed n n p₁) P R t n p₁ k x y i j
+      from P R t stage k x y i j (d, g) =
+          let (a, z, q, edge, lo, hi, s) = direct-iff t P R d k x y i j .0 g in
+          let has = edge .top .hasU in
+          let u = edge .top .u in
+          let low = has .inside in
+          let e = stage .drawn .size in
+          let node : u < n = omega arith in
+          let small = stage .drawn .small u node in
+          (u, node, (word p₁ n RANK u, small, f .entries (word p₁ n RANK u) small), subst (λ (d : List ℕ). Direct t P R d k x y i j) (sym (has .value)) g)

@@ -1,0 +1,33 @@
+-- The positions that end at a node itself.
+use Prim.Native.Nat.{ℕ, _<_}
+use mathlib.Core.Path.{_≡_, sym, _∙_, subst}
+use mathlib.Core.Logic.{_↔_, _≢_}
+use mathlib.Core.Bool.{true, false≢true}
+use mathlib.Core.List.{List}
+use Rattle.bits.specs.Sets.{bit}
+use Rattle.bits.proofs.SetLaws.{bit-none}
+use Rattle.xpath.specs.Syntax.{XPath}
+use Rattle.xpath.specs.Tree.{Tree}
+use Rattle.snippets.specs.Ways.{Own}
+use Rattle.snippets.proofs.Edges.{comes-few}
+use Rattle.table.specs.Table.{RANK, word}
+use Rattle.machine.specs.declared.Machine.{Machine}
+use Rattle.matrices.specs.Matrices.{Before}
+use Rattle.loops.specs.Loops.{Stage, Loops, loopAt}
+use Rattle.skeletons.specs.Skeletons.{Ranks}
+use Rattle.first_snippets.specs.Groups.{Exactly}
+
+module _ (P R : XPath) (t : Tree) (d : List ℕ) {m : Machine} {n r v : ℕ} {p : List ℕ} (stage : Stage P R t m n p) (loops : Loops P R t n p) (ranks : Ranks t d n r p) (node : v < n) where
+  -- of a node of the group
+  pub own-here : (w at : ℕ) → word p n RANK v ≡ r → at ≡ loopAt n v → ((i : ℕ) → i < 16 → (bit w i ≡ true) ↔ Before p at (m .last) i) → Exactly w (Own t P R d v)
+  own-here w at e place asked i l = (
+    λ x. let (j, q, a, c) = before i l .0 x in (record { inside = subst (λ (z : ℕ). v < z) (sym (stage .drawn .size)) node; value = ranks v node .0 e }, (j, stage .machine .last j .0 a, loops v i j node l q .0 c)),
+    λ (h, (j, a, c)). let q = comes-few P R t (stage .machine .few) c l in before i l .1 (j, q, stage .machine .last j .1 a, loops v i j node l q .1 c),
+  )
+    where
+      before : (i : ℕ) → i < 16 → (bit w i ≡ true) ↔ Before p (loopAt n v) (m .last) i
+      before = subst (λ (z : ℕ). (i : ℕ) → i < 16 → (bit w i ≡ true) ↔ Before p z (m .last) i) place asked
+
+  -- of another
+  pub own-none : word p n RANK v ≢ r → Exactly 0 (Own t P R d v)
+  own-none f i l = (λ x. absurd (false≢true (sym (bit-none i) ∙ x)), λ (h, e). absurd (f (ranks v node .1 (h .value))))

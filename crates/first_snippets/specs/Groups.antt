@@ -1,0 +1,184 @@
+-- What the first snippets of one value yield directly, in the columns and the rows of a comparison's part.
+use Prim.Native.Nat.{ℕ, suc, _+_, _*_, _^_, _≤_, _<_}
+use mathlib.Core.Path.{_≡_}
+use mathlib.Core.Logic.{_≢_, _⊎_, _↔_}
+use mathlib.Core.Bool.{Bool, true, false}
+use mathlib.Core.List.{List}
+use lib.ListN.{length, getD}
+use Rattle.limits.specs.Limits.{documentNodes, positions, nodeDigits, wordsPerDigit}
+use Rattle.bits.specs.Sets.{bit}
+use Rattle.xpath.specs.Syntax.{XPath, size}
+use Rattle.xpath.specs.Tree.{Tree, Down}
+use Rattle.snippets.specs.Snippets.{Skeleton, Edge}
+use Rattle.snippets.specs.Ways.{In, Above, FromChild}
+use Rattle.snippets.specs.Direct.{Upper, Lower, Direct}
+use Rattle.table.specs.Table.{RANK, word, COLUMNS}
+use Rattle.machine.specs.declared.Machine.{Machine}
+use Rattle.matrices.specs.Matrices.{Related}
+use Rattle.loops.specs.Loops.{Stage, Loops}
+use Rattle.powers.specs.Powers.{BLOCKS, snippetAt, Powers}
+use Rattle.skeletons.specs.Skeletons.{MARKED, Buckets, Ranks, Group}
+
+-- ── The columns ──
+-- the ranks of the values to be taken, one behind the other
+abbrev pub LIST : ℕ
+LIST = 8
+
+-- the positions that at a skeleton node end at a node of the group that is at or below it
+abbrev pub IN : ℕ
+IN = 12
+
+-- those of them that come from the next skeleton node on the left
+abbrev pub LEFTIN : ℕ
+LEFTIN = 13
+
+-- and on the right
+abbrev pub RIGHTIN : ℕ
+RIGHTIN = 14
+
+-- the positions that end at a node of the group that is neither at nor below it
+abbrev pub ABOVE : ℕ
+ABOVE = 15
+
+-- what comes from the next skeleton node on a side
+abbrev pub inward : Bool → ℕ
+inward true = LEFTIN
+inward false = RIGHTIN
+
+-- ── What is given ──
+-- the 16 positions that are members of w are those that A holds of
+abbrev pub Exactly : ℕ → (ℕ → Type 0) → Type 0
+Exactly w A = (i : ℕ) → i < positions → (bit w i ≡ true) ↔ A i
+
+-- a comparison of two paths on a tree with its loops and its powers, and the marks of the nodes of rank r, which have the value d
+pub record Setting (P R : XPath) (t : Tree) (d : List ℕ) (m : Machine) (n b r : ℕ) (p : List ℕ) : Type 0 where
+  pub stage : Stage P R t m n p
+  pub loops : Loops P R t n p
+  pub powers : Powers P R t n p b
+  pub group : Group t d n r p
+
+-- the powers below b are enough for every way down the tree
+abbrev pub Enough : Tree → ℕ → Type 0
+Enough t b = (x y l : ℕ) → Down t x y l → l < 2 ^ b
+
+-- there is room for the powers below b
+pub record Sizes (n b : ℕ) (p : List ℕ) : Type 0 where
+  pub few : n ≤ documentNodes
+  pub low : b ≤ nodeDigits
+  pub room : (BLOCKS + wordsPerDigit * b) * n ≤ length p
+
+-- some comparison and some value are given
+pub record Given (m : Machine) (n b r : ℕ) (p : List ℕ) : Type 0 where
+  pub first : XPath
+  pub second : XPath
+  pub tree : Tree
+  pub value : List ℕ
+  pub setting : Setting first second tree value m n b r p
+  pub enough : Enough tree b
+  pub sizes : Sizes n b p
+
+-- the members of w are the positions of the first path
+abbrev pub OfFirst : XPath → ℕ → Type 0
+OfFirst P w = Exactly w (λ i. i ≤ size P)
+
+-- ── What may change ──
+-- k is no word of the snippets' rows
+abbrev pub Aside : ℕ → ℕ → ℕ → Type 0
+Aside n b k = (e y i : ℕ) → e < b → y < n → i < positions → k ≢ snippetAt n e y + i
+
+-- only the columns from c on and the snippets' rows may be different
+pub record Rest (c n b : ℕ) (p p′ : List ℕ) : Type 0 where
+  pub long : length p′ ≡ length p
+  pub front : (k : ℕ) → k < c * n → getD p′ k 0 ≡ getD p k 0
+  pub behind : (k : ℕ) → COLUMNS * n ≤ k → Aside n b k → getD p′ k 0 ≡ getD p k 0
+
+-- the snippets' rows have what they had, and what A says
+pub record Gains (t : Tree) (n b : ℕ) (A : ℕ → ℕ → ℕ → ℕ → ℕ → Type 0) (p p′ : List ℕ) : Type 0 where
+  pub rows : (k x y i j : ℕ) → k < b → y < n → Down t x y (2 ^ k) → i < positions → j < positions
+      → Related p′ (snippetAt n k y) i j ↔ (Related p (snippetAt n k y) i j ⊎ A k x y i j)
+  -- nothing where no node lies 2^k above y
+  pub top : (k y i : ℕ) → k < b → y < n → i < positions → ((x : ℕ) → ¬ Down t x y (2 ^ k)) → getD p′ (snippetAt n k y + i) 0 ≡ getD p (snippetAt n k y + i) 0
+
+-- ── What is found ──
+module _ (P R : XPath) (t : Tree) (d : List ℕ) where
+  -- what the edge above y yields, where its upper node is x and its length is l
+  abbrev pub OfEdge : (x y l k a b i j : ℕ) → Type 0
+  OfEdge x y l k a b i j = (2 ^ k ≤ l) × (l < 2 ^ suc k) × (Upper t P R d k x y a b i j ⊎ Lower t P R d k x y a b i j)
+
+  -- what the edge above y yields, if there is one
+  abbrev pub Yields : (y k a b i j : ℕ) → Type 0
+  Yields y k a b i j = (x l : ℕ) × Edge t d x y l × OfEdge x y l k a b i j
+
+  module _ (n : ℕ) (p : List ℕ) where
+    -- the positions that come from the next skeleton nodes, as far as these are v or behind it
+    abbrev pub Sides : ℕ → Type 0
+    Sides v = (side : Bool) (x : ℕ) → Skeleton t d x → Exactly (word p n (inward side) x) (λ i. (f : FromChild t P R d side x i) × (v ≤ f .y))
+
+    -- the skeleton nodes from v on have their positions, and have handed them up
+    pub record Risen (v : ℕ) : Type 0 where
+      pub inside : (u : ℕ) → v ≤ u → Skeleton t d u → Exactly (word p n IN u) (In t P R d u)
+      pub sides : Sides v
+
+    -- the skeleton nodes before v have their positions from above
+    abbrev pub Sunk : ℕ → Type 0
+    Sunk v = (u : ℕ) → u < v → Skeleton t d u → Exactly (word p n ABOVE u) (Above t P R d u)
+
+-- ── The snippets of one value ──
+-- some comparison is given with its loops and its powers, and the nodes by rank
+pub record Base (m : Machine) (n b : ℕ) (p : List ℕ) : Type 0 where
+  pub first : XPath
+  pub second : XPath
+  pub tree : Tree
+  pub stage : Stage first second tree m n p
+  pub loops : Loops first second tree n p
+  pub powers : Powers first second tree n p b
+  pub buckets : Buckets n p
+  pub enough : Enough tree b
+  pub sizes : Sizes n b p
+
+-- and the rank r is that of some value
+pub record Grounds (m : Machine) (n b r : ℕ) (p : List ℕ) : Type 0 where
+  pub base : Base m n b p
+  pub rank : r < n
+  pub value : List ℕ
+  pub ranks : Ranks (base .tree) value n r p
+
+-- the rows have what the first snippets of the value of rank r yield; the columns before that of the marks stay
+pub record Added (m : Machine) (n b first r : ℕ) (p p′ : List ℕ) : Type 0 where
+  pub rest : Rest MARKED n b p p′
+  pub found : (P R : XPath) (t : Tree) (d : List ℕ) → Stage P R t m n p → Loops P R t n p → Powers P R t n p b → Ranks t d n r p → OfFirst P first
+      → Gains t n b (Direct t P R d) p p′
+
+-- ── The snippets of several values ──
+-- what the first snippets of the values yield whose rank is in S
+abbrev pub OfRanks : (ℕ → Type 0) → XPath → XPath → Tree → ℕ → List ℕ → (k x y i j : ℕ) → Type 0
+OfRanks S P R t n p k x y i j = (w : ℕ) × (w < n) × S (word p n RANK w) × Direct t P R (t .value w) k x y i j
+
+-- the rows have it
+pub record AddedOf (S : ℕ → Type 0) (m : Machine) (n b first : ℕ) (p p′ : List ℕ) : Type 0 where
+  pub rest : Rest MARKED n b p p′
+  pub found : (P R : XPath) (t : Tree) → Stage P R t m n p → Loops P R t n p → Powers P R t n p b → OfFirst P first → Gains t n b (OfRanks S P R t n p) p p′
+
+-- ── A list of values ──
+-- the rank z is among the first c entries of the list
+abbrev pub Listed : ℕ → ℕ → List ℕ → ℕ → Type 0
+Listed n c p z = (i : ℕ) × (i < c) × (word p n LIST i ≡ z)
+
+-- the first c entries are ranks
+pub record Listing (n c : ℕ) (p : List ℕ) : Type 0 where
+  pub few : c ≤ n
+  pub ranks : (i : ℕ) → i < c → word p n LIST i < n
+
+-- the rows have what the first snippets of all values yield; the columns before that of the list stay
+pub record AddedAll (m : Machine) (n b first : ℕ) (p p′ : List ℕ) : Type 0 where
+  pub rest : Rest LIST n b p p′
+  pub found : (P R : XPath) (t : Tree) → Stage P R t m n p → Loops P R t n p → Powers P R t n p b → OfFirst P first
+      → Gains t n b (λ k x y i j. (d : List ℕ) × Direct t P R d k x y i j) p p′
+
+-- some node has the rank r
+abbrev pub Somewhere : ℕ → ℕ → List ℕ → Type 0
+Somewhere n r p = (w : ℕ) × (w < n) × (word p n RANK w ≡ r)
+
+-- no two nodes have it
+abbrev pub Alone : ℕ → ℕ → List ℕ → Type 0
+Alone n r p = (u w : ℕ) → u < n → w < n → word p n RANK u ≡ r → word p n RANK w ≡ r → u ≡ w

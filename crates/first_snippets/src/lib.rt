@@ -1,0 +1,93 @@
+// The snippets that the first snippets of one value yield directly: added to the snippets' rows of a comparison's part, for one group of nodes of equal value after the other.
+mod listing;
+mod own;
+mod rising;
+mod rows;
+mod sinking;
+mod yields;
+
+use listing::list_ranks;
+use machine::Machine;
+use rising::rise;
+use sinking::sink;
+use skeletons::marks::mark_group;
+use table::table::get;
+ghost use mathlib.Core.Path.{_≡_};
+ghost use mathlib.Core.Bool.{true, false};
+ghost use Prim.Native.Nat.{_≤_, _<_};
+ghost use Rattle.limits.specs.Limits.{documentNodes};
+ghost use Rattle.table.specs.Table.{Room};
+ghost use Rattle.skeletons.specs.Skeletons.{Buckets};
+ghost use Rattle.first_snippets.specs.Groups.{Base, Grounds, Added, Listed, Listing, AddedOf, AddedAll, Somewhere, Alone};
+
+pub struct Column;
+
+impl Column {
+    // The ranks of the values to be taken, one behind the other.
+    pub const LIST: usize = 8;
+
+    // The positions that at a skeleton node end at a node of the group that is at or below it.
+    pub const IN: usize = 12;
+
+    // Those of them that come from the next skeleton node on the left, and on the right.
+    pub const LEFTIN: usize = 13;
+
+    pub const RIGHTIN: usize = 14;
+
+    // The positions that end at a node of the group that is neither at nor below it.
+    pub const ABOVE: usize = 15;
+}
+
+// What the first snippets of the value of rank `r` yield. The members of `first` are the positions of the first path.
+pub fn add_group(p: &mut [u16], n: usize, b: usize, m: Machine, first: u16, r: usize)
+    requires { ⌜ Grounds m n b r (now p) ⌝ }
+    ensures { λ _. ⌜ Added m n b first r (now (p .entry)) (now (p .exit)) ⌝ }
+{
+    mark_group(p, n, r);
+    rise(p, n, b, m, r);
+    sink(p, n, b, m, r, first);
+}
+
+// Whether two nodes have the rank `r`. The skeleton of one node has no edge, so it yields nothing.
+fn is_shared(p: &[u16], n: usize, r: usize) -> bool
+    requires { ⌜ Buckets n (now p) × Room n (now p) × (n ≤ documentNodes) × (r < n) ⌝ }
+    ensures { λ s. ⌜ (s ≡ true → Somewhere n r (now (p .entry))) × (s ≡ false → Alone n r (now (p .entry))) ⌝ }
+{
+    let w = get(p, n, skeletons::Column::FIRST, r);
+    if w < n {
+        return get(p, n, skeletons::Column::NEXT, w) < n;
+    }
+    false
+}
+
+// The same of a rank that no node or one node may have.
+fn add_rank(p: &mut [u16], n: usize, b: usize, m: Machine, first: u16, r: usize)
+    requires { ⌜ Base m n b (now p) × (r < n) ⌝ }
+    ensures { λ _. ⌜ AddedOf (λ z. z ≡ r) m n b first (now (p .entry)) (now (p .exit)) ⌝ }
+{
+    if is_shared(p, n, r) {
+        add_group(p, n, b, m, first, r);
+    }
+}
+
+// What the first snippets of the values yield whose ranks are the first `count` entries of the list, in any order. What two of them yield is in the rows once.
+pub fn add_list(p: &mut [u16], n: usize, b: usize, m: Machine, first: u16, count: usize)
+    requires { ⌜ Base m n b (now p) × Listing n count (now p) ⌝ }
+    ensures { λ _. ⌜ AddedOf (Listed n count (now (p .entry))) m n b first (now (p .entry)) (now (p .exit)) ⌝ }
+{
+    let mut i = 0;
+    while i < count {
+        let r = get(p, n, Column::LIST, i);
+        add_rank(p, n, b, m, first, r);
+        i += 1;
+    }
+}
+
+// What the first snippets of all values yield.
+pub fn add_groups(p: &mut [u16], n: usize, b: usize, m: Machine, first: u16)
+    requires { ⌜ Base m n b (now p) ⌝ }
+    ensures { λ _. ⌜ AddedAll m n b first (now (p .entry)) (now (p .exit)) ⌝ }
+{
+    list_ranks(p, n);
+    add_list(p, n, b, m, first, n);
+}

@@ -1,0 +1,98 @@
+// From above: each skeleton node has its positions that end elsewhere from the next skeleton node above it, and the edge between the two yields its snippets.
+use crate::Column;
+use crate::own::own;
+use crate::yields::add_edge;
+use bits::union;
+use machine::Machine;
+use powers::lower;
+use skeletons::Climb;
+use skeletons::blocks::block_end;
+use skeletons::blocks::is_empty;
+use skeletons::skeleton::climb;
+use skeletons::skeleton::is_skeleton;
+use table::table::get;
+use table::table::left;
+use table::table::put;
+ghost use mathlib.Core.Path.{_≡_};
+ghost use mathlib.Core.List.{List};
+ghost use mathlib.Core.Logic.{_≢_, _⊎_};
+ghost use Prim.Native.Nat.{ℕ, _*_, _≤_, _<_};
+ghost use lib.ListN.{length};
+ghost use Rattle.limits.specs.Limits.{documentNodes};
+ghost use Rattle.table.specs.Table.{LEFT, word, Room};
+ghost use Rattle.machine.specs.Part.{PAIRS};
+ghost use Rattle.first_snippets.specs.Groups.{LEFTIN, RIGHTIN, Given};
+ghost use Rattle.first_snippets.specs.Steps.{Placed, Outside, Sinks, SinksBy, Sank};
+ghost use Rattle.skeletons.specs.Skeletons.{Ascent};
+
+// The positions that come to node `x` from the other side than that of `child`.
+fn beside(p: &[u16], n: usize, x: usize, child: usize) -> u16
+    requires { ⌜ (x < n) × Room n (now p) ⌝ }
+    ensures { λ w. ⌜ ((word (now (p .entry)) n LEFT x ≡ child) × (w ≡ word (now (p .entry)) n RIGHTIN x)) ⊎ ((word (now (p .entry)) n LEFT x ≢ child) × (w ≡ word (now (p .entry)) n LEFTIN x)) ⌝ }
+{
+    if left(p, n, x) == child {
+        return get(p, n, Column::RIGHTIN, x) as u16;
+    }
+    get(p, n, Column::LEFTIN, x) as u16
+}
+
+// The positions that at node `x` end outside what is under `child`.
+fn outside(p: &[u16], n: usize, m: Machine, x: usize, child: usize, r: usize) -> u16
+    requires { ⌜ (x < n) × (n ≤ documentNodes) × (PAIRS * n ≤ length (now p)) ⌝ }
+    ensures { λ w. ⌜ Outside m n r x child w (now (p .entry)) ⌝ }
+{
+    let up = get(p, n, Column::ABOVE, x) as u16;
+    let here = own(p, n, m, x, r);
+    let over = beside(p, n, x, child);
+    union(up, union(here, over))
+}
+
+// The skeleton node `v`, which has the edge `c` above it.
+fn sink_by(p: &mut [u16], n: usize, b: usize, m: Machine, v: usize, r: usize, first: u16, c: Climb)
+    requires { ⌜ Placed n b r v (now p) × Ascent n r v (c .node) (c .length) (c .child) (now p) × (c .node < n) ⌝ }
+    ensures { λ _. ⌜ SinksBy m n b first r v (now (p .entry)) (now (p .exit)) ⌝ }
+{
+    let out = outside(p, n, m, c.node, c.child, r);
+    let above = lower(p, n, b, v, c.length, out);
+    let inside = get(p, n, Column::IN, v) as u16;
+    put(p, n, Column::ABOVE, v, above as usize);
+    add_edge(p, n, b, v, c.length, first, inside, out);
+}
+
+// Node `v`, where all before it have been taken.
+fn sink_at(p: &mut [u16], n: usize, b: usize, m: Machine, v: usize, r: usize, first: u16)
+    requires { ⌜ Given m n b r (now p) × (v < n) ⌝ }
+    ensures { λ _. ⌜ Sinks m n b first r v (now (p .entry)) (now (p .exit)) ⌝ }
+{
+    if is_skeleton(p, n, v, r) {
+        let c = climb(p, n, v, r);
+        if c.node < n {
+            sink_by(p, n, b, m, v, r, first, c);
+        } else {
+            put(p, n, Column::ABOVE, v, 0);
+        }
+    }
+}
+
+// Node `v`, or all nodes from it on of its block if that is empty. The result is where to go on.
+fn sink_from(p: &mut [u16], n: usize, b: usize, m: Machine, v: usize, r: usize, first: u16) -> usize
+    requires { ⌜ Given m n b r (now p) × (v < n) ⌝ }
+    ensures { λ u. ⌜ (v < u) × (u ≤ n) × ((p₀ : List ℕ) → Sank m n b first r v p₀ (now (p .entry)) → Sank m n b first r u p₀ (now (p .exit))) ⌝ }
+{
+    if is_empty(p, n, v) {
+        return block_end(n, v);
+    }
+    sink_at(p, n, b, m, v, r, first);
+    v + 1
+}
+
+// All nodes, from the first to the last: what is above a node is before it.
+pub fn sink(p: &mut [u16], n: usize, b: usize, m: Machine, r: usize, first: u16)
+    requires { ⌜ Given m n b r (now p) ⌝ }
+    ensures { λ _. ⌜ Sank m n b first r n (now (p .entry)) (now (p .exit)) ⌝ }
+{
+    let mut v = 0;
+    while v < n {
+        v = sink_from(p, n, b, m, v, r, first);
+    }
+}

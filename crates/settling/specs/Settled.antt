@@ -1,0 +1,36 @@
+-- What `settle` leaves: the answer of each node.
+use Prim.Native.Nat.{ℕ, _*_, _≤_, _<_}
+use mathlib.Core.Path.{_≡_}
+use mathlib.Core.Logic.{_↔_}
+use mathlib.Core.Bool.{Bool}
+use mathlib.Core.List.{List}
+use lib.ListN.{length, getD}
+use Rattle.limits.specs.Limits.{positions}
+use Rattle.xpath.specs.Syntax.{XPath}
+use Rattle.xpath.specs.Tree.{Tree, Child}
+use Rattle.table.specs.Table.{word}
+use Rattle.matrices.specs.Matrices.{Related}
+use Rattle.machine.specs.declared.Machine.{Machine}
+use Rattle.machine.specs.Part.{ANSWER, PAIRS, REST}
+use Rattle.loops.specs.Loops.{Stage, Loops}
+use Rattle.powers.specs.Powers.{Powers, snippetAt}
+use Rattle.settling.specs.Pairs.{Settles}
+
+-- the words have a snippet of power 0 from x down to its child y: i at x and j at y
+pub record Marked (t : Tree) (n : ℕ) (p : List ℕ) (x y i j : ℕ) : Type 0 where
+  pub side : Bool
+  pub child : Child t side x y
+  pub upperFew : i < positions
+  pub lowerFew : j < positions
+  pub marked : Related p (snippetAt n 0 y) i j
+
+pub record Settled (m : Machine) (n : ℕ) (p p′ : List ℕ) : Type 0 where
+  -- all words but the answers and the pairs are as before
+  pub long : length p′ ≡ length p
+  pub columns : (k : ℕ) → n ≤ k → k < PAIRS * n → getD p′ k 0 ≡ getD p k 0
+  pub behind : (k : ℕ) → REST * n ≤ k → getD p′ k 0 ≡ getD p k 0
+  -- an answer is 0 or 1
+  pub small : (v : ℕ) → v < n → word p′ n ANSWER v ≤ 1
+  -- it is 1 where the snippets settle the two starts
+  pub answers : (P R : XPath) (t : Tree) → Stage P R t m n p → Loops P R t n p → Powers P R t n p 1
+      → (v : ℕ) → v < n → (word p′ n ANSWER v ≡ 1) ↔ Settles P R t (Marked t n p) v 0 (m .second)

@@ -1,0 +1,98 @@
+// The two checks, each answered by the numbers of document 01.
+use document::Verdict;
+ghost use mathlib.Core.Path.{_≡_};
+ghost use Rattle.verdicts.specs.Answers.{answerOf, ruleAnswerOf};
+ghost use Rattle.rule_spec.specs.Verdict as Grammar;
+ghost use Rattle.document_spec.specs.Verdict.{Checked};
+
+// What the document check returns: number, place and N.
+#[repr(C)]
+pub struct DocumentAnswer {
+    pub number: u16,
+    pub place: usize,
+    pub nodes: usize,
+}
+
+fn document_answer(v: Verdict) -> DocumentAnswer
+    ensures { λ r. ⌜ r ≡ answerOf v ⌝ }
+{
+    match v {
+        Verdict::Accepted(n) => DocumentAnswer {
+            number: 0,
+            place: 0,
+            nodes: n,
+        },
+        Verdict::Length => DocumentAnswer {
+            number: 1,
+            place: 0,
+            nodes: 0,
+        },
+        Verdict::Form(line) => DocumentAnswer {
+            number: 2,
+            place: line,
+            nodes: 0,
+        },
+        Verdict::Count => DocumentAnswer {
+            number: 3,
+            place: 1,
+            nodes: 0,
+        },
+        Verdict::Tree(line) => DocumentAnswer {
+            number: 4,
+            place: line,
+            nodes: 0,
+        },
+    }
+}
+
+// Judges a document by numbers 1 to 4.
+pub fn check_document(document: &[u8]) -> DocumentAnswer
+    ensures { λ r. ⌜ Checked (now (document .entry)) (r .number) (r .place) (r .nodes) ⌝ }
+{
+    document_answer(document::check(document))
+}
+
+// What the rule check returns: number and place.
+#[repr(C)]
+pub struct RuleAnswer {
+    pub number: u16,
+    pub place: usize,
+}
+
+fn rule_answer(v: rule::Verdict) -> RuleAnswer
+    ensures { λ r. ⌜ r ≡ ruleAnswerOf v ⌝ }
+{
+    match v {
+        rule::Verdict::Accepted => RuleAnswer {
+            number: 0,
+            place: 0,
+        },
+        rule::Verdict::Length => RuleAnswer {
+            number: 5,
+            place: 0,
+        },
+        rule::Verdict::Unreadable(offset) => RuleAnswer {
+            number: 6,
+            place: offset,
+        },
+        rule::Verdict::Nesting(offset) => RuleAnswer {
+            number: 7,
+            place: offset,
+        },
+        rule::Verdict::Tests(offset) => RuleAnswer {
+            number: 8,
+            place: offset,
+        },
+        rule::Verdict::Steps(offset) => RuleAnswer {
+            number: 9,
+            place: offset,
+        },
+    }
+}
+
+// Judges a rule by numbers 5 to 9.
+pub fn check_rule(rule: &[u8]) -> RuleAnswer
+    ensures { λ r. ⌜ Grammar.Checked (now (rule .entry)) (r .number) (r .place) ⌝ }
+{
+    rule_answer(rule::check(rule))
+}
