@@ -5,9 +5,9 @@ use mathlib.Core.Logic.{_⊎_, inl, inr, ⊎-elim, _↔_}
 use mathlib.Core.List.{List}
 use native.Mathlib.Omega.{arith}
 use lib.ListN.{getD}
-use Rattle.table.specs.Table.{LEFT}
+use Rattle.layout.specs.Part.{SEEN}
+use Rattle.layout.specs.Table.{LEFT}
 use Rattle.machine.specs.declared.Machine.{Machine}
-use Rattle.machine.specs.Part.{SEEN}
 use Rattle.machine.specs.Walks.{on}
 use Rattle.reach.specs.Work.{Seen, Added}
 use Rattle.reach.proofs.Walks.{leads-same, walk-same}

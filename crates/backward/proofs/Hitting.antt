@@ -5,13 +5,13 @@ use mathlib.Core.Logic.{_⊎_, inl, inr, ⊎-elim, _↔_}
 use mathlib.Core.List.{List}
 use native.Mathlib.Decide.{ℕ-discrete}
 use native.Mathlib.Omega.{arith}
-use Rattle.table.specs.Table.{cell, word}
+use Rattle.layout.specs.Part.{HIT, SEEN}
+use Rattle.layout.specs.Words.{cell, word, Filled}
 use Rattle.machine.specs.declared.Machine.{Machine}
-use Rattle.machine.specs.Part.{HIT, SEEN}
 use Rattle.machine.specs.Walks.{Stops, Hits}
 use Rattle.reach.specs.Work.{Seen}
 use Rattle.plain.specs.Plain.{Answered}
-use Rattle.backward.specs.Backward.{LinkedBothWays, Filled, Listed, Joined, Closed, Ends, Backed}
+use Rattle.backward.specs.Backward.{LinkedBothWays, Listed, Joined, Closed, Ends, Backed}
 use Rattle.backward.specs.Constants.{IsHit, HitAt}
 use Rattle.backward.proofs.Joining.{joined-same, joined-as}
 use Rattle.backward.proofs.Spreading.{added-linked}

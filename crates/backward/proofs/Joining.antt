@@ -7,8 +7,8 @@ use mathlib.Core.List.{List}
 use native.Mathlib.Decide.{ℕ-discrete, decLt}
 use native.Mathlib.Omega.{arith}
 use Rattle.bits.specs.Sets.{bit}
-use Rattle.table.specs.Table.{word, Wrote}
-use Rattle.machine.specs.Part.{SEEN}
+use Rattle.layout.specs.Part.{SEEN}
+use Rattle.layout.specs.Words.{word, Wrote}
 use Rattle.reach.specs.Work.{Seen, Has, nodeOf, Added, At, entered}
 use Rattle.reach.proofs.Adding.{added-same, added-then}
 use Rattle.reach.proofs.Entering.{Fresh, new-parts, enter-room, added-new}

@@ -8,9 +8,10 @@ use native.Mathlib.Omega.{arith}
 use lib.ListN.{getD}
 use Rattle.xpath.specs.Syntax.{XPath}
 use Rattle.xpath.specs.Tree.{Tree, Child}
-use Rattle.table.specs.Table.{LEFT, PARENT, NONE, column, word}
+use Rattle.layout.specs.Part.{SEEN}
+use Rattle.layout.specs.Table.{LEFT, PARENT, column}
+use Rattle.layout.specs.Words.{NONE, word}
 use Rattle.table.specs.Links.{Points}
-use Rattle.machine.specs.Part.{SEEN}
 use Rattle.machine.specs.Meaning.{Drawn}
 use Rattle.backward.specs.Backward.{LinkedBothWays}
 

@@ -9,12 +9,13 @@ use native.Mathlib.Nat.{mul-le-mul-right}
 use native.Mathlib.Omega.{arith}
 use lib.ListN.{length, getD}
 use Rattle.bits.specs.Sets.{bit}
-use Rattle.table.specs.Table.{cell, word}
-use Rattle.machine.specs.Part.{SEEN, NODES, POSITIONS}
+use Rattle.layout.specs.Part.{SEEN, NODES, POSITIONS}
+use Rattle.layout.specs.Sweeps.{LEAST, ABOVE}
+use Rattle.layout.specs.Words.{cell, word}
 use Rattle.reach.specs.Work.{Seen, Has, nodeOf, Work}
 use Rattle.reach.proofs.Totals.{total-same}
 use Rattle.backward.specs.Backward.{Once, OfEntry, OfEntries}
-use Rattle.backward.specs.Sweeps.{LEAST, ABOVE, Paired, PutIf, put, skip, Noted, Notes}
+use Rattle.backward.specs.Sweeps.{Paired, PutIf, put, skip, Noted, Notes}
 
 -- ── One column ──
 module _ {n c x : ℕ} {A B : ℕ → Type 0} {p q : List ℕ} where

@@ -8,14 +8,16 @@ use native.Mathlib.Nat.{mul-le-mul-right}
 use native.Mathlib.Omega.{arith}
 use lib.ListN.{getD}
 use Rattle.xpath.specs.Syntax.{Op, eq}
-use Rattle.table.specs.Table.{RANK, cell, word}
+use Rattle.layout.specs.Groups.{FIRST, NEXT, MARKED}
+use Rattle.layout.specs.Sweeps.{LEAST, ABOVE}
+use Rattle.layout.specs.Table.{RANK}
+use Rattle.layout.specs.Words.{cell, word, Within}
 use Rattle.table.specs.Links.{Points}
 use Rattle.rule_parts.specs.Kinds.{operator}
 use Rattle.rule_parts.specs.declared.kinds.Operator.{Operator}
 use Rattle.machine.specs.declared.Machine.{Machine}
 use Rattle.machine.specs.Walks.{Stops, Meets}
-use Rattle.skeletons.specs.Skeletons.{FIRST, NEXT, MARKED, Least, Buckets}
-use Rattle.skeletons.specs.Shape.{Within}
+use Rattle.skeletons.specs.Skeletons.{Least, Buckets}
 use Rattle.plain.specs.declared.ranges.Range.{Range}
 use Rattle.plain.specs.Plain.{Answered, Small}
 use Rattle.plain.specs.Ends.{Held}
@@ -24,7 +26,7 @@ use Rattle.plain.proofs.Ranged.{across-some}
 use Rattle.plain.proofs.Steady.{held-then, held-word, held-small}
 use Rattle.plain.proofs.Walks.{stops-same, meets-same}
 use Rattle.backward.specs.Backward.{LinkedBothWays, Listed}
-use Rattle.backward.specs.Sweeps.{LEAST, ABOVE, rangeOf, Seeded, Extreme, Spared, Blank, Blanked, Risen, Fallen, Ranges}
+use Rattle.backward.specs.Sweeps.{rangeOf, Seeded, Extreme, Spared, Blank, Blanked, Risen, Fallen, Ranges}
 use Rattle.backward.proofs.Linked.{linked-same}
 use Rattle.backward.proofs.Sweeping.{extreme-as, Sweeping, sweeping-none, sweeping-step, sweeping-all}
 

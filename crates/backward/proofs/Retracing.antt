@@ -6,9 +6,10 @@ use mathlib.Core.Logic.{_⊎_, inl, inr, ⊎-elim, ⊎-map, _↔_}
 use mathlib.Core.List.{List}
 use lib.ListN.{getD}
 use Rattle.bits.specs.Sets.{bit, or}
-use Rattle.table.specs.Table.{LEFT, RIGHT, PARENT, word}
+use Rattle.layout.specs.Part.{STAYS}
+use Rattle.layout.specs.Table.{LEFT, RIGHT, PARENT}
+use Rattle.layout.specs.Words.{word}
 use Rattle.machine.specs.declared.Machine.{Machine}
-use Rattle.machine.specs.Part.{STAYS}
 use Rattle.machine.specs.Walks.{Leads, left, right, fromLeft, fromRight, stays}
 use Rattle.reach.specs.Work.{At}
 use Rattle.matrices.proofs.Members.{or-cases, or-left, or-right}

@@ -8,16 +8,19 @@ use native.Mathlib.Decide.{ℕ-discrete, decLt}
 use native.Mathlib.Nat.{mul-le-mul-right}
 use native.Mathlib.Omega.{arith}
 use Rattle.bits.specs.Sets.{bit}
-use Rattle.table.specs.Table.{RANK, cell, word}
+use Rattle.layout.specs.Groups.{FIRST, NEXT}
+use Rattle.layout.specs.Part.{SEEN}
+use Rattle.layout.specs.Sweeps.{LEAST, ABOVE}
+use Rattle.layout.specs.Table.{RANK}
+use Rattle.layout.specs.Words.{cell, word}
 use Rattle.table.specs.Links.{Points}
 use Rattle.machine.specs.declared.Machine.{Machine}
-use Rattle.machine.specs.Part.{SEEN}
 use Rattle.machine.specs.Walks.{Stops}
-use Rattle.skeletons.specs.Skeletons.{FIRST, NEXT, Least, Buckets}
+use Rattle.skeletons.specs.Skeletons.{Least, Buckets}
 use Rattle.skeletons.proofs.Grouping.{least-some}
 use Rattle.reach.specs.Work.{Seen, Added}
 use Rattle.backward.specs.Backward.{LinkedBothWays, Listed, OfEntries, New, Closed, Ends, Backed}
-use Rattle.backward.specs.Sweeps.{LEAST, ABOVE, Paired, Notes, Seeded}
+use Rattle.backward.specs.Sweeps.{Paired, Notes, Seeded}
 use Rattle.backward.proofs.Joining.{entry-new, new-entry}
 use Rattle.backward.proofs.Spreading.{added-linked}
 use Rattle.backward.proofs.Ending.{ends-closed, added-ends-as, added-ends-then}

@@ -7,13 +7,14 @@ use mathlib.Core.List.{List, [], _∷_}
 use native.Mathlib.Omega.{arith}
 use lib.ListN.{length, getD}
 use Rattle.bits.specs.Sets.{one}
-use Rattle.table.specs.Table.{cell, Wrote}
-use Rattle.machine.specs.Part.{ANSWER, Space}
+use Rattle.layout.specs.Part.{ANSWER, Space}
+use Rattle.layout.specs.Sweeps.{LEAST, ABOVE}
+use Rattle.layout.specs.Words.{cell, Wrote}
 use Rattle.plain.specs.declared.ranges.Range.{Range}
 use Rattle.plain.specs.Plain.{Answered}
 use Rattle.plain.proofs.Steady.{steady-none}
 use Rattle.plain.proofs.Answering.{Answers, answers-none, answers-step, answers-all}
-use Rattle.backward.specs.Sweeps.{LEAST, ABOVE, rangeOf}
+use Rattle.backward.specs.Sweeps.{rangeOf}
 
 -- the nodes below v are answered, and all behind the answers is as it was
 pub record Telling (n : ℕ) (A : ℕ → Type 0) (v : ℕ) (p₀ p : List ℕ) : Type 0 where

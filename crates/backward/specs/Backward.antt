@@ -7,9 +7,10 @@ use mathlib.Core.List.{List}
 use lib.ListN.{length, getD}
 use Rattle.limits.specs.Limits.{positions}
 use Rattle.bits.specs.Sets.{bit}
-use Rattle.table.specs.Table.{LEFT, RIGHT, PARENT, word}
+use Rattle.layout.specs.Part.{SEEN, NODES, POSITIONS}
+use Rattle.layout.specs.Table.{LEFT, RIGHT, PARENT}
+use Rattle.layout.specs.Words.{word}
 use Rattle.machine.specs.declared.Machine.{Machine}
-use Rattle.machine.specs.Part.{SEEN, NODES, POSITIONS}
 use Rattle.machine.specs.Walks.{Leads, Walk, Stops}
 use Rattle.reach.specs.Work.{Seen, Has, nodeOf, Work, Added}
 use Rattle.plain.specs.Ranges.{Some}
@@ -23,15 +24,6 @@ pub record LinkedBothWays (n : ℕ) (p : List ℕ) : Type 0 where
   pub right : (v u : ℕ) → v < n → u < n → word p n RIGHT v ≡ u → word p n PARENT u ≡ v
 
 -- ── Columns ──
--- x stands in column c of the nodes below v, and all else is as it was
-pub record Filled (n c x v : ℕ) (p p′ : List ℕ) : Type 0 where
-  pub inside : v ≤ n
-  pub filled : (u : ℕ) → u < v → word p′ n c u ≡ x
-  -- no word before the column or behind it was written
-  pub long : length p′ ≡ length p
-  pub front : (k : ℕ) → k < c * n → getD p′ k 0 ≡ getD p k 0
-  pub behind : (k : ℕ) → c * n + n ≤ k → getD p′ k 0 ≡ getD p k 0
-
 -- ── Sets of positions ──
 -- two sets have a member in common
 abbrev pub Common : ℕ → ℕ → Type 0

@@ -2,8 +2,8 @@
 use Prim.Native.Nat.{ℕ}
 use mathlib.Core.Path.{_≡_}
 use mathlib.Core.List.{List}
-use Rattle.table.specs.Table.{word}
-use Rattle.machine.specs.Part.{HIT}
+use Rattle.layout.specs.Part.{HIT}
+use Rattle.layout.specs.Words.{word}
 
 -- w is a hit
 abbrev pub IsHit : List ℕ → ℕ → ℕ → Type 0

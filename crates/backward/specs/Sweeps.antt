@@ -5,24 +5,16 @@ use mathlib.Core.Logic.{_⊎_}
 use mathlib.Core.Bool.{Bool, true, false}
 use mathlib.Core.List.{List, [], _∷_}
 use lib.ListN.{length, getD}
-use Rattle.table.specs.Table.{RANK, cell, word, Wrote, NONE}
+use Rattle.layout.specs.Part.{SEEN}
+use Rattle.layout.specs.Table.{RANK}
+use Rattle.layout.specs.Words.{cell, word, Wrote, NONE}
 use Rattle.machine.specs.declared.Machine.{Machine}
-use Rattle.machine.specs.Part.{SEEN}
 use Rattle.machine.specs.Walks.{Stops}
 use Rattle.reach.specs.Work.{Added}
 use Rattle.plain.specs.Ends.{Held}
 use Rattle.plain.specs.Ranges.{Some, Ranged}
 use Rattle.plain.specs.declared.ranges.Range.{Range}
 use Rattle.backward.specs.Backward.{Once, Listed, New, Ends}
-
--- ── The columns ──
--- the least rank where the first path ends, and in the next column the second path's
-abbrev pub LEAST : ℕ
-LEAST = 12
-
--- one more than the greatest rank, likewise
-abbrev pub ABOVE : ℕ
-ABOVE = 14
 
 -- c is the first of such two columns
 abbrev pub Paired : ℕ → Type 0

@@ -1,14 +1,14 @@
 // A constant: backwards from the hits.
 use crate::spread::spread;
 use bits::has;
+use layout::Part;
+use layout::words::get;
 use machine::Machine;
 use plain::answer;
-use plain::ends::Column;
-use table::table::get;
 ghost use Prim.Native.Nat.{ℕ, _<_};
 ghost use Rattle.plain.specs.Plain.{Answered};
 ghost use Rattle.reach.specs.Work.{Seen};
-ghost use Rattle.machine.specs.Part.{Space};
+ghost use Rattle.layout.specs.Part.{Space};
 ghost use Rattle.backward.specs.Backward.{LinkedBothWays, Listed, Closed, Joined, Ends};
 ghost use Rattle.backward.specs.Constants.{IsHit, HitAt};
 
@@ -17,7 +17,7 @@ fn spread_hit(p: &mut [u16], n: usize, m: Machine, w: usize, len: usize) -> usiz
     requires { ⌜ Listed n len (now p) × LinkedBothWays n (now p) × Closed m n (now p) × (w < n) ⌝ }
     ensures { λ r. ⌜ Joined (Ends m n (now (p .entry)) (HitAt (now (p .entry)) n w)) n len r (now (p .entry)) (now (p .exit)) ⌝ }
 {
-    if get(p, n, Column::HIT, w) == 1 {
+    if get(p, n, Part::HIT, w) == 1 {
         return spread(p, n, m, w, m.last, len);
     }
     len
@@ -43,7 +43,7 @@ pub fn answer_seen(p: &mut [u16], n: usize)
 {
     let mut v = 0;
     while v < n {
-        let seen = get(p, n, Column::SEEN, v);
+        let seen = get(p, n, Part::SEEN, v);
         answer(p, n, v, has(seen as u16, 0));
         v += 1;
     }

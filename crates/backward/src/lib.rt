@@ -1,8 +1,6 @@
 // The snippet evaluation's way to constants and to the signs other than =: backwards from the ends, so that each position is visited once at each node.
-mod columns;
 mod constants;
-pub mod fill;
-mod list;
+pub mod list;
 mod notes;
 mod order;
 mod predecessors;
@@ -13,9 +11,9 @@ mod sweeps;
 
 use constants::answer_seen;
 use constants::spread_hits;
-use fill::fill;
+use layout::Part;
+use layout::words::fill;
 use machine::Machine;
-use machine::Part;
 use order::answer_ordered;
 use rule_parts::kinds::Operator;
 use skeletons::buckets::buckets;
@@ -26,7 +24,7 @@ ghost use Prim.Native.Nat.{_<_};
 ghost use Rattle.limits.specs.Limits.{positions};
 ghost use Rattle.xpath.specs.Syntax.{Op, eq};
 ghost use Rattle.rule_parts.specs.Kinds.{operator};
-ghost use Rattle.machine.specs.Part.{Space};
+ghost use Rattle.layout.specs.Part.{Space};
 ghost use Rattle.machine.specs.Walks.{Meets, Hits};
 ghost use Rattle.plain.specs.Plain.{Answered, Small};
 ghost use Rattle.backward.specs.Backward.{LinkedBothWays};

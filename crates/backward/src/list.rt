@@ -1,6 +1,6 @@
 // The work list backwards, in the same columns as the one forwards. The columns between what is seen and the list stay as they are here, which the forward list does not promise.
 use bits::union;
-use machine::Part;
+use layout::Part;
 use matrices::sets::without;
 use reach::list::enter;
 ghost use Rattle.reach.specs.Work.{At};

@@ -1,10 +1,10 @@
 // What is noted of the entries that are new: a word in one of two columns for the start of the first path, in the other for that of the second.
 use bits::has;
-use machine::Part;
-use table::table::put;
+use layout::Part;
+use layout::words::put;
 ghost use Prim.Native.Nat.{_≤_, _<_};
 ghost use Rattle.limits.specs.Limits.{positions, wordValues};
-ghost use Rattle.table.specs.Table.{COLUMNS, Room};
+ghost use Rattle.layout.specs.Table.{COLUMNS, Room};
 ghost use Rattle.reach.specs.Work.{Work};
 ghost use Rattle.backward.specs.Backward.{OfEntry, OfEntries};
 ghost use Rattle.backward.specs.Sweeps.{Paired, PutIf, Notes};

@@ -1,15 +1,15 @@
 // The answers by the ranges of ranks.
-use crate::columns::Column;
+use layout::Sweeps;
+use layout::words::get;
 use plain::answer;
 use plain::ranges::Range;
 use plain::ranges::ordered;
 use rule_parts::kinds::Operator;
-use table::table::get;
 ghost use mathlib.Core.Path.{_≡_};
 ghost use Prim.Native.Nat.{_≤_, _<_};
 ghost use Rattle.limits.specs.Limits.{wordValues};
-ghost use Rattle.table.specs.Table.{Room};
-ghost use Rattle.machine.specs.Part.{Space};
+ghost use Rattle.layout.specs.Part.{Space};
+ghost use Rattle.layout.specs.Table.{Room};
 ghost use Rattle.plain.specs.Plain.{Answered};
 ghost use Rattle.plain.specs.Ranges.{Across};
 ghost use Rattle.backward.specs.Sweeps.{rangeOf};
@@ -20,8 +20,8 @@ fn range_at(p: &[u16], n: usize, i: usize, v: usize) -> Range
     ensures { λ r. ⌜ (r ≡ rangeOf (now (p .entry)) n i v) × (r .least < wordValues) ⌝ }
 {
     Range {
-        least: get(p, n, Column::LEAST + i, v),
-        above: get(p, n, Column::ABOVE + i, v),
+        least: get(p, n, Sweeps::LEAST + i, v),
+        above: get(p, n, Sweeps::ABOVE + i, v),
     }
 }
 

@@ -3,19 +3,19 @@ use crate::list::join;
 use crate::predecessors::predecessors;
 use bits::meet;
 use bits::union;
+use layout::Part;
+use layout::Table;
+use layout::words::get;
 use limits::Rule;
 use machine::Machine;
-use machine::Part;
 use reach::expand::if_linked;
-use table::table::Table;
-use table::table::get;
 ghost use mathlib.Core.Path.{_≡_};
 ghost use mathlib.Core.Bool.{true};
 ghost use mathlib.Core.Logic.{_↔_};
 ghost use Prim.Native.Nat.{ℕ, _<_};
 ghost use Rattle.limits.specs.Limits.{positions};
 ghost use Rattle.bits.specs.Sets.{bit};
-ghost use Rattle.machine.specs.Part.{Space};
+ghost use Rattle.layout.specs.Part.{Space};
 ghost use Rattle.backward.specs.Backward.{LinkedBothWays, Descends, Sources, Listed, Joined, Into, Before};
 
 // The steps that lead from the parent `v`, if that is a node, down to node `u`.

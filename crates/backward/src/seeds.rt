@@ -1,13 +1,14 @@
 // Backwards from the nodes of a rank, with notes of what is new.
 use crate::notes::note_entries;
 use crate::spread::spread;
+use layout::Groups;
+use layout::words::get;
 use machine::Machine;
-use skeletons::Column;
-use table::table::get;
 ghost use mathlib.Core.Path.{_≡_};
 ghost use Prim.Native.Nat.{_<_};
 ghost use Rattle.limits.specs.Limits.{positions, wordValues};
-ghost use Rattle.table.specs.Table.{RANK, word};
+ghost use Rattle.layout.specs.Table.{RANK};
+ghost use Rattle.layout.specs.Words.{word};
 ghost use Rattle.backward.specs.Backward.{LinkedBothWays, Listed, Closed};
 ghost use Rattle.skeletons.specs.Skeletons.{Buckets};
 ghost use Rattle.backward.specs.Sweeps.{Paired, Seeded};
@@ -36,10 +37,10 @@ pub fn seed_rank(
     ensures { λ e. ⌜ Seeded m n (λ u. word (now (p .entry)) n RANK u ≡ r) c x len e (now (p .entry)) (now (p .exit)) ⌝ }
 {
     let mut end = len;
-    let mut w = get(p, n, Column::FIRST, r);
+    let mut w = get(p, n, Groups::FIRST, r);
     while w < n {
         end = seed(p, n, m, w, end, c, x);
-        w = get(p, n, Column::NEXT, w);
+        w = get(p, n, Groups::NEXT, w);
     }
     end
 }

@@ -1,18 +1,19 @@
 // All nodes by rank. What is seen first from a node of some rank walks to no node of a rank before: so by rising rank the least is found for each start at each node, and by falling rank the greatest.
-use crate::columns::Column;
-use crate::fill::fill;
 use crate::seeds::seed_rank;
+use layout::Part;
+use layout::Sweeps;
+use layout::Table;
+use layout::words::fill;
 use machine::Machine;
-use machine::Part;
-use table::table::Table;
 ghost use Prim.Native.Nat.{_<_};
 ghost use Rattle.limits.specs.Limits.{positions, wordValues};
-ghost use Rattle.machine.specs.Part.{Space};
+ghost use Rattle.layout.specs.Part.{Space};
+ghost use Rattle.layout.specs.Sweeps.{LEAST, ABOVE};
+ghost use Rattle.layout.specs.Words.{NONE};
 ghost use Rattle.plain.specs.Plain.{Small};
-ghost use Rattle.table.specs.Table.{NONE};
 ghost use Rattle.backward.specs.Backward.{LinkedBothWays};
 ghost use Rattle.skeletons.specs.Skeletons.{Buckets};
-ghost use Rattle.backward.specs.Sweeps.{LEAST, ABOVE, Paired, Blank, Blanked, Risen, Fallen, Ranges};
+ghost use Rattle.backward.specs.Sweeps.{Paired, Blank, Blanked, Risen, Fallen, Ranges};
 
 // Nothing is seen, and `x` stands in column `c` and in the next.
 fn blank(p: &mut [u16], n: usize, c: usize, x: usize)
@@ -32,7 +33,7 @@ fn rise(p: &mut [u16], n: usize, m: Machine)
     let mut len = 0;
     let mut r = 0;
     while r < n {
-        len = seed_rank(p, n, m, r, len, Column::LEAST, r);
+        len = seed_rank(p, n, m, r, len, Sweeps::LEAST, r);
         r += 1;
     }
 }
@@ -45,7 +46,7 @@ fn fall(p: &mut [u16], n: usize, m: Machine)
     let mut len = 0;
     let mut r = n;
     while 0 < r {
-        len = seed_rank(p, n, m, r - 1, len, Column::ABOVE, r);
+        len = seed_rank(p, n, m, r - 1, len, Sweeps::ABOVE, r);
         r -= 1;
     }
 }
@@ -55,8 +56,8 @@ pub fn sweep(p: &mut [u16], n: usize, m: Machine)
     requires { ⌜ Space n (now p) × LinkedBothWays n (now p) × Buckets n (now p) × Small n (now p) × (m .second < positions) ⌝ }
     ensures { λ _. ⌜ Ranges m n (now (p .entry)) (now (p .exit)) ⌝ }
 {
-    blank(p, n, Column::LEAST, Table::NONE);
+    blank(p, n, Sweeps::LEAST, Table::NONE);
     rise(p, n, m);
-    blank(p, n, Column::ABOVE, 0);
+    blank(p, n, Sweeps::ABOVE, 0);
     fall(p, n, m);
 }

@@ -5,7 +5,8 @@ use mathlib.Core.List.{List}
 use Rattle.xpath.specs.Meaning.{Less}
 use Rattle.document_spec.specs.Library.{Node}
 use Rattle.document_spec.specs.Binary.{stringOf}
-use Rattle.table.specs.Table.{RANK, word}
+use Rattle.layout.specs.Table.{RANK}
+use Rattle.layout.specs.Words.{word}
 use Rattle.constants.specs.declared.Place.{Place}
 
 abbrev pub rank : List ℕ → ℕ → ℕ → ℕ

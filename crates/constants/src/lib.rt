@@ -1,7 +1,7 @@
 // The place of a constant among the values of the nodes. The ranks are in the order of the values, so halving finds it with few values read, and each node is then judged by its rank alone.
+use layout::Table;
+use layout::words::get;
 use ranks::nodes::open_node;
-use table::table::Table;
-use table::table::get;
 use values::order::Order;
 use values::order::compare_constant;
 ghost use mathlib.Core.List.{List};
@@ -11,7 +11,7 @@ ghost use lib.Seq.{slice};
 ghost use Rattle.document_spec.specs.Library as Library;
 ghost use Rattle.document_spec.specs.Binary.{stringOf};
 ghost use Rattle.document_spec.specs.Verdict.{Accepts};
-ghost use Rattle.table.specs.Table.{Room};
+ghost use Rattle.layout.specs.Table.{Room};
 ghost use Rattle.values.specs.Ordered.{Ordered};
 ghost use Rattle.ranks.specs.Ranks.{Tabled, Ranked};
 ghost use Rattle.constants.specs.Places.{Nearest, Placed};

@@ -14,7 +14,8 @@ use Rattle.document_spec.specs.Library.{Node}
 use Rattle.document_spec.specs.Binary.{treeOf}
 use Rattle.document_spec.proofs.Binary.{tree-formed}
 use Rattle.rule_spec.proofs.Bytes.{clash}
-use Rattle.table.specs.Table.{COLUMNS, word}
+use Rattle.layout.specs.Table.{COLUMNS}
+use Rattle.layout.specs.Words.{word, Within}
 use Rattle.test_bits.specs.Columns.{held}
 use Rattle.test_numbers.specs.Tests.{testsOf, pathTests, test}
 use Rattle.test_numbers.specs.Numbering.{Brackets}
@@ -22,7 +23,7 @@ use Rattle.machine.specs.declared.Machine.{Machine}
 use Rattle.loops.specs.Loops.{Stage}
 use Rattle.machine.specs.Meaning.{IsStep, IsMachine}
 use Rattle.plain.specs.Plain.{Answered}
-use Rattle.staging.specs.Drawing.{Within, Copied, Stayed}
+use Rattle.staging.specs.Drawing.{Copied, Stayed}
 use Rattle.driver.specs.Tasks.{Scene, Task, Tells, Apart, Answers}
 use Rattle.driver.proofs.Frames.{apart-then, within-apart, held-apart}
 use Rattle.driver.proofs.Parts.{part, back, back-apart, back-word}
@@ -56,9 +57,6 @@ brackets-hold {ns} {n} {k} {t} {t₁} {m} {numbers} T P R inner among apart mach
         subst (λ b. (b ≡ true) ↔ Holds (treeOf ns) U v) (sym w)
         (subst (λ i. (held t n i v ≡ true) ↔ Holds (treeOf ns) U v) (sym q)
         (subst (λ W. (held t n (suc k + e) v ≡ true) ↔ Holds (treeOf ns) W v) (y ∙ z) x))
-
-pub within-none : (n c d : ℕ) (t : List ℕ) → Within n c d t t
-within-none n c d t = record { long = refl; front = λ i h. refl; behind = λ i h. refl }
 
 -- 1 or 0 in the answer's column, as A holds or not
 answer-iff : {n : ℕ} {A : ℕ → Type 0} {p p′ : List ℕ} → Answered n A p p′ → (v : ℕ) → v < n → (word p′ n 0 v ≡ 1) ↔ A v

@@ -17,7 +17,7 @@ use Rattle.document_spec.specs.Binary.{treeOf}
 use Rattle.rule_spec.specs.Spelling.{spellTest}
 use Rattle.rule_spec.proofs.Reading.{test-head}
 use Rattle.lexer.proofs.Laws.{slice-of}
-use Rattle.table.specs.Table.{Room}
+use Rattle.layout.specs.Table.{Room}
 use Rattle.ranks.specs.Ranks.{Tabled}
 use Rattle.rule_parts.specs.Standing.{Spans, TestAt}
 use Rattle.rule_parts.specs.Kinds.{testKind}

@@ -14,17 +14,16 @@ use Rattle.xpath.specs.Meaning.{Less, Rel, Holds}
 use Rattle.xpath.specs.Tree.{Child}
 use Rattle.document_spec.specs.Library.{Node}
 use Rattle.document_spec.specs.Binary.{stringOf, treeOf}
-use Rattle.table.specs.Table.{COLUMNS, LEFT, RANK, PARENT, column, word}
+use Rattle.layout.specs.Part.{STAYS, HIT}
+use Rattle.layout.specs.Table.{COLUMNS, LEFT, RANK, PARENT, column}
+use Rattle.layout.proofs.Frames.{before-within}
+use Rattle.layout.specs.Words.{word, Within}
 use Rattle.table.specs.Links.{Points, IsParent}
 use Rattle.test_bits.specs.Columns.{held}
-use Rattle.machine.specs.Part.{STAYS, HIT}
 use Rattle.machine.specs.Meaning.{IsStep, Drawn, Judges}
-use Rattle.staging.specs.Drawing.{Within, Copied, Stayed, Judged}
+use Rattle.staging.specs.Drawing.{Copied, Stayed, Judged}
 use Rattle.driver.specs.Tasks.{Scene}
 use Rattle.driver.proofs.Parts.{part, part-word}
-
-within-word : {n c d : ℕ} {t t′ : List ℕ} → Within n c d t t′ → (b v : ℕ) → b < c → v < n → word t′ n b v ≡ word t n b v
-within-word {n} {c} w b v h l = let k : suc b * n ≤ c * n = mul-le-mul-right n h in let m = add-mul 1 b n in w .front (b * n + v) (omega arith)
 
 column-low : (side : Bool) → (LEFT ≤ column side) × (column side ≤ RANK)
 column-low true = (omega arith, omega arith)
@@ -40,7 +39,7 @@ module _ {s : List ℕ} {ns : List Node} {n : ℕ} {t t₁ t₂ t₃ : List ℕ}
   link : (c v : ℕ) → LEFT ≤ c → c ≤ RANK → v < n → word t n c v ≡ word p n c v
   link c v h k l =
       sym (part-word n t₃ pos room c v (omega arith) l
-      ∙ within-word within (COLUMNS + c) v (omega arith) l ∙ within-word (stayed .within) (COLUMNS + c) v (omega arith) l ∙ copied .copied c v h k l)
+      ∙ before-within within (COLUMNS + c) v (omega arith) l ∙ before-within (stayed .within) (COLUMNS + c) v (omega arith) l ∙ copied .copied c v h k l)
 
   -- the six words of a node are told at the library's length
   told : (A : ℕ → ℕ → Type 0) (c v : ℕ) → LEFT ≤ c → c ≤ RANK → v < n → A (length ns) (word t (length ns) c v) → A n (word p n c v)
@@ -70,7 +69,7 @@ module _ {s : List ℕ} {ns : List Node} {n : ℕ} {t t₁ t₂ t₃ : List ℕ}
       rank v l = ap (λ m. word t m RANK v) (scene .size) ∙ link RANK v (omega arith) (omega arith) l
 
       stays : (v j : ℕ) → v < n → j < 16 → bit (word p n STAYS v) j ≡ and (bit b j) (held t₁ n (getD numbers j 0) v)
-      stays v j l h = ap (λ w. bit w j) (part-word n t₃ pos room STAYS v (omega arith) l ∙ within-word within (COLUMNS + STAYS) v (omega arith) l) ∙ stayed .done v j l h
+      stays v j l h = ap (λ w. bit w j) (part-word n t₃ pos room STAYS v (omega arith) l ∙ before-within within (COLUMNS + STAYS) v (omega arith) l) ∙ stayed .done v j l h
 
 -- the hits stand there too
 pub judges : {ns : List Node} {n : ℕ} {t t′ : List ℕ} {o : Op} {c : List ℕ} (pos : 0 < n) (room : scratchWords n ≤ length t′)

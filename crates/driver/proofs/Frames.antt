@@ -14,12 +14,12 @@ use Rattle.bits.specs.Sets.{bit}
 use Rattle.xpath.specs.Meaning.{Less}
 use Rattle.document_spec.specs.Library.{Node}
 use Rattle.document_spec.specs.Binary.{stringOf}
-use Rattle.table.specs.Table.{COLUMNS, RANK, word}
+use Rattle.layout.specs.Table.{COLUMNS, RANK}
+use Rattle.layout.specs.Words.{word, Within}
 use Rattle.table.specs.Links.{Linked}
 use Rattle.table.proofs.Linked.{linked-same}
 use Rattle.ranks.specs.Ranks.{Ranked, Tabled}
 use Rattle.test_bits.specs.Columns.{held}
-use Rattle.staging.specs.Drawing.{Within}
 use Rattle.driver.specs.Tasks.{Scene, Apart}
 
 -- the scratch's own words are at least 192 for each node

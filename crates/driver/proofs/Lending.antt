@@ -13,7 +13,7 @@ use Rattle.xpath.specs.Tree.{Tree}
 use Rattle.xpath.specs.Meaning.{Holds}
 use Rattle.document_spec.specs.Library.{Node}
 use Rattle.document_spec.specs.Binary.{treeOf}
-use Rattle.table.specs.Table.{COLUMNS}
+use Rattle.layout.specs.Table.{COLUMNS}
 use Rattle.rule_parts.specs.Kinds.{operator}
 use Rattle.rule_parts.specs.declared.kinds.Operator.{Operator}
 use Rattle.test_numbers.specs.Tests.{testsOf, test}
@@ -27,9 +27,10 @@ use Rattle.evaluators.specs.Evaluators.{PartRoom, Staged, Adds, Compared, Hit}
 use Rattle.evaluators.specs.declared.Evaluator.{Evaluator}
 use Rattle.staging.specs.Drawing.{Copied, Stayed, Judged}
 use Rattle.driver.specs.Tasks.{Scene, Task, Paths, Constant, Apart, Answers, Compares}
+use Rattle.layout.proofs.Frames.{within-none}
 use Rattle.driver.proofs.Frames.{scratch-room, scene-same, apart-then, within-apart}
 use Rattle.driver.proofs.Parts.{part, part-long}
-use Rattle.driver.proofs.Answers.{some-nodes, within-none, drawn-apart, drawn-stage, answered}
+use Rattle.driver.proofs.Answers.{some-nodes, drawn-apart, drawn-stage, answered}
 use Rattle.driver.proofs.Drawn.{judges}
 use Rattle.driver.proofs.Asked.{is-machine, has-brackets, among, is-machine-alone, has-brackets-alone, among-alone}
 
@@ -75,7 +76,7 @@ module _ {s rule : List ℕ} {ns : List Node} {T : Test} {n at k : ℕ} {t : Lis
   pub paths-stage : Stage (h .first) (h .second) (treeOf ns) m n (middle n b t₂)
   paths-stage =
       subst (λ c. Stage (h .first) (h .second) (treeOf ns) m n (middle n c t₂)) (sym ends)
-      (drawn-stage (h .task) (h .first) (h .second) (among h) (is-machine h machined) (has-brackets h numbered) copied stayed paths-room (within-none n 23 24 t₂))
+      (drawn-stage (h .task) (h .first) (h .second) (among h) (is-machine h machined) (has-brackets h numbered) copied stayed paths-room (within-none t₂))
 
   pub paths-asked : Staged m n (middle n b t₂) × PartRoom n (middle n b t₂)
   paths-asked = ((h .first, h .second, treeOf ns, paths-stage), subst (λ c. PartRoom n (middle n c t₂)) (sym ends) (part-room (h .task) t₂ paths-room))

@@ -7,7 +7,8 @@ use mathlib.Core.List.{List, _++_}
 use lib.ListN.{length, getD, take, drop, length-append, length-take, length-drop, List·getD-append}
 use lib.Seq.{length-take-le, getD-take, getD-drop, getD-append-add}
 use Rattle.limits.specs.Limits.{scratchWords}
-use Rattle.table.specs.Table.{COLUMNS, word}
+use Rattle.layout.specs.Table.{COLUMNS}
+use Rattle.layout.specs.Words.{word}
 use Rattle.driver.specs.Tasks.{Apart}
 use Rattle.driver.proofs.Frames.{scratch-room}
 

@@ -13,7 +13,8 @@ use Rattle.xpath.specs.Meaning.{Holds}
 use Rattle.document_spec.specs.Library.{Node}
 use Rattle.document_spec.specs.Binary.{treeOf}
 use Rattle.rule_spec.specs.Verdict.{Accepts}
-use Rattle.table.specs.Table.{COLUMNS, word}
+use Rattle.layout.specs.Table.{COLUMNS}
+use Rattle.layout.specs.Words.{word}
 use Rattle.rule_parts.specs.Standing.{TestAt}
 use Rattle.test_bits.specs.Columns.{held, Settled}
 use Rattle.test_numbers.specs.Tests.{testsOf, test}

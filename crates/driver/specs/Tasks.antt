@@ -15,7 +15,8 @@ use Rattle.document_spec.specs.Library.{Node}
 use Rattle.document_spec.specs.Binary.{treeOf}
 use Rattle.document_spec.specs.Verdict as Document
 use Rattle.rule_spec.specs.Verdict as Rule
-use Rattle.table.specs.Table.{COLUMNS, word}
+use Rattle.layout.specs.Table.{COLUMNS, TESTS}
+use Rattle.layout.specs.Words.{word}
 use Rattle.table.specs.Links.{Linked}
 use Rattle.ranks.specs.Ranks.{Ranked}
 use Rattle.rule_parts.specs.Standing.{TestAt, PathAt}
@@ -23,7 +24,7 @@ use Rattle.rule_parts.specs.Kinds.{operator}
 use Rattle.rule_parts.specs.declared.kinds.Operator.{Operator}
 use Rattle.rule_parts.specs.declared.kinds.TestKind.{TestKind}
 use Rattle.rule_parts.specs.declared.kinds.TestKind.the-variants.{Named, Not, And, Or, Comparison}
-use Rattle.test_bits.specs.Columns.{TESTS, held}
+use Rattle.test_bits.specs.Columns.{held}
 use Rattle.test_numbers.specs.Tests.{testsOf, test}
 use Rattle.test_numbers.specs.Owned.{owned}
 use Rattle.evaluators.specs.declared.Evaluator.{Evaluator}

@@ -9,7 +9,8 @@ use native.Mathlib.Omega.{arith}
 use lib.ListN.{length, getD, set, length-set}
 use lib.Seq.{getD-set-same, getD-set-other}
 use Rattle.first_snippets.specs.Groups.{Aside, Rest}
-use Rattle.equalities.specs.Steps.{Zeroed, rowsAt, Cleared, Empty}
+use Rattle.layout.specs.Blocks.{rowsAt}
+use Rattle.equalities.specs.Steps.{Zeroed, Cleared, Empty}
 
 -- ── Words from an offset on ──
 pub zeroed-none : (at : ℕ) (p : List ℕ) → Zeroed at 0 p p

@@ -21,13 +21,14 @@ use Rattle.snippets.specs.Direct.{Direct}
 use Rattle.snippets.proofs.Settles.{sound, yielded-down}
 use Rattle.snippets.proofs.Counting.{down-inside, ends-small}
 use Rattle.snippets.proofs.Direct.{first-iff, yielded-iff}
-use Rattle.table.specs.Table.{word}
+use Rattle.layout.specs.Blocks.{BLOCKS, snippetAt}
+use Rattle.layout.specs.Part.{STAYS, ANSWER}
+use Rattle.layout.specs.Words.{word}
 use Rattle.machine.specs.declared.Machine.{Machine}
-use Rattle.machine.specs.Part.{STAYS, ANSWER}
 use Rattle.matrices.specs.Matrices.{Related}
 use Rattle.loops.specs.Loops.{Stage, Loops, Looped}
 use Rattle.loops.proofs.Kept.{stage-kept}
-use Rattle.powers.specs.Powers.{BLOCKS, snippetAt, Powers, Powered}
+use Rattle.powers.specs.Powers.{Powers, Powered}
 use Rattle.powers.proofs.Kept.{ladder-of}
 use Rattle.settling.specs.Settled.{Settled}
 use Rattle.settling.specs.Settled as pairs

@@ -9,9 +9,9 @@ use Rattle.xpath.specs.Syntax.{XPath, compare, eq}
 use Rattle.xpath.specs.Tree.{Tree}
 use Rattle.xpath.specs.Meaning.{Holds}
 use Rattle.snippets.specs.Count.{IsSnippet}
-use Rattle.table.specs.Table.{word}
+use Rattle.layout.specs.Part.{ANSWER}
+use Rattle.layout.specs.Words.{word}
 use Rattle.machine.specs.declared.Machine.{Machine}
-use Rattle.machine.specs.Part.{ANSWER}
 use Rattle.loops.specs.Loops.{Stage}
 
 -- 1 where the two paths have an equal value, and else 0

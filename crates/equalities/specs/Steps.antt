@@ -13,7 +13,8 @@ use Rattle.snippets.specs.Count.{IsSnippet}
 use Rattle.snippets.specs.Direct.{Direct}
 use Rattle.machine.specs.declared.Machine.{Machine}
 use Rattle.loops.specs.Loops.{Stage, Loops}
-use Rattle.powers.specs.Powers.{BLOCKS, snippetAt, Powers}
+use Rattle.layout.specs.Blocks.{BLOCKS, snippetAt}
+use Rattle.powers.specs.Powers.{Powers}
 use Rattle.settling.specs.Settled.{Marked}
 use Rattle.first_snippets.specs.Groups.{Enough}
 
@@ -24,10 +25,6 @@ pub record Zeroed (at k : ℕ) (p p′ : List ℕ) : Type 0 where
   pub front : (l : ℕ) → l < at → getD p′ l 0 ≡ getD p l 0
   pub behind : (l : ℕ) → at + k ≤ l → getD p′ l 0 ≡ getD p l 0
   pub zero : (i : ℕ) → i < k → getD p′ (at + i) 0 ≡ 0
-
--- where the snippets of a block stand, the blocks counted one behind the other
-abbrev pub rowsAt : ℕ → ℕ → ℕ
-rowsAt n l = BLOCKS * n + wordsPerDigit * l + 2 * positions
 
 -- the rows of the first c blocks become 0, and all other words are as before
 pub record Cleared (n c : ℕ) (p p′ : List ℕ) : Type 0 where

@@ -1,8 +1,6 @@
 // The rows of the snippets become empty: the scratch may hold those of an earlier comparison.
+use layout::Blocks;
 use limits::Rule;
-use powers::blocks::BLOCKS;
-use powers::blocks::SNIPPETS;
-use powers::blocks::WORDS;
 ghost use Prim.Native.Nat.{_+_, _*_, _≤_, _<_};
 ghost use lib.ListN.{length};
 ghost use Rattle.limits.specs.Limits.{positions};
@@ -30,7 +28,7 @@ pub fn clear_snippets(p: &mut [u16], n: usize, b: usize)
     let blocks = b * n;
     let mut i: usize = 0;
     while i < blocks {
-        clear_rows(p, BLOCKS * n + WORDS * i + SNIPPETS);
+        clear_rows(p, Blocks::COLUMN * n + Blocks::WORDS * i + Blocks::SNIPPETS);
         i += 1;
     }
 }

@@ -16,7 +16,7 @@ ghost use Rattle.limits.specs.Limits.{documentNodes, nodeDigits, wordsPerDigit}
 ghost use Rattle.xpath.specs.Syntax.{XPath};
 ghost use Rattle.xpath.specs.Tree.{Tree};
 ghost use Rattle.loops.specs.Loops.{Stage};
-ghost use Rattle.powers.specs.Powers.{BLOCKS};
+ghost use Rattle.layout.specs.Blocks.{BLOCKS};
 ghost use Rattle.skeletons.specs.Shape.{Shape};
 ghost use Rattle.first_snippets.specs.Groups.{Enough, Sizes};
 ghost use Rattle.equalities.specs.Equalities.{Evaluated};

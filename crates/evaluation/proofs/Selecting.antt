@@ -18,9 +18,10 @@ use Rattle.rule_spec.specs.Verdict as Rule
 use Rattle.evaluation_spec.specs.Buffers.{Accepted}
 use Rattle.evaluation_spec.specs.Evaluation.{Selects, Selected}
 use Rattle.evaluation_spec.proofs.Judged.{one-library}
-use Rattle.table.specs.Table.{COLUMNS, Room, Kept}
+use Rattle.layout.specs.Table.{COLUMNS, Room}
+use Rattle.layout.specs.Words.{Kept}
+use Rattle.layout.proofs.Frames.{frame-then, frame-wider}
 use Rattle.table.specs.Links.{Linked, Built}
-use Rattle.table.proofs.Cells.{kept-then}
 use Rattle.ranks.specs.Ranks.{Tabled, Written, one}
 use Rattle.test_bits.specs.Columns.{held}
 use Rattle.marking.specs.Marking.{Told, Marked}
@@ -38,9 +39,6 @@ kept-drop : {m : ℕ} {t t′ : List ℕ} → Kept m t t′ → drop m t′ ≡ 
 kept-drop {m} {t} {t′} k =
     let i = length-drop m t′ in let j = length-drop m t in let e = k .long in
     ext-getD 0 (drop m t′) (drop m t) (omega arith) (λ v l. getD-drop m t′ v 0 ∙ k .behind (m + v) (omega arith) ∙ sym (getD-drop m t v 0))
-
-kept-from : {m n : ℕ} {t t′ : List ℕ} → m ≤ n → Kept m t t′ → Kept n t t′
-kept-from h k = record { long = k .long; behind = λ i l. k .behind i (omega arith) }
 
 number-same : {A : Type 0} {B C : A → Type 0} {n : ℕ} → ((a : A) → B a ↔ C a) → Number B n → Number C n
 number-same f h = record { list = h .list; all = λ a c. h .all a (f a .1 c); only = λ a o. f a .0 (h .only a o); distinct = h .distinct; long = h .long }
@@ -85,7 +83,7 @@ module _ (t marks : List ℕ) {document rule : List ℕ} {ns : List Node} {T : T
       ranked = rank ns (a .library) (built .linked)
 
       behind-table : Kept (scratchWords n) t t₂
-      behind-table = kept-from table-words (kept-then (built .kept) (ranked .kept))
+      behind-table = frame-wider (omega arith) table-words (frame-then (built .kept) (ranked .kept))
 
       pub scene : Scene document ns n t₂
       scene =
@@ -97,7 +95,7 @@ module _ (t marks : List ℕ) {document rule : List ℕ} {ns : List Node} {T : T
         settled = settle ns T scene (a .test) .settling
 
         behind : Kept (scratchWords n) t t₃
-        behind = kept-then behind-table (record { long = settled .long; behind = settled .behind })
+        behind = frame-then behind-table (record { long = settled .long; front = λ k h. absurd (omega arith); behind = settled .behind })
 
         pub settled-room : Room n t₃
         settled-room = let h = room in let e = behind .long in omega arith

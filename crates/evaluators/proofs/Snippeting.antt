@@ -21,7 +21,7 @@ use Rattle.loops.specs.Loops.{Stage}
 use Rattle.plain.specs.Plain.{Answered}
 use Rattle.plain.proofs.Signs.{equal-sign}
 use Rattle.skeletons.specs.Shape.{Shape}
-use Rattle.skeletons.proofs.Within.{within-back}
+use Rattle.layout.proofs.Frames.{within-back}
 use Rattle.skeletons.proofs.Shape.{shape-within, drawn-within}
 use Rattle.levels.specs.Levels.{Levelled}
 use Rattle.first_snippets.specs.Groups.{Enough}

@@ -9,7 +9,7 @@ use Rattle.lists.specs.Text.{binaryDigits}
 use Rattle.xpath.specs.Syntax.{XPath}
 use Rattle.xpath.specs.Tree.{Tree}
 use Rattle.machine.specs.declared.Machine.{Machine}
-use Rattle.machine.specs.Part.{Space}
+use Rattle.layout.specs.Part.{Space}
 use Rattle.loops.specs.Loops.{Stage}
 use Rattle.plain.specs.Plain.{Answered}
 use Rattle.evaluators.specs.Evaluators.{PartRoom}

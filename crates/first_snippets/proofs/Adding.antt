@@ -12,13 +12,15 @@ use Rattle.snippets.specs.Snippets.{Has, Skeleton}
 use Rattle.snippets.specs.Direct.{Direct}
 use Rattle.snippets.proofs.Marks.{skeleton-inside}
 use Rattle.snippets.proofs.Direct.{direct-iff}
-use Rattle.table.specs.Table.{RANK, word}
+use Rattle.layout.specs.Groups.{FIRST, NEXT, MARKED}
+use Rattle.layout.specs.Part.{STAYS}
+use Rattle.layout.specs.Table.{RANK}
+use Rattle.layout.specs.Words.{word}
 use Rattle.table.specs.Links.{Points}
-use Rattle.machine.specs.Part.{STAYS}
 use Rattle.machine.specs.declared.Machine.{Machine}
 use Rattle.loops.specs.Loops.{Stage, Loops}
 use Rattle.powers.specs.Powers.{Powers}
-use Rattle.skeletons.specs.Skeletons.{FIRST, NEXT, MARKED, Least, Buckets, Ranks, Grouped}
+use Rattle.skeletons.specs.Skeletons.{Least, Buckets, Ranks, Grouped}
 use Rattle.skeletons.proofs.Grouping.{least-node, least-none}
 use Rattle.first_snippets.specs.Groups.{Setting, Given, Rest, Yields, Base, Grounds, Added, OfRanks, AddedOf, AddedAll, Somewhere, Alone}
 use Rattle.first_snippets.specs.Steps.{Rose, Sank}

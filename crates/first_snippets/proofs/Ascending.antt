@@ -19,18 +19,19 @@ use Rattle.snippets.proofs.Marks.{same-side, skeleton-inside}
 use Rattle.snippets.proofs.Nearest.{edge-one}
 use Rattle.snippets.proofs.Edges.{comes-few}
 use Rattle.snippets.proofs.Ways.{in-sides, from-child-iff}
-use Rattle.table.specs.Table.{LEFT, cell, word, Wrote}
+use Rattle.layout.specs.Groups.{MARKED, IN, LEFTIN, RIGHTIN, ABOVE}
+use Rattle.layout.specs.Table.{LEFT}
+use Rattle.layout.specs.Words.{cell, word, Wrote, Within}
+use Rattle.layout.proofs.Frames.{within-none, within-then, within-more, within-put, before-within}
 use Rattle.table.specs.Links.{Points}
 use Rattle.machine.specs.declared.Machine.{Machine}
 use Rattle.matrices.proofs.Members.{union-iff}
 use Rattle.loops.specs.Loops.{Stage}
 use Rattle.powers.specs.Powers.{Lifts}
 use Rattle.powers.specs.Ladder.{Ladder, Stretch}
-use Rattle.skeletons.specs.Shape.{Within}
-use Rattle.skeletons.specs.Skeletons.{MARKED, IsNoted, Group, Arrives, Ascent}
-use Rattle.skeletons.proofs.Within.{within-none, within-then, within-more, within-put, before-within}
+use Rattle.skeletons.specs.Skeletons.{IsNoted, Group, Arrives, Ascent}
 use Rattle.skeletons.proofs.Judging.{empty-block}
-use Rattle.first_snippets.specs.Groups.{IN, LEFTIN, RIGHTIN, ABOVE, inward, Exactly, Setting, Given, Rest, Sides, Risen}
+use Rattle.first_snippets.specs.Groups.{inward, Exactly, Setting, Given, Rest, Sides, Risen}
 use Rattle.first_snippets.specs.Steps.{Placed, Cleared, Handed, Rises, Rose}
 use Rattle.first_snippets.proofs.Rest.{rest-more, rest-within, sizes-rest, setting-rest, ladder-of}
 
@@ -141,7 +142,7 @@ module _ (P R : XPath) (t : Tree) (d : List ℕ) (wf : WellFormed t) where
 -- ── The columns ──
 module _ {m : Machine} {n b r : ℕ} where
   pub rises-none : (v : ℕ) (p : List ℕ) → Rises m n b r v v p p
-  rises-none v p = record { within = within-none n IN ABOVE p; found = λ P R t d s f. f }
+  rises-none v p = record { within = within-none p; found = λ P R t d s f. f }
 
   pub rises-then : {u v w : ℕ} {p p₁ p₂ : List ℕ} → Rises m n b r u v p p₁ → Rises m n b r v w p₁ p₂ → Rises m n b r u w p p₂
   rises-then g h = record {
@@ -163,7 +164,7 @@ module _ {m : Machine} {n b r : ℕ} where
   -- a node that is not in the skeleton
   pub rises-skip : {v : ℕ} {p : List ℕ} → ((P R : XPath) (t : Tree) (d : List ℕ) → Setting P R t d m n b r p → ¬ Skeleton t d v) → Rises m n b r (suc v) v p p
   rises-skip {v} {p} f = record {
-    within = within-none n IN ABOVE p;
+    within = within-none p;
     found = λ P R t d s h. record {
       inside = λ u l k. h .inside u (go P R t d s u k (eq-or-lt-of-le l)) k;
       sides = sides-skip P R t d (s .stage .formed) (s .stage .drawn .size) v p (λ x l e. f P R t d s (e .bottom)) (h .sides);
@@ -221,7 +222,7 @@ module _ {m : Machine} {n b r : ℕ} where
 
 -- ── Clearing ──
 pub cleared-none : (n : ℕ) (p : List ℕ) → Cleared n 0 p p
-cleared-none n p = record { inside = omega arith; within = within-none n LEFTIN ABOVE p; empty = λ side u l i. absurd (omega arith) }
+cleared-none n p = record { inside = omega arith; within = within-none p; empty = λ side u l i. absurd (omega arith) }
 
 pub cleared-step : {n v : ℕ} {p p₁ p₂ p₃ : List ℕ} → Cleared n v p p₁ → v < n → Wrote ((cell n LEFTIN v, 0) ∷ []) p₁ p₂ → Wrote ((cell n RIGHTIN v, 0) ∷ []) p₂ p₃ → Cleared n (v + 1) p p₃
 cleared-step {n} {v} {p} {p₁} {p₂} {p₃} c node f g = record {
@@ -292,7 +293,7 @@ module _ {n b r v x l c : ℕ} {p : List ℕ} (s : Placed n b r v p) (a : Ascent
   -- there is none to hand it to
   pub handed-none : {set : ℕ} → ¬ (x < n) → Handed n b r v set p p
   handed-none f = record {
-    within = within-none n LEFTIN ABOVE p;
+    within = within-none p;
     found = λ P R t d ladder group k ins q. sides-skip P R t d (ladder .formed) (group .shape .size) v p (go P R t d ladder group (a .arrives t d group k)) q;
   }
     where

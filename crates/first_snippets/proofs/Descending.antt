@@ -17,17 +17,18 @@ use Rattle.snippets.proofs.Marks.{skeleton-inside}
 use Rattle.snippets.proofs.Nearest.{edge-one}
 use Rattle.snippets.proofs.Edges.{comes-few}
 use Rattle.snippets.proofs.Ways.{out-iff, above-iff, above-top}
-use Rattle.table.specs.Table.{LEFT, cell, word, Wrote}
+use Rattle.layout.specs.Groups.{IN, LEFTIN, RIGHTIN, ABOVE}
+use Rattle.layout.specs.Table.{LEFT}
+use Rattle.layout.specs.Words.{cell, word, Wrote, Within}
+use Rattle.layout.proofs.Frames.{within-put}
 use Rattle.machine.specs.declared.Machine.{Machine}
 use Rattle.matrices.proofs.Members.{union-iff}
 use Rattle.loops.specs.Loops.{Stage, Loops}
 use Rattle.powers.specs.Powers.{Lifts}
 use Rattle.powers.specs.Ladder.{Ladder}
-use Rattle.skeletons.specs.Shape.{Within}
 use Rattle.skeletons.specs.Skeletons.{IsNoted, Ranks, Group, Arrives, Ascent}
-use Rattle.skeletons.proofs.Within.{within-put}
 use Rattle.skeletons.proofs.Judging.{empty-block}
-use Rattle.first_snippets.specs.Groups.{IN, LEFTIN, RIGHTIN, ABOVE, inward, Exactly, Setting, OfFirst, Rest, Gains, OfEdge, Yields, Sides, Risen, Sunk}
+use Rattle.first_snippets.specs.Groups.{inward, Exactly, Setting, OfFirst, Rest, Gains, OfEdge, Yields, Sides, Risen, Sunk}
 use Rattle.first_snippets.specs.Steps.{EdgeAt, Gained, BothParts, Outside, Sinks, SinksBy, Sank}
 use Rattle.first_snippets.proofs.Rest.{rest-none, rest-then, rest-more, rest-within, same-word, setting-rest, ladder-of}
 use Rattle.first_snippets.proofs.Gains.{gains-same, gains-then, gains-iff, gains-before}

@@ -12,7 +12,7 @@ use Rattle.bits.specs.Sets.{bit}
 use Rattle.xpath.specs.Tree.{Tree, Down}
 use Rattle.matrices.specs.Matrices.{Related, Apart, Drawing}
 use Rattle.matrices.proofs.Drawing.{apart-same}
-use Rattle.powers.specs.Powers.{snippetAt}
+use Rattle.layout.specs.Blocks.{snippetAt}
 use Rattle.first_snippets.specs.Groups.{Gains}
 use Rattle.first_snippets.specs.Steps.{Opposite, Crossed}
 

@@ -10,12 +10,13 @@ use Rattle.xpath.specs.Syntax.{XPath}
 use Rattle.xpath.specs.Tree.{Tree}
 use Rattle.snippets.specs.Direct.{Direct}
 use Rattle.snippets.proofs.Direct.{direct-iff}
-use Rattle.table.specs.Table.{RANK, cell, word, Wrote}
+use Rattle.layout.specs.Groups.{FIRST, NEXT, MARKED, LIST}
+use Rattle.layout.specs.Table.{RANK}
+use Rattle.layout.specs.Words.{cell, word, Wrote}
+use Rattle.layout.proofs.Frames.{within-none, within-then, within-put}
 use Rattle.machine.specs.declared.Machine.{Machine}
 use Rattle.loops.specs.Loops.{Stage}
-use Rattle.skeletons.specs.Skeletons.{FIRST, NEXT, MARKED}
-use Rattle.skeletons.proofs.Within.{within-none, within-then, within-put}
-use Rattle.first_snippets.specs.Groups.{LIST, Rest, Base, OfRanks, AddedOf, Listed, Listing, AddedAll}
+use Rattle.first_snippets.specs.Groups.{Rest, Base, OfRanks, AddedOf, Listed, Listing, AddedAll}
 use Rattle.first_snippets.specs.Steps.{Ranged}
 use Rattle.first_snippets.proofs.Rest.{rest-then, rest-more, rest-within, same-word, powers-rest, loops-rest, stage-rest}
 use Rattle.first_snippets.proofs.Gains.{gains-iff, gains-before}
@@ -23,7 +24,7 @@ use Rattle.first_snippets.proofs.Adding.{buckets-same, base-by, added-n
 
 -- ── The list of all ranks ──
 pub ranged-none : (n : ℕ) (p : List ℕ) → Ranged n 0 p p
-ranged-none n p = record { inside = omega arith; within = within-none n LIST (suc LIST) p; entries = λ i h. absurd (omega arith) }
+ranged-none n p = record { inside = omega arith; within = within-none p; entries = λ i h. absurd (omega arith) }
 
 pub ranged-step : {n k : ℕ} {p₀ p p′ : List ℕ} → Ranged n k p₀ p → k < n → Wrote ((cell n LIST k, k) ∷ []) p p′ → Ranged n (k + 1) p₀ p′
 ranged-step {n} {k} {p₀} {p} {p′} f l w =

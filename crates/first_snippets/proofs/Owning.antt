@@ -10,10 +10,12 @@ use Rattle.xpath.specs.Syntax.{XPath}
 use Rattle.xpath.specs.Tree.{Tree}
 use Rattle.snippets.specs.Ways.{Own}
 use Rattle.snippets.proofs.Edges.{comes-few}
-use Rattle.table.specs.Table.{RANK, word}
+use Rattle.layout.specs.Part.{loopAt}
+use Rattle.layout.specs.Table.{RANK}
+use Rattle.layout.specs.Words.{word}
 use Rattle.machine.specs.declared.Machine.{Machine}
 use Rattle.matrices.specs.Matrices.{Before}
-use Rattle.loops.specs.Loops.{Stage, Loops, loopAt}
+use Rattle.loops.specs.Loops.{Stage, Loops}
 use Rattle.skeletons.specs.Skeletons.{Ranks}
 use Rattle.first_snippets.specs.Groups.{Exactly}
 

@@ -15,18 +15,21 @@ use Rattle.xpath.specs.Meaning.{Less, Holds}
 use Rattle.positions.specs.Positions.{Comes}
 use Rattle.snippets.specs.Marks.{Marked}
 use Rattle.snippets.proofs.Marks.{skeleton-inside}
-use Rattle.table.specs.Table.{PARENT, RANK, NONE, column, word}
+use Rattle.layout.specs.Blocks.{BLOCKS, blockAt, snippetAt, upperAt}
+use Rattle.layout.specs.Groups.{MARKED}
+use Rattle.layout.specs.Part.{STAYS}
+use Rattle.layout.specs.Table.{PARENT, RANK, column}
+use Rattle.layout.specs.Words.{NONE, word, Within}
 use Rattle.table.specs.Links.{Points}
 use Rattle.machine.specs.declared.Machine.{Machine}
-use Rattle.machine.specs.Part.{STAYS}
 use Rattle.machine.specs.Meaning.{IsStep, Drawn}
 use Rattle.matrices.specs.Matrices.{Redrawn}
 use Rattle.loops.specs.Loops.{Stage, Loops}
-use Rattle.powers.specs.Powers.{BLOCKS, blockAt, snippetAt, upperAt, Powers}
+use Rattle.powers.specs.Powers.{Powers}
 use Rattle.powers.specs.Ladder.{Ladder, Stretch}
 use Rattle.powers.proofs.Kept.{power-kept}
-use Rattle.skeletons.specs.Shape.{Shape, Within}
-use Rattle.skeletons.specs.Skeletons.{MARKED, Ranks}
+use Rattle.skeletons.specs.Shape.{Shape}
+use Rattle.skeletons.specs.Skeletons.{Ranks}
 use Rattle.skeletons.proofs.Shape.{drawn-shape}
 use Rattle.first_snippets.specs.Groups.{Setting, Sizes, Given, Aside, Rest}
 

@@ -14,7 +14,8 @@ use Rattle.snippets.proofs.Edges.{comes-few}
 use Rattle.matrices.specs.Matrices.{Drawing}
 use Rattle.matrices.proofs.Drawing.{drawing-only}
 use Rattle.exponents.specs.Exponent.{Exponent}
-use Rattle.powers.specs.Powers.{snippetAt, Lifts}
+use Rattle.layout.specs.Blocks.{snippetAt}
+use Rattle.powers.specs.Powers.{Lifts}
 use Rattle.powers.specs.Blocks.{Fits}
 use Rattle.powers.specs.Ladder.{Ladder, Stretch}
 use Rattle.powers.proofs.Places.{fits-of}

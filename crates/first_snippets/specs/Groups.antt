@@ -12,33 +12,15 @@ use Rattle.xpath.specs.Tree.{Tree, Down}
 use Rattle.snippets.specs.Snippets.{Skeleton, Edge}
 use Rattle.snippets.specs.Ways.{In, Above, FromChild}
 use Rattle.snippets.specs.Direct.{Upper, Lower, Direct}
-use Rattle.table.specs.Table.{RANK, word, COLUMNS}
+use Rattle.layout.specs.Blocks.{BLOCKS, snippetAt}
+use Rattle.layout.specs.Groups.{MARKED}
+use Rattle.layout.specs.Table.{RANK, COLUMNS}
+use Rattle.layout.specs.Words.{word}
 use Rattle.machine.specs.declared.Machine.{Machine}
 use Rattle.matrices.specs.Matrices.{Related}
 use Rattle.loops.specs.Loops.{Stage, Loops}
-use Rattle.powers.specs.Powers.{BLOCKS, snippetAt, Powers}
-use Rattle.skeletons.specs.Skeletons.{MARKED, Buckets, Ranks, Group}
-
--- ── The columns ──
--- the ranks of the values to be taken, one behind the other
-abbrev pub LIST : ℕ
-LIST = 8
-
--- the positions that at a skeleton node end at a node of the group that is at or below it
-abbrev pub IN : ℕ
-IN = 12
-
--- those of them that come from the next skeleton node on the left
-abbrev pub LEFTIN : ℕ
-LEFTIN = 13
-
--- and on the right
-abbrev pub RIGHTIN : ℕ
-RIGHTIN = 14
-
--- the positions that end at a node of the group that is neither at nor below it
-abbrev pub ABOVE : ℕ
-ABOVE = 15
+use Rattle.powers.specs.Powers.{Powers}
+use Rattle.skeletons.specs.Skeletons.{Buckets, Ranks, Group}
 
 -- what comes from the next skeleton node on a side
 abbrev pub inward : Bool → ℕ

@@ -6,37 +6,20 @@ mod rows;
 mod sinking;
 mod yields;
 
+use layout::Groups;
+use layout::words::get;
 use listing::list_ranks;
 use machine::Machine;
 use rising::rise;
 use sinking::sink;
 use skeletons::marks::mark_group;
-use table::table::get;
 ghost use mathlib.Core.Path.{_≡_};
 ghost use mathlib.Core.Bool.{true, false};
 ghost use Prim.Native.Nat.{_≤_, _<_};
 ghost use Rattle.limits.specs.Limits.{documentNodes};
-ghost use Rattle.table.specs.Table.{Room};
+ghost use Rattle.layout.specs.Table.{Room};
 ghost use Rattle.skeletons.specs.Skeletons.{Buckets};
 ghost use Rattle.first_snippets.specs.Groups.{Base, Grounds, Added, Listed, Listing, AddedOf, AddedAll, Somewhere, Alone};
-
-pub struct Column;
-
-impl Column {
-    // The ranks of the values to be taken, one behind the other.
-    pub const LIST: usize = 8;
-
-    // The positions that at a skeleton node end at a node of the group that is at or below it.
-    pub const IN: usize = 12;
-
-    // Those of them that come from the next skeleton node on the left, and on the right.
-    pub const LEFTIN: usize = 13;
-
-    pub const RIGHTIN: usize = 14;
-
-    // The positions that end at a node of the group that is neither at nor below it.
-    pub const ABOVE: usize = 15;
-}
 
 // What the first snippets of the value of rank `r` yield. The members of `first` are the positions of the first path.
 pub fn add_group(p: &mut [u16], n: usize, b: usize, m: Machine, first: u16, r: usize)
@@ -53,9 +36,9 @@ fn is_shared(p: &[u16], n: usize, r: usize) -> bool
     requires { ⌜ Buckets n (now p) × Room n (now p) × (n ≤ documentNodes) × (r < n) ⌝ }
     ensures { λ s. ⌜ (s ≡ true → Somewhere n r (now (p .entry))) × (s ≡ false → Alone n r (now (p .entry))) ⌝ }
 {
-    let w = get(p, n, skeletons::Column::FIRST, r);
+    let w = get(p, n, Groups::FIRST, r);
     if w < n {
-        return get(p, n, skeletons::Column::NEXT, w) < n;
+        return get(p, n, Groups::NEXT, w) < n;
     }
     false
 }
@@ -77,7 +60,7 @@ pub fn add_list(p: &mut [u16], n: usize, b: usize, m: Machine, first: u16, count
 {
     let mut i = 0;
     while i < count {
-        let r = get(p, n, Column::LIST, i);
+        let r = get(p, n, Groups::LIST, i);
         add_rank(p, n, b, m, first, r);
         i += 1;
     }

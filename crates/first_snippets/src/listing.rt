@@ -1,9 +1,9 @@
 // The list of the values to be taken: their ranks, in the first words of a column.
-use crate::Column;
-use table::table::put;
+use layout::Groups;
+use layout::words::put;
 ghost use Prim.Native.Nat.{_≤_};
 ghost use Rattle.limits.specs.Limits.{documentNodes};
-ghost use Rattle.table.specs.Table.{Room};
+ghost use Rattle.layout.specs.Table.{Room};
 ghost use Rattle.first_snippets.specs.Steps.{Ranged};
 
 // All ranks, rising.
@@ -13,7 +13,7 @@ pub fn list_ranks(p: &mut [u16], n: usize)
 {
     let mut r = 0;
     while r < n {
-        put(p, n, Column::LIST, r, r);
+        put(p, n, Groups::LIST, r, r);
         r += 1;
     }
 }

@@ -1,9 +1,9 @@
 // The positions that end where they are.
+use layout::Table;
+use layout::places::loop_at;
+use layout::words::get;
 use machine::Machine;
 use matrices::before;
-use powers::blocks::loop_at;
-use table::table::Table;
-use table::table::get;
 ghost use mathlib.Core.List.{List};
 ghost use Prim.Native.Nat.{ℕ, _*_, _≤_, _<_};
 ghost use lib.ListN.{length};
@@ -13,7 +13,7 @@ ghost use Rattle.xpath.specs.Tree.{Tree};
 ghost use Rattle.snippets.specs.Ways.{Own};
 ghost use Rattle.loops.specs.Loops.{Stage, Loops};
 ghost use Rattle.skeletons.specs.Skeletons.{Ranks};
-ghost use Rattle.machine.specs.Part.{PAIRS};
+ghost use Rattle.layout.specs.Part.{PAIRS};
 ghost use Rattle.first_snippets.specs.Groups.{Exactly};
 
 // The positions that at node `v` end at `v`, if it has the rank `r` of the group.

@@ -1,7 +1,10 @@
 // From below: each skeleton node has its positions from the next skeleton nodes below it, and hands them up.
-use crate::Column;
 use crate::own::own;
 use bits::union;
+use layout::Groups;
+use layout::words::get;
+use layout::words::left;
+use layout::words::put;
 use machine::Machine;
 use powers::lift;
 use skeletons::blocks::block_end;
@@ -9,9 +12,6 @@ use skeletons::blocks::block_start;
 use skeletons::blocks::is_empty;
 use skeletons::skeleton::climb;
 use skeletons::skeleton::is_skeleton;
-use table::table::get;
-use table::table::left;
-use table::table::put;
 ghost use mathlib.Core.List.{List};
 ghost use Prim.Native.Nat.{ℕ, suc, _*_, _≤_, _<_};
 ghost use lib.ListN.{length};
@@ -20,10 +20,10 @@ ghost use Rattle.xpath.specs.Syntax.{XPath};
 ghost use Rattle.xpath.specs.Tree.{Tree};
 ghost use Rattle.snippets.specs.Snippets.{Skeleton};
 ghost use Rattle.snippets.specs.Ways.{In};
-ghost use Rattle.table.specs.Table.{Room};
+ghost use Rattle.layout.specs.Part.{PAIRS};
+ghost use Rattle.layout.specs.Table.{Room};
 ghost use Rattle.loops.specs.Loops.{Stage, Loops};
 ghost use Rattle.skeletons.specs.Skeletons.{Ranks};
-ghost use Rattle.machine.specs.Part.{PAIRS};
 ghost use Rattle.first_snippets.specs.Groups.{Exactly, Given, Sides};
 ghost use Rattle.first_snippets.specs.Steps.{Placed, Cleared, Handed, Rises, Rose};
 
@@ -35,8 +35,8 @@ fn clear_from(p: &mut [u16], n: usize, v: usize) -> usize
     if is_empty(p, n, v) {
         return block_end(n, v);
     }
-    put(p, n, Column::LEFTIN, v, 0);
-    put(p, n, Column::RIGHTIN, v, 0);
+    put(p, n, Groups::LEFTIN, v, 0);
+    put(p, n, Groups::RIGHTIN, v, 0);
     v + 1
 }
 
@@ -57,8 +57,8 @@ fn gathered(p: &[u16], n: usize, m: Machine, v: usize, r: usize) -> u16
     ensures { λ w. ⌜ ((P R : XPath) (t : Tree) (d : List ℕ) → Stage P R t m n (now (p .entry)) → Loops P R t n (now (p .entry)) → Ranks t d n r (now (p .entry)) → Skeleton t d v → Sides P R t d n (now (p .entry)) (suc v) → Exactly w (In t P R d v)) ⌝ }
 {
     let here = own(p, n, m, v, r);
-    let a = get(p, n, Column::LEFTIN, v) as u16;
-    let b = get(p, n, Column::RIGHTIN, v) as u16;
+    let a = get(p, n, Groups::LEFTIN, v) as u16;
+    let b = get(p, n, Groups::RIGHTIN, v) as u16;
     union(union(here, a), b)
 }
 
@@ -71,9 +71,9 @@ fn hand_up(p: &mut [u16], n: usize, b: usize, v: usize, r: usize, set: u16)
     if c.node < n {
         let w = lift(p, n, b, v, c.length, set);
         if left(p, n, c.node) == c.child {
-            put(p, n, Column::LEFTIN, c.node, w as usize);
+            put(p, n, Groups::LEFTIN, c.node, w as usize);
         } else {
-            put(p, n, Column::RIGHTIN, c.node, w as usize);
+            put(p, n, Groups::RIGHTIN, c.node, w as usize);
         }
     }
 }
@@ -85,7 +85,7 @@ fn rise_at(p: &mut [u16], n: usize, b: usize, m: Machine, v: usize, r: usize)
 {
     if is_skeleton(p, n, v, r) {
         let set = gathered(p, n, m, v, r);
-        put(p, n, Column::IN, v, set as usize);
+        put(p, n, Groups::IN, v, set as usize);
         hand_up(p, n, b, v, r, set);
     }
 }

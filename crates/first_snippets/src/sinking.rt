@@ -1,8 +1,11 @@
 // From above: each skeleton node has its positions that end elsewhere from the next skeleton node above it, and the edge between the two yields its snippets.
-use crate::Column;
 use crate::own::own;
 use crate::yields::add_edge;
 use bits::union;
+use layout::Groups;
+use layout::words::get;
+use layout::words::left;
+use layout::words::put;
 use machine::Machine;
 use powers::lower;
 use skeletons::Climb;
@@ -10,18 +13,17 @@ use skeletons::blocks::block_end;
 use skeletons::blocks::is_empty;
 use skeletons::skeleton::climb;
 use skeletons::skeleton::is_skeleton;
-use table::table::get;
-use table::table::left;
-use table::table::put;
 ghost use mathlib.Core.Path.{_≡_};
 ghost use mathlib.Core.List.{List};
 ghost use mathlib.Core.Logic.{_≢_, _⊎_};
 ghost use Prim.Native.Nat.{ℕ, _*_, _≤_, _<_};
 ghost use lib.ListN.{length};
 ghost use Rattle.limits.specs.Limits.{documentNodes};
-ghost use Rattle.table.specs.Table.{LEFT, word, Room};
-ghost use Rattle.machine.specs.Part.{PAIRS};
-ghost use Rattle.first_snippets.specs.Groups.{LEFTIN, RIGHTIN, Given};
+ghost use Rattle.layout.specs.Groups.{LEFTIN, RIGHTIN};
+ghost use Rattle.layout.specs.Part.{PAIRS};
+ghost use Rattle.layout.specs.Table.{LEFT, Room};
+ghost use Rattle.layout.specs.Words.{word};
+ghost use Rattle.first_snippets.specs.Groups.{Given};
 ghost use Rattle.first_snippets.specs.Steps.{Placed, Outside, Sinks, SinksBy, Sank};
 ghost use Rattle.skeletons.specs.Skeletons.{Ascent};
 
@@ -31,9 +33,9 @@ fn beside(p: &[u16], n: usize, x: usize, child: usize) -> u16
     ensures { λ w. ⌜ ((word (now (p .entry)) n LEFT x ≡ child) × (w ≡ word (now (p .entry)) n RIGHTIN x)) ⊎ ((word (now (p .entry)) n LEFT x ≢ child) × (w ≡ word (now (p .entry)) n LEFTIN x)) ⌝ }
 {
     if left(p, n, x) == child {
-        return get(p, n, Column::RIGHTIN, x) as u16;
+        return get(p, n, Groups::RIGHTIN, x) as u16;
     }
-    get(p, n, Column::LEFTIN, x) as u16
+    get(p, n, Groups::LEFTIN, x) as u16
 }
 
 // The positions that at node `x` end outside what is under `child`.
@@ -41,7 +43,7 @@ fn outside(p: &[u16], n: usize, m: Machine, x: usize, child: usize, r: usize) ->
     requires { ⌜ (x < n) × (n ≤ documentNodes) × (PAIRS * n ≤ length (now p)) ⌝ }
     ensures { λ w. ⌜ Outside m n r x child w (now (p .entry)) ⌝ }
 {
-    let up = get(p, n, Column::ABOVE, x) as u16;
+    let up = get(p, n, Groups::ABOVE, x) as u16;
     let here = own(p, n, m, x, r);
     let over = beside(p, n, x, child);
     union(up, union(here, over))
@@ -54,8 +56,8 @@ fn sink_by(p: &mut [u16], n: usize, b: usize, m: Machine, v: usize, r: usize, fi
 {
     let out = outside(p, n, m, c.node, c.child, r);
     let above = lower(p, n, b, v, c.length, out);
-    let inside = get(p, n, Column::IN, v) as u16;
-    put(p, n, Column::ABOVE, v, above as usize);
+    let inside = get(p, n, Groups::IN, v) as u16;
+    put(p, n, Groups::ABOVE, v, above as usize);
     add_edge(p, n, b, v, c.length, first, inside, out);
 }
 
@@ -69,7 +71,7 @@ fn sink_at(p: &mut [u16], n: usize, b: usize, m: Machine, v: usize, r: usize, fi
         if c.node < n {
             sink_by(p, n, b, m, v, r, first, c);
         } else {
-            put(p, n, Column::ABOVE, v, 0);
+            put(p, n, Groups::ABOVE, v, 0);
         }
     }
 }

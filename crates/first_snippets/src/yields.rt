@@ -1,9 +1,9 @@
 // The rows that an edge of the skeleton gains: by its largest power from its upper node down, and by the same power from its lower node up.
 use crate::rows::add_rows;
 use exponents::exponent;
+use layout::Blocks;
+use layout::places::block_at;
 use powers::above;
-use powers::blocks::SNIPPETS;
-use powers::blocks::block_at;
 use powers::lift;
 use powers::lower;
 ghost use mathlib.Core.Path.{_≡_};
@@ -40,7 +40,7 @@ fn add_upper(
     let u = above(p, n, b, v, rest);
     let set = lift(p, n, b, v, rest, inside);
     let at = block_at(n, k, u);
-    add_rows(p, at + SNIPPETS, outside, set, first);
+    add_rows(p, at + Blocks::SNIPPETS, outside, set, first);
 }
 
 // The lower part.
@@ -62,7 +62,7 @@ fn add_lower(
     let w = above(p, n, b, v, power);
     let set = lower(p, n, b, w, len - power, outside);
     let at = block_at(n, k, v);
-    add_rows(p, at + SNIPPETS, set, inside, first);
+    add_rows(p, at + Blocks::SNIPPETS, set, inside, first);
 }
 
 // Both parts. The positions of `inside` end at or below `v`, those of `outside` at the upper node end elsewhere.

@@ -10,7 +10,7 @@ use native.Mathlib.Decide.{decLe}
 use Rattle.matrices.specs.Matrices.{Apart}
 use Rattle.halving.specs.Halving.{BlockRoom}
 use Rattle.powers.proofs.Places.{block-before}
-use Rattle.powers.specs.Powers.{BLOCKS, blockAt, downAt, upAt, snippetAt, upperAt}
+use Rattle.layout.specs.Blocks.{BLOCKS, blockAt, downAt, upAt, snippetAt, upperAt}
 
 module _ (n k y k′ z i : ℕ) (few : i < 16) where
   pub down-apart : (j : ℕ) → j < 16 → downAt n k y + j ≢ snippetAt n k′ z + i

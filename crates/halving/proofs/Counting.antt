@@ -15,7 +15,7 @@ use Rattle.xpath.specs.Tree.{Tree, WellFormed, Down}
 use Rattle.snippets.specs.Count.{Snippet}
 use Rattle.matrices.specs.Matrices.{Related, pairs}
 use Rattle.matrices.proofs.Pairs.{pairs-le}
-use Rattle.powers.specs.Powers.{BLOCKS, snippetAt}
+use Rattle.layout.specs.Blocks.{BLOCKS, snippetAt}
 use Rattle.powers.proofs.Ancestors.{one-above}
 use Rattle.halving.specs.Halving.{Family, Within, Sets, Marked, Topped, Belongs, Counts}
 use Rattle.halving.proofs.Families.{dec-above, sets-topped, sets-marked}

@@ -16,7 +16,7 @@ use Rattle.positions.specs.Positions.{Comes}
 use Rattle.snippets.specs.Snippets.{First, Yielded}
 use Rattle.snippets.proofs.Counting.{follows-small}
 use Rattle.matrices.specs.Matrices.{Related}
-use Rattle.powers.specs.Powers.{snippetAt}
+use Rattle.layout.specs.Blocks.{snippetAt}
 use Rattle.powers.proofs.Ancestors.{one-above}
 use Rattle.halving.specs.Halving.{Family, Inside, Within, Sets, Marked, Topped, Halved, direct, upperHalf, lowerHalf}
 

@@ -8,7 +8,7 @@ use native.Mathlib.Nat.{eq-or-lt-of-le}
 use native.Mathlib.Decide.{ℕ-discrete, decLt}
 use lib.ListN.{getD}
 use Rattle.matrices.specs.Matrices.{Related, Drawing}
-use Rattle.powers.specs.Powers.{blockAt, downAt, upAt, snippetAt}
+use Rattle.layout.specs.Blocks.{blockAt, downAt, upAt, snippetAt}
 use Rattle.halving.specs.Passes.{Upper, Lower, With, middle, Hands, upper, lower, Elsewhere, Grown, Handed}
 use Rattle.halving.proofs.Adding.{bit-same, upper-same, lower-same}
 use Rattle.halving.proofs.Blocks.{down-apart, up-apart, upper-apart, power-apart}

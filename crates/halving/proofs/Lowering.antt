@@ -17,7 +17,8 @@ use Rattle.snippets.proofs.Counting.{down-inside}
 use Rattle.snippets.proofs.Edges.{comes-few}
 use Rattle.table.specs.Links.{Points}
 use Rattle.matrices.specs.Matrices.{Related}
-use Rattle.powers.specs.Powers.{BLOCKS, upAt, snippetAt, upperAt, Power, Powers}
+use Rattle.layout.specs.Blocks.{BLOCKS, upAt, snippetAt, upperAt}
+use Rattle.powers.specs.Powers.{Power, Powers}
 use Rattle.powers.proofs.Kept.{power-kept}
 use Rattle.powers.proofs.Ancestors.{one-above, power-join, power-over}
 use Rattle.powers.proofs.Doubling.{upper-near}

@@ -11,7 +11,8 @@ use Rattle.xpath.specs.Tree.{Tree, WellFormed, Down}
 use Rattle.positions.specs.Positions.{Comes}
 use Rattle.snippets.specs.Count.{Snippet}
 use Rattle.matrices.specs.Matrices.{Related}
-use Rattle.powers.specs.Powers.{BLOCKS, snippetAt, Powers}
+use Rattle.layout.specs.Blocks.{BLOCKS, snippetAt}
+use Rattle.powers.specs.Powers.{Powers}
 
 -- S k x y i j: the snippet (x, y, i, j) of power k is in S
 abbrev pub Family : Type 1

@@ -6,7 +6,7 @@ use mathlib.Core.List.{List}
 use lib.ListN.{length, getD}
 use Rattle.limits.specs.Limits.{positions}
 use Rattle.matrices.specs.Matrices.{Related, Image, Before}
-use Rattle.powers.specs.Powers.{downAt, upAt, snippetAt, upperAt}
+use Rattle.layout.specs.Blocks.{downAt, upAt, snippetAt, upperAt}
 
 -- The matrix at `source` holds the snippets that are halved: from a position at the upper node to one at the lower node.
 -- (i, j) belongs to the upper half: j comes down, by the matrix at `down`, to a position that i has at the lower node

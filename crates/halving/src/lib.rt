@@ -1,11 +1,9 @@
 // The snippets of all powers of a comparison: those of each power handed down to the next lower one, and their number.
 mod passes;
 
+use layout::Blocks;
 use matrices::size;
 use passes::pass;
-use powers::blocks::BLOCKS;
-use powers::blocks::SNIPPETS;
-use powers::blocks::WORDS;
 ghost use Rattle.halving.specs.Halving.{BlockRoom, Halving, Counts};
 
 // The snippets of every power yield those of all lower powers: the exponents go down, so that what is handed down is handed on.
@@ -29,7 +27,7 @@ pub fn count(p: &[u16], n: usize, b: usize) -> usize
     let mut r = 0;
     let mut i = 0;
     while i < blocks {
-        r += size(p, BLOCKS * n + WORDS * i + SNIPPETS);
+        r += size(p, Blocks::COLUMN * n + Blocks::WORDS * i + Blocks::SNIPPETS);
         i += 1;
     }
     r

@@ -1,12 +1,11 @@
 // One pass: the snippets of exponent k + 1 are handed down to exponent k.
 use bits::union;
+use layout::Blocks;
+use layout::places::block_at;
 use limits::Rule;
 use matrices::before;
 use matrices::image;
 use matrices::is_empty;
-use powers::blocks::SNIPPETS;
-use powers::blocks::UP;
-use powers::blocks::block_at;
 use powers::blocks::upper;
 ghost use Prim.Native.Nat.{_+_, _≤_, _<_};
 ghost use lib.ListN.{length};
@@ -54,11 +53,11 @@ fn split(p: &mut [u16], n: usize, k: usize, y: usize)
     if n <= h {
         return;
     }
-    let source = block_at(n, next, y) + SNIPPETS;
+    let source = block_at(n, next, y) + Blocks::SNIPPETS;
     let low = block_at(n, k, y);
     let high = block_at(n, k, h);
-    add_upper(p, source, low, high + SNIPPETS);
-    add_lower(p, source, high + UP, low + SNIPPETS);
+    add_upper(p, source, low, high + Blocks::SNIPPETS);
+    add_lower(p, source, high + Blocks::UP, low + Blocks::SNIPPETS);
 }
 
 // The same, at once where there are no snippets: that is so for most nodes.
@@ -66,7 +65,7 @@ fn hand_down(p: &mut [u16], n: usize, k: usize, y: usize)
     requires { ⌜ (y < n) × BlockRoom n (k + 2) (now p) ⌝ }
     ensures { λ _. ⌜ Grown n k (Hands n k (now (p .entry)) y) (now (p .entry)) (now (p .exit)) ⌝ }
 {
-    let source = block_at(n, k + 1, y) + SNIPPETS;
+    let source = block_at(n, k + 1, y) + Blocks::SNIPPETS;
     if is_empty(p, source) {
         return;
     }

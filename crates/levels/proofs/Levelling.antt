@@ -7,11 +7,13 @@ use native.Mathlib.Decide.{ℕ-discrete}
 use native.Mathlib.Omega.{arith}
 use Rattle.xpath.specs.Tree.{Tree, Child, Down, here, deeper}
 use Rattle.xpath.proofs.Trees.{child-after, down-le}
-use Rattle.table.specs.Table.{PARENT, NONE, cell, word, Wrote}
-use Rattle.skeletons.specs.Shape.{Shape, Within}
-use Rattle.skeletons.proofs.Within.{within-none, within-then, within-put, before-within}
+use Rattle.layout.specs.Groups.{LEVEL}
+use Rattle.layout.specs.Table.{PARENT}
+use Rattle.layout.specs.Words.{NONE, cell, word, Wrote, Within}
+use Rattle.layout.proofs.Frames.{within-none, within-then, within-put, before-within}
+use Rattle.skeletons.specs.Shape.{Shape}
 use Rattle.skeletons.proofs.Shape.{shape-within, parent-of, parent-case}
-use Rattle.levels.specs.Levels.{LEVEL, Levelled}
+use Rattle.levels.specs.Levels.{Levelled}
 
 -- a word of a node that a word tells
 pub known : (p : List ℕ) (n c : ℕ) {u v x : ℕ} → x ≡ word p n c u → u ≡ v → x ≡ word p n c v
@@ -39,7 +41,7 @@ levelling-root {n} {p} {p₁} h w = record {
   inside = h;
   some = omega arith;
   few = omega arith;
-  within = within-none n LEVEL (suc LEVEL) p₁;
+  within = within-none p₁;
   greatest = λ u l. let e = root u l in omega arith;
   ways = λ t s x y l i d. let e = root y i in let f = down-le t (s .formed) d in omega arith;
 }

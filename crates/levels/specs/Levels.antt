@@ -2,11 +2,8 @@
 use Prim.Native.Nat.{ℕ, suc, _≤_, _<_}
 use mathlib.Core.List.{List}
 use Rattle.xpath.specs.Tree.{Tree, Down}
-use Rattle.skeletons.specs.Shape.{Shape, Within}
-
--- a node's level: 1 for the root, and else one more than that of the parent
-abbrev pub LEVEL : ℕ
-LEVEL = 8
+use Rattle.layout.specs.Words.{Within}
+use Rattle.skeletons.specs.Shape.{Shape}
 
 -- every way down the tree has fewer than r edges, and there are r nodes at least; no other column has changed
 pub record Levelled (n : ℕ) (p p′ : List ℕ) (r : ℕ) : Type 0 where

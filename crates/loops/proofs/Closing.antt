@@ -13,7 +13,8 @@ use Rattle.matrices.specs.Matrices.{Related}
 use Rattle.machine.specs.declared.Machine.{Machine}
 use Rattle.machine.specs.Meaning.{IsStep}
 use Rattle.machine.proofs.Walking.{child-inside, step-few}
-use Rattle.loops.specs.Loops.{Stage, loopAt}
+use Rattle.layout.specs.Part.{loopAt}
+use Rattle.loops.specs.Loops.{Stage}
 use Rattle.loops.specs.Closed.{Closed}
 use Rattle.loops.proofs.Sides.{goes-down, goes-up, goes-stay, child-side}
 

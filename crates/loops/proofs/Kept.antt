@@ -11,10 +11,11 @@ use Rattle.bits.specs.Sets.{bit}
 use Rattle.xpath.specs.Syntax.{Test, XPath, stay}
 use Rattle.xpath.specs.Tree.{Tree, Child}
 use Rattle.xpath.specs.Meaning.{Less, Holds}
-use Rattle.table.specs.Table.{PARENT, RANK, NONE, column, word}
+use Rattle.layout.specs.Part.{STAYS}
+use Rattle.layout.specs.Table.{PARENT, RANK, column}
+use Rattle.layout.specs.Words.{NONE, word}
 use Rattle.table.specs.Links.{Points}
 use Rattle.machine.specs.declared.Machine.{Machine}
-use Rattle.machine.specs.Part.{STAYS}
 use Rattle.machine.specs.Meaning.{IsStep, Drawn}
 use Rattle.loops.specs.Loops.{Stage}
 

@@ -9,13 +9,12 @@ use lib.ListN.{getD}
 use Rattle.bits.specs.Sets.{bit}
 use Rattle.xpath.specs.Syntax.{XPath}
 use Rattle.xpath.specs.Tree.{Tree}
-use Rattle.table.specs.Table.{word}
+use Rattle.layout.specs.Part.{STAYS, loopAt}
+use Rattle.layout.specs.Words.{word}
 use Rattle.matrices.specs.Matrices.{Related, Chain, Redrawn, pairs}
 use Rattle.matrices.proofs.Chains.{chain-one, chain-then}
 use Rattle.matrices.proofs.Pairs.{pairs-same, pairs-split}
 use Rattle.machine.specs.declared.Machine.{Machine}
-use Rattle.machine.specs.Part.{STAYS}
-use Rattle.loops.specs.Loops.{loopAt}
 use Rattle.loops.specs.Closed.{Goes}
 use Rattle.loops.specs.Sound.{Sound}
 use Rattle.loops.specs.Growing.{SoundBelow, Woven, total}

@@ -12,9 +12,10 @@ use Rattle.xpath.specs.Meaning.{Holds}
 use Rattle.xpath.proofs.Trees.{parent-of, one-parent, child-after}
 use Rattle.positions.specs.Positions.{Follows}
 use Rattle.snippets.proofs.Edges.{stepDown, stepUp}
-use Rattle.table.specs.Table.{LEFT, PARENT, NONE, word}
+use Rattle.layout.specs.Part.{STAYS}
+use Rattle.layout.specs.Table.{LEFT, PARENT}
+use Rattle.layout.specs.Words.{NONE, word}
 use Rattle.machine.specs.declared.Machine.{Machine}
-use Rattle.machine.specs.Part.{STAYS}
 use Rattle.machine.specs.Meaning.{IsStep}
 use Rattle.machine.proofs.Walking.{child-inside, link-child, parent-word}
 use Rattle.loops.specs.Loops.{Stage}

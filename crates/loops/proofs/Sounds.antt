@@ -8,11 +8,12 @@ use Rattle.xpath.specs.Tree.{Tree, Child}
 use Rattle.positions.specs.Positions.{Comes}
 use Rattle.snippets.proofs.Settles.{comes-join}
 use Rattle.snippets.proofs.Edges.{stepDown, stepUp, moves-down, moves-up}
-use Rattle.table.specs.Table.{PARENT, word}
+use Rattle.layout.specs.Part.{STAYS, loopAt}
+use Rattle.layout.specs.Table.{PARENT}
+use Rattle.layout.specs.Words.{word}
 use Rattle.matrices.specs.Matrices.{Chain}
 use Rattle.machine.specs.declared.Machine.{Machine}
-use Rattle.machine.specs.Part.{STAYS}
-use Rattle.loops.specs.Loops.{Stage, loopAt, Loops}
+use Rattle.loops.specs.Loops.{Stage, Loops}
 use Rattle.loops.specs.Closed.{downs, ups, OnSide, Goes, Detour, Closed}
 use Rattle.loops.specs.Sound.{Sound}
 use Rattle.loops.proofs.Sides.{goes-down, goes-up, goes-stay, side-child}

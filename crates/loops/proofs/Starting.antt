@@ -4,12 +4,12 @@ use mathlib.Core.Path.{_≡_, refl, sym, _∙_, subst}
 use mathlib.Core.Logic.{_↔_}
 use mathlib.Core.List.{List}
 use native.Mathlib.Omega.{arith}
-use Rattle.table.specs.Table.{word}
+use Rattle.layout.specs.Part.{STAYS, loopAt}
+use Rattle.layout.specs.Words.{word}
 use Rattle.matrices.specs.Matrices.{Related, Chain, Redrawn, Drawing}
 use Rattle.matrices.proofs.Chains.{chain-map}
 use Rattle.machine.specs.declared.Machine.{Machine}
-use Rattle.machine.specs.Part.{STAYS}
-use Rattle.loops.specs.Loops.{Stage, loopAt}
+use Rattle.loops.specs.Loops.{Stage}
 use Rattle.loops.specs.Closed.{Goes}
 use Rattle.loops.specs.Growing.{Steps, Begun, Started}
 use Rattle.loops.proofs.Kept.{stage-kept}

@@ -7,11 +7,11 @@ use mathlib.Core.List.{List}
 use lib.ListN.{getD}
 use Rattle.limits.specs.Limits.{positions}
 use Rattle.bits.specs.Sets.{bit}
-use Rattle.table.specs.Table.{LEFT, PARENT, word}
+use Rattle.layout.specs.Part.{STAYS, loopAt}
+use Rattle.layout.specs.Table.{LEFT, PARENT}
+use Rattle.layout.specs.Words.{word}
 use Rattle.matrices.specs.Matrices.{Related}
 use Rattle.machine.specs.declared.Machine.{Machine}
-use Rattle.machine.specs.Part.{STAYS}
-use Rattle.loops.specs.Loops.{loopAt}
 
 -- the steps down to a child on a side, and the steps up from it
 abbrev pub downs : Machine → Bool → ℕ

@@ -9,11 +9,12 @@ use Rattle.limits.specs.Limits.{documentNodes, positions}
 use Rattle.bits.specs.Sets.{bit, or, size}
 use Rattle.xpath.specs.Syntax.{XPath}
 use Rattle.xpath.specs.Tree.{Tree}
-use Rattle.table.specs.Table.{PARENT, word}
+use Rattle.layout.specs.Part.{STAYS, LOOPS, PAIRS, loopAt}
+use Rattle.layout.specs.Table.{PARENT}
+use Rattle.layout.specs.Words.{word}
 use Rattle.matrices.specs.Matrices.{Related, Chain, Redrawn, Drawing, pairs}
 use Rattle.machine.specs.declared.Machine.{Machine}
-use Rattle.machine.specs.Part.{STAYS, LOOPS, PAIRS}
-use Rattle.loops.specs.Loops.{Stage, loopAt}
+use Rattle.loops.specs.Loops.{Stage}
 use Rattle.loops.specs.Closed.{downs, ups, OnSide, Goes, Detour}
 use Rattle.loops.specs.Sound.{Sound}
 

@@ -11,17 +11,13 @@ use Rattle.positions.specs.Positions.{Comes}
 use Rattle.matrices.specs.Matrices.{Related}
 use Rattle.machine.specs.declared.Machine.{Machine}
 use Rattle.machine.specs.Meaning.{IsMachine, Drawn}
-use Rattle.machine.specs.Part.{LOOPS, PAIRS}
+use Rattle.layout.specs.Part.{LOOPS, PAIRS}
 
 -- a comparison of two paths on a tree, and the words that stand for them
 pub record Stage (P R : XPath) (t : Tree) (m : Machine) (n : ℕ) (p : List ℕ) : Type 0 where
   pub formed : WellFormed t
   pub machine : IsMachine P R m
   pub drawn : Drawn P R t n p
-
--- behind the 16 columns at the front of a part: the matrix of node v
-abbrev pub loopAt : ℕ → ℕ → ℕ
-loopAt n v = LOOPS * n + positions * v
 
 -- i at v comes to j at v
 abbrev pub Loops : XPath → XPath → Tree → ℕ → List ℕ → Type 0

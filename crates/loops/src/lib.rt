@@ -11,7 +11,7 @@ ghost use Prim.Native.Nat.{_*_, _≤_, _<_};
 ghost use lib.ListN.{length};
 ghost use Rattle.xpath.specs.Syntax.{XPath};
 ghost use Rattle.xpath.specs.Tree.{Tree};
-ghost use Rattle.machine.specs.Part.{PAIRS};
+ghost use Rattle.layout.specs.Part.{PAIRS};
 ghost use Rattle.loops.specs.Loops.{Stage, Looped};
 
 // The matrix of each node, behind the 16 columns of the part.

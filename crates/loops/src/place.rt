@@ -1,24 +1,16 @@
-// Where the matrices stand, behind the 16 columns of the part, and where a node hangs.
-use limits::Rule;
-use machine::Part;
-use table::table::Table;
-use table::table::get;
+// Where a node hangs, and where the matrix of its parent stands.
+use layout::Table;
+use layout::places::loop_at;
+use layout::words::get;
 ghost use mathlib.Core.Path.{_≡_};
 ghost use mathlib.Core.Bool.{true, false};
 ghost use Prim.Native.Nat.{_+_, _≤_, _<_};
 ghost use Rattle.limits.specs.Limits.{documentNodes, positions};
-ghost use Rattle.table.specs.Table.{PARENT, word};
-ghost use Rattle.loops.specs.Loops.{loopAt};
+ghost use Rattle.layout.specs.Part.{loopAt};
+ghost use Rattle.layout.specs.Table.{PARENT};
+ghost use Rattle.layout.specs.Words.{word};
 ghost use Rattle.loops.specs.Closed.{OnSide};
 ghost use Rattle.loops.specs.Growing.{Ready};
-
-// The offset of the matrix of node `v`.
-pub fn loop_at(n: usize, v: usize) -> usize
-    requires { ⌜ (n ≤ documentNodes) × (v ≤ n) ⌝ }
-    ensures { λ r. ⌜ r ≡ loopAt n v ⌝ }
-{
-    Part::LOOPS * n + Rule::MAX_POSITIONS * v
-}
 
 // The offset of the matrix of its parent.
 pub fn above(p: &[u16], n: usize, v: usize) -> usize

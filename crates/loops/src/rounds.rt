@@ -1,8 +1,8 @@
 // A round over all nodes: the matrices grow by the detours over their neighbours.
 use crate::place::above;
 use crate::place::is_left;
-use crate::place::loop_at;
 use crate::visit::visit;
+use layout::places::loop_at;
 use machine::Machine;
 ghost use Prim.Native.Nat.{_<_};
 ghost use Rattle.loops.specs.Growing.{Ready, Passed, Rises, Falls, Everywhere, Settled};

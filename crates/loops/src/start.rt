@@ -1,18 +1,16 @@
 // The matrices at the start: the steps that stay at their node, closed.
-use crate::place::loop_at;
 use bits::meet;
+use layout::Part;
+use layout::places::loop_at;
+use layout::words::get;
 use limits::Rule;
 use machine::Machine;
 use matrices::close;
-use table::table::get;
 ghost use Prim.Native.Nat.{_+_, _≤_, _<_};
 ghost use lib.ListN.{length};
 ghost use Rattle.limits.specs.Limits.{positions};
 ghost use Rattle.matrices.specs.Matrices.{Drawing};
 ghost use Rattle.loops.specs.Growing.{Ready, Steps, Begun, Started};
-
-// The column of the positions whose bracketed test holds at the node.
-const STAYS: usize = 6;
 
 // The matrix at `at` becomes the steps of `w`.
 fn draw(p: &mut [u16], rows: [u16; Rule::MAX_POSITIONS], at: usize, w: u16)
@@ -32,7 +30,7 @@ fn begin(p: &mut [u16], n: usize, m: Machine, v: usize)
     ensures { λ _. ⌜ Begun m n v (now (p .entry)) (now (p .exit)) ⌝ }
 {
     let at = loop_at(n, v);
-    let w = get(p, n, STAYS, v) as u16;
+    let w = get(p, n, Part::STAYS, v) as u16;
     let rows = m.rows;
     draw(p, rows, at, w);
     close(p, at);

@@ -11,7 +11,8 @@ use Rattle.xpath.specs.Meaning.{Rel, Reaches, Holds}
 use Rattle.xpath.proofs.Decide.{trans, ⊎-iff, ¬-iff}
 use Rattle.positions.specs.Positions.{second}
 use Rattle.positions.proofs.Chains.{first-ends, second-ends}
-use Rattle.table.specs.Table.{RANK, word}
+use Rattle.layout.specs.Table.{RANK}
+use Rattle.layout.specs.Words.{word}
 use Rattle.machine.specs.declared.Machine.{Machine}
 use Rattle.machine.specs.Walks.{Compares, Stops, Meets, Hits}
 use Rattle.machine.specs.Meaning.{IsMachine, Drawn, Judges}

@@ -12,7 +12,8 @@ use Rattle.xpath.specs.Meaning.{Moves}
 use Rattle.xpath.proofs.Trees.{child-after, one-child}
 use Rattle.positions.specs.Positions.{Comes, Ends}
 use Rattle.positions.proofs.Runs.{num-in}
-use Rattle.table.specs.Table.{PARENT, NONE, column, word}
+use Rattle.layout.specs.Table.{PARENT, column}
+use Rattle.layout.specs.Words.{NONE, word}
 use Rattle.table.specs.Links.{Points}
 use Rattle.machine.specs.declared.Machine.{Machine}
 use Rattle.machine.specs.Walks.{Leads, Walk, Stops}

@@ -11,10 +11,11 @@ use Rattle.xpath.specs.Syntax.{Op, Test, XPath, Step, toLeft, toRight, fromLeft
 use Rattle.xpath.specs.Tree.{Tree, Child}
 use Rattle.xpath.specs.Meaning.{Less, Rel, Holds}
 use Rattle.positions.specs.Positions.{Numbered, second, Follows, IsLast}
-use Rattle.table.specs.Table.{PARENT, RANK, NONE, column, word}
+use Rattle.layout.specs.Part.{STAYS, HIT}
+use Rattle.layout.specs.Table.{PARENT, RANK, column}
+use Rattle.layout.specs.Words.{NONE, word}
 use Rattle.table.specs.Links.{Points}
 use Rattle.machine.specs.declared.Machine.{Machine}
-use Rattle.machine.specs.Part.{STAYS, HIT}
 
 -- step j of the two paths is s
 abbrev pub IsStep : XPath → XPath → ℕ → Step → Type 0

@@ -8,9 +8,10 @@ use lib.ListN.{getD}
 use Rattle.limits.specs.Limits.{positions}
 use Rattle.bits.specs.Sets.{bit}
 use Rattle.xpath.specs.Syntax.{Op, eq, ne, lt, le, gt, ge}
-use Rattle.table.specs.Table.{LEFT, RIGHT, PARENT, RANK, word}
+use Rattle.layout.specs.Part.{STAYS, HIT}
+use Rattle.layout.specs.Table.{LEFT, RIGHT, PARENT, RANK}
+use Rattle.layout.specs.Words.{word}
 use Rattle.machine.specs.declared.Machine.{Machine}
-use Rattle.machine.specs.Part.{STAYS, HIT}
 
 -- the six signs between ranks
 abbrev pub Compares : Op → ℕ → ℕ → Type 0

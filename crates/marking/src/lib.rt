@@ -3,7 +3,7 @@ use test_bits::holds;
 ghost use mathlib.Core.Path.{_≡_};
 ghost use Prim.Native.Nat.{_≤_};
 ghost use lib.ListN.{length, take, drop, replicate};
-ghost use Rattle.table.specs.Table.{Room};
+ghost use Rattle.layout.specs.Table.{Room};
 ghost use Rattle.marking.specs.Marking.{Marked};
 
 // Each of the first `n` marks tells whether test 0, the rule itself, holds at its node. Returns at how many nodes it holds.

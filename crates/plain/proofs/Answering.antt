@@ -7,8 +7,8 @@ use mathlib.Core.List.{List, [], _∷_}
 use native.Mathlib.Decide.{ℕ-discrete}
 use native.Mathlib.Omega.{arith}
 use Rattle.bits.specs.Sets.{one}
-use Rattle.table.specs.Table.{cell, word, Wrote}
-use Rattle.machine.specs.Part.{ANSWER}
+use Rattle.layout.specs.Part.{ANSWER}
+use Rattle.layout.specs.Words.{cell, word, Wrote}
 use Rattle.plain.specs.Plain.{Answered}
 use Rattle.plain.specs.Ends.{Held, Steady}
 use Rattle.plain.proofs.Telling.{denied}

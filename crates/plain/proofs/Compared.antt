@@ -6,10 +6,11 @@ use mathlib.Core.Bool.{Bool, true}
 use mathlib.Core.List.{List}
 use native.Mathlib.Omega.{arith}
 use Rattle.xpath.specs.Syntax.{Op, eq}
-use Rattle.table.specs.Table.{RANK, cell, word}
+use Rattle.layout.specs.Part.{MARK, HIT, Space}
+use Rattle.layout.specs.Table.{RANK}
+use Rattle.layout.specs.Words.{cell, word}
 use Rattle.rule_parts.specs.Kinds.{operator}
 use Rattle.machine.specs.declared.Machine.{Machine}
-use Rattle.machine.specs.Part.{MARK, HIT, Space}
 use Rattle.machine.specs.Walks.{Stops, Meets, Hits}
 use Rattle.reach.specs.Reached.{Reached}
 use Rattle.plain.specs.declared.ranges.Range.{Range}

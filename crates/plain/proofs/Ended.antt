@@ -13,8 +13,8 @@ use lib.Pow.{shr-lt}
 use borrow.Author.Tests.{eqb-false, ne-eqb, not-true}
 use Rattle.bits.specs.Sets.{bit, and}
 use Rattle.bits.proofs.SetLaws.{bit-none, bit-suc}
-use Rattle.table.specs.Table.{word}
-use Rattle.machine.specs.Part.{SEEN}
+use Rattle.layout.specs.Part.{SEEN}
+use Rattle.layout.specs.Words.{word}
 use Rattle.matrices.proofs.Members.{and-both, and-parts, lowest}
 use Rattle.plain.specs.Ends.{Ended}
 

@@ -5,8 +5,9 @@ use mathlib.Core.Logic.{inl, inr}
 use mathlib.Core.List.{List, [], _∷_}
 use native.Mathlib.Decide.{ℕ-discrete}
 use native.Mathlib.Omega.{arith}
-use Rattle.table.specs.Table.{RANK, cell, word, Wrote}
-use Rattle.machine.specs.Part.{MARK, SEEN}
+use Rattle.layout.specs.Part.{MARK, SEEN}
+use Rattle.layout.specs.Table.{RANK}
+use Rattle.layout.specs.Words.{cell, word, Wrote}
 use Rattle.plain.specs.Plain.{Small}
 use Rattle.plain.specs.Ends.{Ended, Steady}
 use Rattle.plain.specs.Marks.{Clear, MarkedAt, Marked}

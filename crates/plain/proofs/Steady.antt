@@ -4,9 +4,10 @@ use mathlib.Core.Path.{_≡_, refl, sym, _∙_, subst}
 use mathlib.Core.List.{List, [], _∷_}
 use native.Mathlib.Nat.{mul-le-mul-right}
 use native.Mathlib.Omega.{arith}
-use Rattle.table.specs.Table.{LEFT, RANK, cell, word, Wrote}
+use Rattle.layout.specs.Part.{ANSWER, MARK, SEEN, Space}
+use Rattle.layout.specs.Table.{LEFT, RANK}
+use Rattle.layout.specs.Words.{cell, word, Wrote}
 use Rattle.machine.specs.declared.Machine.{Machine}
-use Rattle.machine.specs.Part.{ANSWER, MARK, SEEN, Space}
 use Rattle.reach.specs.Reached.{Reached}
 use Rattle.plain.specs.Plain.{Small}
 use Rattle.plain.specs.Ends.{Held, Steady}

@@ -5,9 +5,9 @@ use mathlib.Core.Logic.{_↔_}
 use mathlib.Core.List.{List}
 use native.Mathlib.Omega.{arith}
 use Rattle.xpath.specs.Syntax.{Op}
-use Rattle.table.specs.Table.{RANK}
+use Rattle.layout.specs.Part.{HIT}
+use Rattle.layout.specs.Table.{RANK}
 use Rattle.machine.specs.declared.Machine.{Machine}
-use Rattle.machine.specs.Part.{HIT}
 use Rattle.machine.specs.Walks.{Compares, Stops, Meets, Hits}
 use Rattle.reach.proofs.Walks.{walk-same}
 use Rattle.plain.specs.Ends.{Held}

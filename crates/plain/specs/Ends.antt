@@ -5,8 +5,9 @@ use mathlib.Core.Bool.{true}
 use mathlib.Core.List.{List}
 use lib.ListN.{length, getD}
 use Rattle.bits.specs.Sets.{bit}
-use Rattle.table.specs.Table.{LEFT, word}
-use Rattle.machine.specs.Part.{SEEN}
+use Rattle.layout.specs.Part.{SEEN}
+use Rattle.layout.specs.Table.{LEFT}
+use Rattle.layout.specs.Words.{word}
 
 -- the walk that the part has seen comes to w at one of the last positions
 pub record Ended (n last : ℕ) (p : List ℕ) (w : ℕ) : Type 0 where

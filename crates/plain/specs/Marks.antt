@@ -3,8 +3,9 @@ use Prim.Native.Nat.{ℕ, _<_}
 use mathlib.Core.Path.{_≡_}
 use mathlib.Core.Logic.{_⊎_}
 use mathlib.Core.List.{List, [], _∷_}
-use Rattle.table.specs.Table.{RANK, cell, word, Wrote}
-use Rattle.machine.specs.Part.{MARK}
+use Rattle.layout.specs.Part.{MARK}
+use Rattle.layout.specs.Table.{RANK}
+use Rattle.layout.specs.Words.{cell, word, Wrote}
 use Rattle.plain.specs.Ends.{Ended, Steady}
 
 -- no rank is marked

@@ -4,8 +4,9 @@ use mathlib.Core.Path.{_≡_}
 use mathlib.Core.Logic.{_⊎_}
 use mathlib.Core.List.{List}
 use lib.ListN.{length}
-use Rattle.table.specs.Table.{RANK, word}
-use Rattle.machine.specs.Part.{ANSWER}
+use Rattle.layout.specs.Part.{ANSWER}
+use Rattle.layout.specs.Table.{RANK}
+use Rattle.layout.specs.Words.{word}
 
 -- 1 where A holds, and else 0
 pub record Answered (n : ℕ) (A : ℕ → Type 0) (p p′ : List ℕ) : Type 0 where

@@ -4,7 +4,7 @@ use mathlib.Core.Path.{_≡_}
 use mathlib.Core.Logic.{_⊎_}
 use Rattle.rule_parts.specs.declared.kinds.Operator.{Operator}
 use Rattle.rule_parts.specs.declared.kinds.Operator.the-variants.{Equal, Unequal, Less, LessEqual, Greater, GreaterEqual}
-use Rattle.table.specs.Table.{NONE}
+use Rattle.layout.specs.Words.{NONE}
 use Rattle.plain.specs.declared.ranges.Range.{Range}
 
 -- a node below n that E holds of

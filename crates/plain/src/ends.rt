@@ -1,32 +1,21 @@
 // Where a walk ends: the nodes that it comes to at one of the last positions.
-use table::table::get;
+use layout::Part;
+use layout::words::get;
 ghost use mathlib.Core.Bool.{true};
 ghost use mathlib.Core.Logic.{_↔_};
 ghost use mathlib.Core.Path.{_≡_};
 ghost use Prim.Native.Nat.{ℕ, _<_};
-ghost use Rattle.table.specs.Table.{Room, word};
-ghost use Rattle.machine.specs.Part.{HIT};
+ghost use Rattle.layout.specs.Part.{HIT};
+ghost use Rattle.layout.specs.Table.{Room};
+ghost use Rattle.layout.specs.Words.{word};
 ghost use Rattle.plain.specs.Ends.{Ended};
-
-// The columns of a comparison's part that the tree's table does not have.
-pub struct Column;
-
-impl Column {
-    pub const ANSWER: usize = 0;
-
-    pub const MARK: usize = 1;
-
-    pub const HIT: usize = 7;
-
-    pub const SEEN: usize = 8;
-}
 
 // Whether the walk ends at node `w`.
 pub fn ends_at(p: &[u16], n: usize, last: u16, w: usize) -> bool
     requires { ⌜ (w < n) × Room n (now p) ⌝ }
     ensures { λ r. ⌜ (r ≡ true) ↔ Ended n last (now (p .entry)) w ⌝ }
 {
-    let seen = get(p, n, Column::SEEN, w);
+    let seen = get(p, n, Part::SEEN, w);
     bits::meet(seen as u16, last) != 0
 }
 
@@ -36,7 +25,7 @@ fn hit_at(p: &[u16], n: usize, last: u16, w: usize) -> bool
     ensures { λ r. ⌜ (r ≡ true) ↔ (Ended n last (now (p .entry)) w × (word (now (p .entry)) n HIT w ≡ 1)) ⌝ }
 {
     if ends_at(p, n, last, w) {
-        return get(p, n, Column::HIT, w) == 1;
+        return get(p, n, Part::HIT, w) == 1;
     }
     false
 }

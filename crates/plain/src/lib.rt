@@ -3,14 +3,14 @@ pub mod ends;
 mod marks;
 pub mod ranges;
 
-use ends::Column;
 use ends::any_hit;
+use layout::Part;
+use layout::words::put;
 use machine::Machine;
 use marks::equal_at;
 use ranges::ordered_at;
 use reach::reach;
 use rule_parts::kinds::Operator;
-use table::table::put;
 ghost use mathlib.Core.Bool.{true};
 ghost use mathlib.Core.List.{[], _∷_};
 ghost use mathlib.Core.Logic.{_↔_};
@@ -19,9 +19,9 @@ ghost use Prim.Native.Nat.{_≤_, _<_};
 ghost use Rattle.limits.specs.Limits.{positions};
 ghost use Rattle.bits.specs.Sets.{one};
 ghost use Rattle.xpath.specs.Syntax.{Op};
-ghost use Rattle.table.specs.Table.{cell, Wrote};
+ghost use Rattle.layout.specs.Part.{ANSWER, Space};
+ghost use Rattle.layout.specs.Words.{cell, Wrote};
 ghost use Rattle.rule_parts.specs.Kinds.{operator};
-ghost use Rattle.machine.specs.Part.{ANSWER, Space};
 ghost use Rattle.machine.specs.Walks.{Meets, Hits};
 ghost use Rattle.plain.specs.Plain.{Answered, Small};
 ghost use Rattle.plain.specs.Ends.{Steady};
@@ -58,7 +58,7 @@ pub fn answer(p: &mut [u16], n: usize, v: usize, b: bool)
     requires { ⌜ Space n (now p) × (v < n) ⌝ }
     ensures { λ _. ⌜ Wrote ((cell n ANSWER v, one b) ∷ []) (now (p .entry)) (now (p .exit)) ⌝ }
 {
-    put(p, n, Column::ANSWER, v, one_if(b));
+    put(p, n, Part::ANSWER, v, one_if(b));
 }
 
 // The two paths of a comparison.

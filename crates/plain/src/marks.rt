@@ -1,19 +1,20 @@
 // Equal ranks, by marks: the ranks where the first path ends are marked, and the ends of the second path looked up.
-use crate::ends::Column;
 use crate::ends::ends_at;
+use layout::Part;
+use layout::Table;
+use layout::words::get;
+use layout::words::put;
 use machine::Machine;
 use reach::reach;
-use table::table::Table;
-use table::table::get;
-use table::table::put;
 ghost use mathlib.Core.Bool.{true};
 ghost use mathlib.Core.Logic.{_↔_};
 ghost use mathlib.Core.Path.{_≡_};
 ghost use Prim.Native.Nat.{ℕ, _<_};
 ghost use Rattle.limits.specs.Limits.{positions};
 ghost use Rattle.xpath.specs.Syntax.{eq};
-ghost use Rattle.table.specs.Table.{RANK, Room, word};
-ghost use Rattle.machine.specs.Part.{MARK, Space};
+ghost use Rattle.layout.specs.Part.{MARK, Space};
+ghost use Rattle.layout.specs.Table.{RANK, Room};
+ghost use Rattle.layout.specs.Words.{word};
 ghost use Rattle.machine.specs.Walks.{Meets};
 ghost use Rattle.plain.specs.Plain.{Small};
 ghost use Rattle.plain.specs.Ends.{Ended, Steady};
@@ -26,7 +27,7 @@ fn clear_marks(p: &mut [u16], n: usize)
 {
     let mut r = 0;
     while r < n {
-        put(p, n, Column::MARK, r, 0);
+        put(p, n, Part::MARK, r, 0);
         r += 1;
     }
 }
@@ -38,7 +39,7 @@ fn mark_rank(p: &mut [u16], n: usize, last: u16, w: usize)
 {
     if ends_at(p, n, last, w) {
         let r = get(p, n, Table::RANK, w);
-        put(p, n, Column::MARK, r, 1);
+        put(p, n, Part::MARK, r, 1);
     }
 }
 
@@ -61,7 +62,7 @@ fn marked_at(p: &[u16], n: usize, last: u16, w: usize) -> bool
 {
     if ends_at(p, n, last, w) {
         let r = get(p, n, Table::RANK, w);
-        return get(p, n, Column::MARK, r) == 1;
+        return get(p, n, Part::MARK, r) == 1;
     }
     false
 }

@@ -10,10 +10,11 @@ use Rattle.xpath.specs.Tree.{Tree, WellFormed, Down}
 use Rattle.xpath.proofs.Trees.{down-le}
 use Rattle.positions.specs.Positions.{Comes}
 use Rattle.snippets.proofs.Edges.{pass-down, pass-up, comes-few}
-use Rattle.table.specs.Table.{NONE}
+use Rattle.layout.specs.Blocks.{downAt, upAt, upperAt}
+use Rattle.layout.specs.Words.{NONE}
 use Rattle.table.specs.Links.{Points}
 use Rattle.matrices.specs.Matrices.{Related, Composed}
-use Rattle.powers.specs.Powers.{downAt, upAt, upperAt, Power}
+use Rattle.powers.specs.Powers.{Power}
 use Rattle.powers.specs.Blocks.{Twice}
 use Rattle.powers.proofs.Ancestors.{power-join, power-split, power-over}
 

@@ -11,15 +11,17 @@ use Rattle.xpath.specs.Tree.{Tree, Child, Down}
 use Rattle.xpath.proofs.Trees.{child-after, down-le}
 use Rattle.positions.specs.Positions.{Follows, Comes}
 use Rattle.snippets.proofs.Edges.{Crossing, stepDown, stepUp, edge-down, edge-up, comes-few}
-use Rattle.table.specs.Table.{PARENT, NONE, word}
+use Rattle.layout.specs.Blocks.{downAt, upAt, upperAt}
+use Rattle.layout.specs.Part.{loopAt}
+use Rattle.layout.specs.Table.{PARENT}
+use Rattle.layout.specs.Words.{NONE, word}
 use Rattle.machine.specs.declared.Machine.{Machine}
 use Rattle.machine.specs.Meaning.{IsStep}
 use Rattle.machine.proofs.Walking.{step-few}
-use Rattle.loops.specs.Loops.{loopAt}
 use Rattle.loops.specs.Closed.{downs, ups, OnSide, Goes}
 use Rattle.loops.proofs.Sides.{goes-down, goes-up, side-child, parent-before}
 use Rattle.matrices.specs.Matrices.{Related}
-use Rattle.powers.specs.Powers.{Power, downAt, upAt, upperAt}
+use Rattle.powers.specs.Powers.{Power}
 use Rattle.powers.specs.Blocks.{Crossed, Edge, Ready}
 use Rattle.powers.proofs.Ancestors.{one-above}
 use Rattle.powers.proofs.Doubling.{none-power}

@@ -12,9 +12,11 @@ use Rattle.xpath.specs.Tree.{Tree, Down}
 use Rattle.positions.specs.Positions.{Comes}
 use Rattle.table.specs.Links.{Points}
 use Rattle.machine.specs.declared.Machine.{Machine}
-use Rattle.loops.specs.Loops.{Stage, loopAt, Loops}
+use Rattle.layout.specs.Blocks.{BLOCKS, blockAt, downAt, upAt, upperAt}
+use Rattle.layout.specs.Part.{loopAt}
+use Rattle.loops.specs.Loops.{Stage, Loops}
 use Rattle.loops.proofs.Kept.{stage-kept}
-use Rattle.powers.specs.Powers.{BLOCKS, blockAt, downAt, upAt, upperAt, Power, Powers, Powered}
+use Rattle.powers.specs.Powers.{Power, Powers, Powered}
 use Rattle.powers.specs.Blocks.{Ready}
 use Rattle.powers.specs.Ladder.{Ladder}
 use Rattle.powers.proofs.Places.{block-before}

@@ -10,8 +10,8 @@ use native.Mathlib.Omega.{arith}
 use Rattle.bits.specs.Sets.{bit}
 use Rattle.matrices.specs.Matrices.{Related, Redrawn, Composed}
 use Rattle.machine.specs.declared.Machine.{Machine}
-use Rattle.loops.specs.Loops.{loopAt}
-use Rattle.powers.specs.Powers.{blockAt, downAt, upAt, upperAt}
+use Rattle.layout.specs.Blocks.{blockAt, downAt, upAt, upperAt}
+use Rattle.layout.specs.Part.{loopAt}
 use Rattle.powers.specs.Blocks.{Fits, Only, Crossed, Block, Edge, Twice}
 use Rattle.powers.proofs.Places.{block-before}
 use Rattle.powers.proofs.Crossing.{composed-kept, crossed-kept}

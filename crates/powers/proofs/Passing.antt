@@ -9,11 +9,13 @@ use native.Mathlib.Nat.{eq-or-lt-of-le}
 use native.Mathlib.Omega.{arith}
 use Rattle.xpath.specs.Syntax.{XPath}
 use Rattle.xpath.specs.Tree.{Tree, Down}
-use Rattle.table.specs.Table.{LEFT, PARENT, NONE, word}
+use Rattle.layout.specs.Blocks.{BLOCKS, blockAt, upperAt}
+use Rattle.layout.specs.Table.{LEFT, PARENT}
+use Rattle.layout.specs.Words.{NONE, word}
 use Rattle.machine.specs.declared.Machine.{Machine}
 use Rattle.loops.specs.Loops.{Stage, Loops}
 use Rattle.loops.specs.Closed.{downs, ups, OnSide}
-use Rattle.powers.specs.Powers.{BLOCKS, blockAt, upperAt, Power, Powers, Powered}
+use Rattle.powers.specs.Powers.{Power, Powers, Powered}
 use Rattle.powers.specs.Blocks.{Fits, Only, Edge, Twice, Ready, Doubled, Found, Passed}
 use Rattle.powers.proofs.Kept.{power-front, powers-front, ready-kept}
 use Rattle.powers.proofs.Doubling.{twice-power, twice-none, upper-near, upper-none}

@@ -5,7 +5,7 @@ use mathlib.Core.List.{List}
 use lib.ListN.{length}
 use native.Mathlib.Nat.{mul-le-mul-right}
 use native.Mathlib.Omega.{arith}
-use Rattle.powers.specs.Powers.{BLOCKS, blockAt}
+use Rattle.layout.specs.Blocks.{BLOCKS, blockAt}
 use Rattle.powers.specs.Blocks.{Fits}
 
 -- the words of a lower exponent stand before those of a higher one
@@ -20,7 +20,3 @@ fits-of {n} {b} {k} {y} p h r few low room =
 
 pub fits-to : {n j k y : ℕ} {p : List ℕ} → j ≡ k → Fits n j y p → Fits n k y p
 fits-to {n} {j} {k} {y} {p} e f = subst (λ (i : ℕ). Fits n i y p) e f
-
--- a product that fits
-pub small : (n k : ℕ) → n ≤ 4096 → k < 13 → k * n ≤ 53_248
-small n k few low = let s : k * n ≤ 13 * n = mul-le-mul-right n (omega arith) in omega arith

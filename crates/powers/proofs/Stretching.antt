@@ -16,8 +16,9 @@ use Rattle.positions.specs.Positions.{Comes}
 use Rattle.snippets.proofs.Edges.{pass-down, pass-up, comes-few}
 use Rattle.table.specs.Links.{Points}
 use Rattle.matrices.specs.Matrices.{Related, Before}
-use Rattle.loops.specs.Loops.{loopAt}
-use Rattle.powers.specs.Powers.{downAt, upAt, upperAt, Lifts}
+use Rattle.layout.specs.Blocks.{downAt, upAt, upperAt}
+use Rattle.layout.specs.Part.{loopAt}
+use Rattle.powers.specs.Powers.{Lifts}
 use Rattle.powers.specs.Blocks.{Fits}
 use Rattle.powers.specs.Ladder.{Ladder, Stretch, Hops}
 use Rattle.powers.proofs.Places.{fits-of}

@@ -11,8 +11,10 @@ use Rattle.xpath.specs.Syntax.{XPath, size}
 use Rattle.xpath.specs.Tree.{Tree, WellFormed}
 use Rattle.matrices.specs.Matrices.{Related, Composed}
 use Rattle.machine.specs.declared.Machine.{Machine}
-use Rattle.loops.specs.Loops.{Stage, loopAt, Loops}
-use Rattle.powers.specs.Powers.{blockAt, downAt, upAt, upperAt, Power, Powers}
+use Rattle.layout.specs.Blocks.{blockAt, downAt, upAt, upperAt}
+use Rattle.layout.specs.Part.{loopAt}
+use Rattle.loops.specs.Loops.{Stage, Loops}
+use Rattle.powers.specs.Powers.{Power, Powers}
 
 -- there is room for the words of exponent k and node y
 pub record Fits (n k y : ℕ) (p : List ℕ) : Type 0 where

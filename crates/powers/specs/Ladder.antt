@@ -7,7 +7,8 @@ use Rattle.limits.specs.Limits.{documentNodes, nodeDigits, comparisonSteps, wor
 use Rattle.xpath.specs.Syntax.{XPath, size}
 use Rattle.xpath.specs.Tree.{Tree, WellFormed, Down}
 use Rattle.loops.specs.Loops.{Loops}
-use Rattle.powers.specs.Powers.{BLOCKS, upperAt, Powers}
+use Rattle.layout.specs.Blocks.{BLOCKS, upperAt}
+use Rattle.powers.specs.Powers.{Powers}
 
 -- the loops and the powers below b of two paths on a tree
 pub record Ladder (P R : XPath) (t : Tree) (n b : ℕ) (p : List ℕ) : Type 0 where

@@ -13,29 +13,6 @@ use Rattle.positions.specs.Positions.{Comes}
 use Rattle.table.specs.Links.{Points}
 use Rattle.matrices.specs.Matrices.{Related}
 
--- ── The part behind its first 112 columns: 64 words for each exponent and node ──
-abbrev pub BLOCKS : ℕ
-BLOCKS = partWords
-
-abbrev pub blockAt : ℕ → ℕ → ℕ → ℕ
-blockAt n k y = BLOCKS * n + wordsPerDigit * (k * n + y)
-
--- a position at the upper node and one at y
-abbrev pub downAt : ℕ → ℕ → ℕ → ℕ
-downAt n k y = blockAt n k y
-
--- a position at y and one at the upper node
-abbrev pub upAt : ℕ → ℕ → ℕ → ℕ
-upAt n k y = blockAt n k y + positions
-
--- the snippets of power k whose lower node is y: p at the upper node and q at y
-abbrev pub snippetAt : ℕ → ℕ → ℕ → ℕ
-snippetAt n k y = blockAt n k y + 2 * positions
-
--- the upper node, or none
-abbrev pub upperAt : ℕ → ℕ → ℕ → ℕ
-upperAt n k y = blockAt n k y + 3 * positions
-
 module _ (P R : XPath) (t : Tree) (n : ℕ) (p : List ℕ) where
   -- the words of exponent k and node y
   pub record Power (k y : ℕ) : Type 0 where

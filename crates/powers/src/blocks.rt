@@ -1,52 +1,24 @@
-// The words of a power: 64 for each exponent and node, behind the first 112 columns of the part.
+// The words of a power, a block for each exponent and node.
 use bits::meet;
+use layout::Blocks;
+use layout::Table;
+use layout::places::block_at;
+use layout::places::loop_at;
 use limits::Rule;
-use limits::Scratch;
 use machine::Machine;
-use machine::Part;
 use matrices::compose;
 use matrices::followers::followers;
 use matrices::image;
-use table::table::Table;
 ghost use mathlib.Core.Path.{_≡_};
 ghost use mathlib.Core.Logic.{_↔_};
 ghost use Prim.Native.Nat.{ℕ, _+_, _≤_, _<_};
 ghost use lib.ListN.{length, getD};
 ghost use Rattle.limits.specs.Limits.{documentNodes, positions, nodeDigits, wordValues};
-ghost use Rattle.table.specs.Table.{NONE};
-ghost use Rattle.loops.specs.Loops.{loopAt};
+ghost use Rattle.layout.specs.Blocks.{blockAt, upperAt};
+ghost use Rattle.layout.specs.Part.{loopAt};
+ghost use Rattle.layout.specs.Words.{NONE};
 ghost use Rattle.matrices.specs.Matrices.{Related, Redrawn};
-ghost use Rattle.powers.specs.Powers.{blockAt, upperAt};
 ghost use Rattle.powers.specs.Blocks.{Fits, Only, Crossed, Edge, Twice};
-
-pub const BLOCKS: usize = Scratch::PART_WORDS;
-
-pub const WORDS: usize = Scratch::WORDS_PER_DIGIT;
-
-// Within a block: the rows that lead down, those that lead up, the snippets, and the upper node.
-pub const DOWN: usize = 0;
-
-pub const UP: usize = Rule::MAX_POSITIONS;
-
-pub const SNIPPETS: usize = 2 * Rule::MAX_POSITIONS;
-
-pub const UPPER: usize = 3 * Rule::MAX_POSITIONS;
-
-// Where the words of exponent `k` and node `y` begin.
-pub fn block_at(n: usize, k: usize, y: usize) -> usize
-    requires { ⌜ (y < n) × (n ≤ documentNodes) × (k < nodeDigits) ⌝ }
-    ensures { λ r. ⌜ r ≡ blockAt n k y ⌝ }
-{
-    BLOCKS * n + WORDS * (k * n + y)
-}
-
-// Where the loops of node `v` begin.
-pub fn loop_at(n: usize, v: usize) -> usize
-    requires { ⌜ (v < n) × (n ≤ documentNodes) ⌝ }
-    ensures { λ r. ⌜ r ≡ loopAt n v ⌝ }
-{
-    Part::LOOPS * n + Rule::MAX_POSITIONS * v
-}
 
 // The node 2^k above node `y`, or none.
 pub fn upper(p: &[u16], n: usize, k: usize, y: usize) -> usize
@@ -54,7 +26,7 @@ pub fn upper(p: &[u16], n: usize, k: usize, y: usize) -> usize
     ensures { λ r. ⌜ (r ≡ getD (now (p .entry)) (upperAt n k y) 0) × (r < wordValues) ⌝ }
 {
     let at = block_at(n, k, y);
-    p[at + UPPER] as usize
+    p[at + Blocks::UPPER] as usize
 }
 
 // There is no node 2^k above node `y`.
@@ -63,7 +35,7 @@ pub fn none(p: &mut [u16], n: usize, k: usize, y: usize)
     ensures { λ _. ⌜ Only n k y (now (p .entry)) (now (p .exit)) × (getD (now (p .exit)) (upperAt n k y) 0 ≡ NONE) ⌝ }
 {
     let at = block_at(n, k, y);
-    p[at + UPPER] = Table::NONE as u16;
+    p[at + Blocks::UPPER] = Table::NONE as u16;
 }
 
 // The matrix at `c` becomes the one at `a`, followed by the steps of `w`, followed by the one at `b`.
@@ -89,8 +61,8 @@ pub fn edge(p: &mut [u16], n: usize, m: Machine, x: usize, y: usize, down: u16, 
     let above = loop_at(n, x);
     let below = loop_at(n, y);
     cross(p, rows, above, down, below, at);
-    cross(p, rows, below, up, above, at + UP);
-    p[at + UPPER] = x as u16;
+    cross(p, rows, below, up, above, at + Blocks::UP);
+    p[at + Blocks::UPPER] = x as u16;
 }
 
 // Exponent `k` + 1: from node `y` over node `h`. Where there is none above `h`, the two matrices say nothing.
@@ -103,6 +75,6 @@ pub fn twice(p: &mut [u16], n: usize, k: usize, h: usize, y: usize)
     let above = block_at(n, k, h);
     let below = block_at(n, k, y);
     compose(p, above, below, at);
-    compose(p, below + UP, above + UP, at + UP);
-    p[at + UPPER] = x as u16;
+    compose(p, below + Blocks::UP, above + Blocks::UP, at + Blocks::UP);
+    p[at + Blocks::UPPER] = x as u16;
 }

@@ -4,10 +4,10 @@ mod hops;
 mod passes;
 
 use blocks::DOWN;
-use blocks::UP;
-use blocks::block_at;
-use blocks::loop_at;
 use hops::first_hop;
+use layout::Blocks;
+use layout::places::block_at;
+use layout::places::loop_at;
 use machine::Machine;
 use matrices::before;
 use passes::pass;
@@ -18,7 +18,8 @@ ghost use Rattle.limits.specs.Limits.{documentNodes, nodeDigits, wordsPerDigit}
 ghost use Rattle.xpath.specs.Syntax.{XPath};
 ghost use Rattle.xpath.specs.Tree.{Tree, Down};
 ghost use Rattle.loops.specs.Loops.{Stage, Loops};
-ghost use Rattle.powers.specs.Powers.{BLOCKS, Powered, Lifts};
+ghost use Rattle.layout.specs.Blocks.{BLOCKS};
+ghost use Rattle.powers.specs.Powers.{Powered, Lifts};
 ghost use Rattle.powers.specs.Ladder.{Ladder, Stretch};
 
 // The powers of all nodes, for the exponents below `b`.
@@ -68,5 +69,5 @@ pub fn lower(p: &[u16], n: usize, b: usize, y: usize, len: usize, set: u16) -> u
     }
     let h = first_hop(p, n, b, y, len);
     let w = lower(p, n, b, h.over, h.rest, set);
-    before(p, block_at(n, h.exponent, y) + UP, w)
+    before(p, block_at(n, h.exponent, y) + Blocks::UP, w)
 }

@@ -3,13 +3,13 @@ use crate::blocks::edge;
 use crate::blocks::none;
 use crate::blocks::twice;
 use crate::blocks::upper;
+use layout::words::left;
+use layout::words::parent;
 use machine::Machine;
-use table::table::left;
-use table::table::parent;
 ghost use Prim.Native.Nat.{_+_, _*_, _≤_, _<_};
 ghost use lib.ListN.{length};
 ghost use Rattle.limits.specs.Limits.{documentNodes, nodeDigits, wordsPerDigit};
-ghost use Rattle.powers.specs.Powers.{BLOCKS};
+ghost use Rattle.layout.specs.Blocks.{BLOCKS};
 ghost use Rattle.powers.specs.Blocks.{Fits, Doubled, Found, Passed};
 
 // The parent of node `y`, with the steps on the side that `y` is on.

@@ -10,7 +10,7 @@ use native.Mathlib.Decide.{decLt}
 use Rattle.document_spec.specs.Library.{Node, at}
 use Rattle.document_spec.specs.Binary.{textOf}
 use Rattle.document_spec.specs.Intervals.{texts}
-use Rattle.table.specs.Table.{NONE}
+use Rattle.layout.specs.Words.{NONE}
 use Rattle.ranks.specs.Texts.{Silent, Spoken, Bounds}
 
 module _ (ns : List Node) where

@@ -14,15 +14,18 @@ use Rattle.document_spec.specs.Binary.{treeOf}
 use Rattle.document_spec.specs.Verdict.{Accepts}
 use Rattle.document_spec.specs.Intervals.{End}
 use Rattle.document_spec.proofs.Intervals.{end-of}
-use Rattle.table.specs.Table.{LEFT, RIGHT, NONE, column, cell, word, Wrote}
+use Rattle.layout.specs.Ranking.{FIRST-TEXT, LAST-TEXT, FIRST, LOW, HIGH, LENGTH}
+use Rattle.layout.specs.Table.{LEFT, RIGHT, column}
+use Rattle.layout.specs.Words.{NONE, cell, word, Wrote}
+use Rattle.layout.proofs.Frames.{within-none, within-then, within-put}
 use Rattle.table.specs.Links.{Points}
 use Rattle.ranks.specs.Ranks.{Tabled}
-use Rattle.ranks.specs.Texts.{FIRST-TEXT, LAST-TEXT, Bounds, Extent, Content, Told, Arranged}
+use Rattle.ranks.specs.Texts.{Bounds, Extent, Content, Told, Arranged}
 use Rattle.ranks.specs.Values.{Inner}
-use Rattle.ranks.specs.Notes.{FIRST, LOW, HIGH, LENGTH, noteAt, noted, Valued, Marked, Seen, Noted}
+use Rattle.ranks.specs.Notes.{noteAt, noted, Valued, Marked, Seen, Noted}
 use Rattle.ranks.specs.declared.notes.Note.{Note}
 use Rattle.ranks.proofs.Trees.{tree-size, tree-linked, tree-small}
-use Rattle.ranks.proofs.Worked.{confined-none, confined-then, confined-put, noted-worked, arranged-worked, worked-tree}
+use Rattle.ranks.proofs.Worked.{noted-worked, arranged-worked, worked-tree}
 use Rattle.ranks.proofs.Extents.{left-extent, right-extent}
 use Rattle.ranks.proofs.Bounds.{bounds-small}
 use Rattle.ranks.proofs.Noting.{note-same, note-written, noted-confined}
@@ -93,12 +96,12 @@ filling-none {n} {t} h =
     record {
       within = omega arith;
       marked = record { tabled = h; told = λ ns a v i l e d. absurd (omega arith); valued = λ ns a v i l. absurd (omega arith) };
-      noted = confined-none FIRST-TEXT (suc LENGTH) n t;
+      noted = within-none t;
     }
 
 -- one node more, from the last to the first
 pub filling-step : {s : List ℕ} {n v : ℕ} {t₀ t t′ : List ℕ} → Filling s n v t₀ t → Marked s n (v - 1) t′ → Noted n t t′ → Filling s n (v - 1) t₀ t′
-filling-step g h q = let w = g .within in record { within = omega arith; marked = h; noted = confined-then (g .noted) q }
+filling-step g h q = let w = g .within in record { within = omega arith; marked = h; noted = within-then (g .noted) q }
 
 -- what is written for a node
 pub marked-step : {s : List ℕ} {n v f l : ℕ} {x : Note} {t t₁ t₂ t₃ : List ℕ} → Marked s n (suc v) t → v < n
@@ -108,7 +111,7 @@ marked-step {s} {n} {v} {f} {l} {x} {t} {t₁} {t₂} {t₃} h r g p q w =
     (record { tabled = worked-tree (h .tabled) (noted-worked kept); told = λ ns a u i j e d. texts ns a u i j e d (ℕ-discrete u v); valued = λ ns a u i j. value ns a u i j (ℕ-discrete u v) }, kept)
   where
     kept : Noted n t t₃
-    kept = confined-then (confined-then (confined-put (omega arith) (omega arith) r p) (confined-put (omega arith) (omega arith) r q)) (noted-confined n v x r w)
+    kept = within-then (within-then (within-put (omega arith) (omega arith) r p) (within-put (omega arith) (omega arith) r q)) (noted-confined n v x r w)
 
     same : (i : ℕ) → All (λ y. i ≢ y .0) (noted n v x) → i ≢ cell n LAST-TEXT v → i ≢ cell n FIRST-TEXT v → getD t i 0 ≡ getD t₃ i 0
     same i a b c = sym (w .other i a ∙ q .other i (b, tt) ∙ p .other i (c, tt))

@@ -12,12 +12,13 @@ use Rattle.document_spec.specs.Verdict.{Accepts}
 use Rattle.document_spec.proofs.Binary.{depth-small}
 use Rattle.document.specs.declared.entries.Entry.{Entry}
 use Rattle.document.specs.Entries.{IsEntry}
-use Rattle.table.specs.Table.{NONE, cell, word, Wrote}
-use Rattle.table.proofs.Wrote.{wrote-then}
+use Rattle.layout.specs.Ranking.{FIRST, LOW, HIGH, LENGTH}
+use Rattle.layout.specs.Words.{NONE, cell, word, Wrote}
+use Rattle.layout.proofs.Cells.{wrote-then}
 use Rattle.values.specs.Comes.{Lies}
 use Rattle.values.proofs.Cursor.{used-up}
 use Rattle.ranks.specs.Values.{Inside, Lasts}
-use Rattle.ranks.specs.Notes.{FIRST, LOW, HIGH, LENGTH, noteAt, noted, span, Held, Valued, Noted}
+use Rattle.ranks.specs.Notes.{noteAt, noted, span, Held, Valued, Noted}
 use Rattle.ranks.specs.declared.notes.Note.{Note}
 use Rattle.ranks.proofs.Trees.{tree-small}
 use Rattle.ranks.proofs.Values.{lasts-of, inside-none, inside-first, inside-one, own-lasts}

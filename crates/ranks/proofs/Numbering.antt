@@ -7,12 +7,14 @@ use native.Mathlib.Decide.{ℕ-discrete}
 use Rattle.document_spec.specs.Library.{Node}
 use Rattle.document_spec.specs.Binary.{before, stringOf}
 use Rattle.document_spec.specs.Verdict.{Accepts}
-use Rattle.table.specs.Table.{RANK, cell, word, Wrote}
+use Rattle.layout.specs.Ranking.{FIRST-TEXT, ORDER}
+use Rattle.layout.specs.Table.{RANK}
+use Rattle.layout.specs.Words.{cell, word, Wrote}
+use Rattle.layout.proofs.Frames.{within-none, within-then, within-put}
 use Rattle.ranks.specs.Ranks.{one, isSmaller}
-use Rattle.ranks.specs.Texts.{FIRST-TEXT, Arranged}
-use Rattle.ranks.specs.Sorting.{ORDER, entry, Entries, Sorted, dense, Numbered}
+use Rattle.ranks.specs.Texts.{Arranged}
+use Rattle.ranks.specs.Sorting.{entry, Entries, Sorted, dense, Numbered}
 use Rattle.ranks.proofs.Dense.{dense-zero, dense-next, dense-same}
-use Rattle.ranks.proofs.Worked.{confined-none, confined-then, confined-put}
 
 -- the ranks of the entries below i are written, and u is the last of them with the rank r
 pub record Numbering (s : List ℕ) (n i u r : ℕ) (t₀ t : List ℕ) : Type 0 where
@@ -29,7 +31,7 @@ pub numbering-none : (s : List ℕ) (n u : ℕ) (t : List ℕ) → u ≡ entry t
 numbering-none s n u t e =
     record {
       inside = omega arith;
-      arranged = confined-none RANK FIRST-TEXT n t;
+      arranged = within-none t;
       order = λ k r. refl;
       last = e;
       small = omega arith;
@@ -55,7 +57,7 @@ numbering-step {s} {n} {i} {u} {r} {t₀} {t} {t′} en g l v k e b f w =
     let q = g .small in let y = below in
     record {
       inside = l;
-      arranged = confined-then (g .arranged) (confined-put (omega arith) (omega arith) below w);
+      arranged = within-then (g .arranged) (within-put (omega arith) (omega arith) below w);
       order = λ j m. w .other (cell n ORDER j) (omega arith, tt) ∙ g .order j m;
       last = here;
       small = omega arith;

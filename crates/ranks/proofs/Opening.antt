@@ -10,7 +10,8 @@ use Rattle.document_spec.specs.Library.{Node}
 use Rattle.document_spec.specs.Binary.{joined, stringOf}
 use Rattle.document_spec.specs.Verdict.{Accepts}
 use Rattle.document.specs.Entries.{Start}
-use Rattle.table.specs.Table.{NONE, offsetOf}
+use Rattle.layout.specs.Table.{offsetOf}
+use Rattle.layout.specs.Words.{NONE}
 use Rattle.values.specs.Comes.{Comes}
 use Rattle.values.proofs.Cursor.{alone-comes}
 use Rattle.ranks.specs.Values.{Inside, Lasts, IsValue}

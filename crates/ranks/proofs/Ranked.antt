@@ -11,13 +11,15 @@ use Rattle.xpath.proofs.Order.{less-irreflexive, less-trichotomous}
 use Rattle.document_spec.specs.Library.{Node}
 use Rattle.document_spec.specs.Binary.{stringOf}
 use Rattle.document_spec.specs.Verdict.{Accepts}
-use Rattle.table.specs.Table.{RANK, word}
+use Rattle.layout.specs.Table.{RANK}
+use Rattle.layout.specs.Words.{word}
+use Rattle.layout.proofs.Frames.{within-then}
 use Rattle.table.specs.Links.{Linked}
 use Rattle.ranks.specs.Ranks.{Tabled, Ranked, Written}
 use Rattle.ranks.specs.Notes.{Noted}
 use Rattle.ranks.specs.Sorting.{entry, Sorted, dense, Sorting, Numbered}
 use Rattle.ranks.proofs.Trees.{tree-size}
-use Rattle.ranks.proofs.Worked.{confined-then, noted-worked, arranged-worked, worked-linked, worked-kept}
+use Rattle.ranks.proofs.Worked.{noted-worked, arranged-worked, worked-linked, worked-kept}
 use Rattle.ranks.proofs.Dense.{dense-small, dense-lt, dense-same}
 
 -- ── From one direction to both: values and numbers are each in one of three orders ──
@@ -94,7 +96,7 @@ module _ (ns : List Node) (n : ℕ) (t t′ : List ℕ) (size : length ns ≡ n)
 pub written : {s : List ℕ} {n : ℕ} {t t₁ t₂ t₃ : List ℕ} → Tabled s n t → Noted n t t₁ → Sorting s n n t₁ t₂ → Numbered s n t₂ t₃
     → (ns : List Node) → Accepts s ns → Linked s ns t → Written s ns t t₃
 written {n} {t₂} {t₃} h o p q ns a k =
-    let all = confined-then (noted-worked o) (arranged-worked (confined-then (p .arranged) (q .arranged))) in
+    let all = within-then (noted-worked o) (arranged-worked (within-then (p .arranged) (q .arranged))) in
     let g = p .sorted ns a in
     record {
       ranked = ranked ns n t₂ t₃ (tree-size h ns a) g (q .done ns a g);

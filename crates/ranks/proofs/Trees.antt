@@ -8,7 +8,8 @@ use Rattle.document_spec.specs.Library.{Node}
 use Rattle.document_spec.specs.Verdict.{Accepts}
 use Rattle.document_spec.proofs.Accepted.{accepts-one}
 use Rattle.document.specs.Entries.{Stands}
-use Rattle.table.specs.Table.{NONE, offsetOf}
+use Rattle.layout.specs.Table.{offsetOf}
+use Rattle.layout.specs.Words.{NONE}
 use Rattle.table.specs.Links.{Linked}
 use Rattle.ranks.specs.Ranks.{Tabled}
 

@@ -11,7 +11,7 @@ use Rattle.document_spec.specs.Library.{Node, Kind, element, attribute, text, a
 use Rattle.document_spec.specs.Binary.{textOf, joined, stringOf}
 use Rattle.document_spec.specs.Intervals.{deep, texts}
 use Rattle.document_spec.proofs.Intervals.{joined-in, joined-slice, element-value}
-use Rattle.table.specs.Table.{NONE}
+use Rattle.layout.specs.Words.{NONE}
 use Rattle.values.proofs.Cursor.{element-text, attribute-text, text-text, text-value}
 use Rattle.ranks.specs.Texts.{Spoken, Bounds}
 use Rattle.ranks.specs.Values.{Inside, Lasts}

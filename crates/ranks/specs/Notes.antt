@@ -9,25 +9,13 @@ use Rattle.document_spec.specs.Binary.{stringOf}
 use Rattle.document_spec.specs.Verdict.{Accepts}
 use Rattle.document_spec.specs.Intervals.{End}
 use Rattle.document.specs.declared.entries.Span.{Span}
-use Rattle.table.specs.Table.{NONE, cell, word}
+use Rattle.layout.specs.Ranking.{FIRST-TEXT}
+use Rattle.layout.specs.Words.{NONE, cell, word, Within}
 use Rattle.values.specs.Comes.{Lies}
-use Rattle.ranks.specs.Ranks.{Tabled, Confined}
-use Rattle.ranks.specs.Texts.{FIRST-TEXT, Bounds, Told}
+use Rattle.ranks.specs.Ranks.{Tabled}
+use Rattle.ranks.specs.Texts.{Bounds, Told}
 use Rattle.ranks.specs.Values.{Inside, Lasts}
 use Rattle.ranks.specs.declared.notes.Note.{Note}
-
--- ── The columns ──
-abbrev pub FIRST : ℕ
-FIRST = 9
-
-abbrev pub LOW : ℕ
-LOW = 10
-
-abbrev pub HIGH : ℕ
-HIGH = 11
-
-abbrev pub LENGTH : ℕ
-LENGTH = 12
 
 -- the note in the columns of node v
 abbrev pub noteAt : List ℕ → ℕ → ℕ → Note
@@ -70,4 +58,4 @@ pub record Marked (s : List ℕ) (n i : ℕ) (t : List ℕ) : Type 0 where
 
 -- nothing but these columns has changed
 abbrev pub Noted : ℕ → List ℕ → List ℕ → Type 0
-Noted n t t′ = Confined FIRST-TEXT (suc LENGTH) n t t′
+Noted n t t′ = Within n FIRST-TEXT (suc LENGTH) t t′

@@ -10,7 +10,8 @@ use Rattle.xpath.specs.Order.{lessb}
 use Rattle.document_spec.specs.Library.{Node}
 use Rattle.document_spec.specs.Binary.{pick, stringOf}
 use Rattle.document_spec.specs.Verdict.{Accepts}
-use Rattle.table.specs.Table.{COLUMNS, RANK, word, Room, Kept}
+use Rattle.layout.specs.Table.{COLUMNS, RANK, Room}
+use Rattle.layout.specs.Words.{word, Kept}
 use Rattle.table.specs.Links.{Linked}
 
 -- t begins with the table of the tree of an accepted document with n nodes
@@ -21,15 +22,9 @@ pub record Tabled (s : List ℕ) (n : ℕ) (t : List ℕ) : Type 0 where
   pub size : length nodes ≡ n
   pub room : Room n t
 
--- only words of the columns from a up to b have changed
-pub record Confined (a b n : ℕ) (t t′ : List ℕ) : Type 0 where
-  pub long : length t′ ≡ length t
-  pub front : (k : ℕ) → k < a * n → getD t′ k 0 ≡ getD t k 0
-  pub behind : (k : ℕ) → b * n ≤ k → getD t′ k 0 ≡ getD t k 0
-
 -- work in the columns behind the tree's own: the tree stays, and all behind the table too
 abbrev pub Worked : ℕ → List ℕ → List ℕ → Type 0
-Worked n t t′ = Confined RANK COLUMNS n t t′
+Worked n t t′ = Within n RANK COLUMNS t t′
 
 -- ── Ranks ──
 pub record Ranked (ns : List Node) (t : List ℕ) : Type 0 where

@@ -7,14 +7,8 @@ use lib.ListN.{length}
 use Rattle.document_spec.specs.Library.{Node, at}
 use Rattle.document_spec.specs.Binary.{textOf}
 use Rattle.document_spec.specs.Intervals.{End}
-use Rattle.table.specs.Table.{RANK, NONE, word}
-use Rattle.ranks.specs.Ranks.{Confined}
-
-abbrev pub FIRST-TEXT : ℕ
-FIRST-TEXT = 7
-
-abbrev pub LAST-TEXT : ℕ
-LAST-TEXT = 8
+use Rattle.layout.specs.Table.{RANK}
+use Rattle.layout.specs.Words.{NONE, word, Within}
 
 -- ── The nodes from a up to b ──
 -- none of them has text
@@ -53,4 +47,4 @@ Told ns n i t = (v : ℕ) → i ≤ v → v < n → (e : ℕ) → End ns v e →
 
 -- nothing but the columns of the ranks and of the order has changed, which are before these
 abbrev pub Arranged : ℕ → List ℕ → List ℕ → Type 0
-Arranged n t t′ = Confined RANK FIRST-TEXT n t t′
+Arranged n t t′ = Within n RANK FIRST-TEXT t t′

@@ -8,7 +8,7 @@ use lib.Seq.{slice}
 use Rattle.document_spec.specs.Library.{Node, element, at}
 use Rattle.document_spec.specs.Binary.{textOf, stringOf}
 use Rattle.document_spec.specs.Intervals.{texts}
-use Rattle.table.specs.Table.{NONE}
+use Rattle.layout.specs.Words.{NONE}
 use Rattle.values.specs.Comes.{Comes}
 use Rattle.ranks.specs.Texts.{Content, Bounds}
 use Rattle.ranks.specs.declared.comparison.Value.{Value}

@@ -1,8 +1,8 @@
 // The order of the string values of two nodes. Where both begin at the same node they need not be read: then one begins with the other, and how far they go decides.
 use crate::notes::get_note;
+use layout::Table;
+use layout::words::offset;
 use limits::Scratch;
-use table::table::Table;
-use table::table::offset;
 use values::order::Order;
 use values::order::compare;
 use values::reading::Reading;

@@ -7,8 +7,9 @@ use crate::texts::gather;
 use crate::texts::inside;
 use crate::texts::own;
 use document::entries::read_entry;
-use table::table::offset;
-use table::table::put;
+use layout::Ranking;
+use layout::words::offset;
+use layout::words::put;
 ghost use mathlib.Core.List.{List};
 ghost use Prim.Native.Nat.{suc, _<_};
 ghost use Rattle.document_spec.specs.Library as Library;
@@ -42,8 +43,8 @@ fn mark(s: &[u8], t: &mut [u16], n: usize, v: usize)
 {
     let m = look(s, t, n, v);
     let x = m.texts;
-    put(t, n, Texts::FIRST, v, x.first);
-    put(t, n, Texts::LAST, v, x.last);
+    put(t, n, Ranking::FIRST_TEXT, v, x.first);
+    put(t, n, Ranking::LAST_TEXT, v, x.last);
     put_note(t, n, v, m.note);
 }
 

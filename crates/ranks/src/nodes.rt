@@ -1,5 +1,5 @@
 // The string value of a node, found through the table of the tree.
-use table::table::offset;
+use layout::words::offset;
 use values::reading::Reading;
 use values::reading::open;
 ghost use mathlib.Core.List.{List};

@@ -2,10 +2,11 @@
 use crate::texts::Texts;
 use document::entries::Entry;
 use document::rules::Kind;
+use layout::Ranking;
+use layout::Table;
+use layout::words::get;
+use layout::words::put;
 use limits::Scratch;
-use table::table::Table;
-use table::table::get;
-use table::table::put;
 ghost use mathlib.Core.List.{List};
 ghost use mathlib.Core.Path.{_≡_};
 ghost use Prim.Native.Nat.{ℕ, suc, _<_};
@@ -15,18 +16,10 @@ ghost use Rattle.document_spec.specs.Library.{at};
 ghost use Rattle.document_spec.specs.Binary.{stringOf};
 ghost use Rattle.document_spec.specs.Verdict.{Accepts};
 ghost use Rattle.document.specs.Entries.{IsEntry};
-ghost use Rattle.table.specs.Table.{Room, Wrote};
+ghost use Rattle.layout.specs.Table.{Room};
+ghost use Rattle.layout.specs.Words.{Wrote};
 ghost use Rattle.ranks.specs.Values.{Inner, Inside};
 ghost use Rattle.ranks.specs.Notes.{noteAt, noted, Words, Valued, Marked};
-
-// The columns of a note.
-const FIRST: usize = 9;
-
-const LOW: usize = 10;
-
-const HIGH: usize = 11;
-
-const LENGTH: usize = 12;
 
 // The node where a value begins, or no node for an element without text. If its bytes lie in one span: the two words of the offset where they start, and their number.
 // The value of an element with several texts has no length, and in the place of the offset stand the element's depth and the last node with text.
@@ -43,10 +36,10 @@ pub fn get_note(t: &[u16], n: usize, v: usize) -> Note
     ensures { λ r. ⌜ (r ≡ noteAt (now (t .entry)) n v) × Words r ⌝ }
 {
     Note {
-        first: get(t, n, FIRST, v),
-        low: get(t, n, LOW, v),
-        high: get(t, n, HIGH, v),
-        length: get(t, n, LENGTH, v),
+        first: get(t, n, Ranking::FIRST, v),
+        low: get(t, n, Ranking::LOW, v),
+        high: get(t, n, Ranking::HIGH, v),
+        length: get(t, n, Ranking::LENGTH, v),
     }
 }
 
@@ -55,10 +48,10 @@ pub fn put_note(t: &mut [u16], n: usize, v: usize, x: Note)
     requires { ⌜ (v < n) × Room n (now t) × Words x ⌝ }
     ensures { λ _. ⌜ Wrote (noted n v x) (now (t .entry)) (now (t .exit)) ⌝ }
 {
-    put(t, n, FIRST, v, x.first);
-    put(t, n, LOW, v, x.low);
-    put(t, n, HIGH, v, x.high);
-    put(t, n, LENGTH, v, x.length);
+    put(t, n, Ranking::FIRST, v, x.first);
+    put(t, n, Ranking::LOW, v, x.low);
+    put(t, n, Ranking::HIGH, v, x.high);
+    put(t, n, Ranking::LENGTH, v, x.length);
 }
 
 // Of node `v` that is text or an attribute: its own value.

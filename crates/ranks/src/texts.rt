@@ -1,10 +1,11 @@
 // Where the text under each node of the binary tree begins and ends, in two columns: all text under a node stands between them, so nodes with the same two have the same text.
 use document::entries::Entry;
 use document::rules::Kind;
-use table::table::Table;
-use table::table::get;
-use table::table::left;
-use table::table::right;
+use layout::Ranking;
+use layout::Table;
+use layout::words::get;
+use layout::words::left;
+use layout::words::right;
 ghost use mathlib.Core.List.{List};
 ghost use mathlib.Core.Logic.{_⊎_, _≢_};
 ghost use mathlib.Core.Path.{_≡_};
@@ -14,7 +15,8 @@ ghost use Rattle.document_spec.specs.Library as Library;
 ghost use Rattle.document_spec.specs.Verdict.{Accepts};
 ghost use Rattle.document_spec.specs.Intervals.{End};
 ghost use Rattle.document.specs.Entries.{IsEntry};
-ghost use Rattle.table.specs.Table.{NONE, Room};
+ghost use Rattle.layout.specs.Table.{Room};
+ghost use Rattle.layout.specs.Words.{NONE};
 ghost use Rattle.ranks.specs.Texts.{Bounds, Extent, Told};
 ghost use Rattle.ranks.specs.Values.{Inner};
 ghost use Rattle.ranks.specs.Notes.{Marked};
@@ -23,13 +25,6 @@ ghost use Rattle.ranks.specs.Notes.{Marked};
 pub struct Texts {
     pub first: usize,
     pub last: usize,
-}
-
-impl Texts {
-    // The columns of the first and of the last text.
-    pub const FIRST: usize = 7;
-
-    pub const LAST: usize = 8;
 }
 
 // No text.
@@ -87,8 +82,8 @@ fn under(t: &[u16], n: usize, v: usize) -> Texts
         return silence();
     }
     Texts {
-        first: get(t, n, Texts::FIRST, v),
-        last: get(t, n, Texts::LAST, v),
+        first: get(t, n, Ranking::FIRST_TEXT, v),
+        last: get(t, n, Ranking::LAST_TEXT, v),
     }
 }
 

@@ -7,8 +7,8 @@ use native.Mathlib.Decide.{ℕ-discrete}
 use native.Mathlib.Omega.{arith}
 use Rattle.bits.specs.Sets.{bit}
 use Rattle.bits.proofs.SetLaws.{bit-none}
-use Rattle.table.specs.Table.{cell, word, Wrote}
-use Rattle.machine.specs.Part.{SEEN, Space}
+use Rattle.layout.specs.Part.{SEEN, Space}
+use Rattle.layout.specs.Words.{cell, word, Wrote}
 use Rattle.reach.specs.Work.{Seen, Cleared, Work}
 
 pub cleared-none : (n : ℕ) (p : List ℕ) → Cleared n 0 p p

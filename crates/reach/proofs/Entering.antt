@@ -10,8 +10,8 @@ use lib.Count.{trailingZeros}
 use borrow.Author.Tests.{not-true}
 use Rattle.bits.specs.Sets.{bit, or, and, size}
 use Rattle.bits.proofs.SetLaws.{bit-none, size-le}
-use Rattle.table.specs.Table.{cell, word, Wrote}
-use Rattle.machine.specs.Part.{SEEN, NODES, POSITIONS}
+use Rattle.layout.specs.Part.{SEEN, NODES, POSITIONS}
+use Rattle.layout.specs.Words.{cell, word, Wrote}
 use Rattle.reach.specs.Work.{Seen, Has, nodeOf, total, Work, Added, At, entered}
 use Rattle.matrices.proofs.Members.{or-cases, or-left, or-right, and-both, and-parts, lowest, size-less}
 use Rattle.reach.proofs.Totals.{total-room, total-more}

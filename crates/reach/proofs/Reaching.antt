@@ -9,7 +9,7 @@ use native.Mathlib.Omega.{arith}
 use lib.ListN.{length, getD}
 use Rattle.bits.specs.Sets.{bit, or, is}
 use Rattle.machine.specs.declared.Machine.{Machine}
-use Rattle.machine.specs.Part.{SEEN}
+use Rattle.layout.specs.Part.{SEEN}
 use Rattle.machine.specs.Walks.{Leads, Walk, here, on}
 use Rattle.machine.proofs.Walking.{walk-inside}
 use Rattle.reach.specs.Reached.{Reached}

@@ -5,9 +5,10 @@ use mathlib.Core.Bool.{true}
 use mathlib.Core.Logic.{_⊎_, inl, inr, ⊎-elim, ⊎-map, _↔_}
 use mathlib.Core.List.{List}
 use Rattle.bits.specs.Sets.{bit, or, and}
-use Rattle.table.specs.Table.{LEFT, RIGHT, PARENT, word}
+use Rattle.layout.specs.Part.{STAYS}
+use Rattle.layout.specs.Table.{LEFT, RIGHT, PARENT}
+use Rattle.layout.specs.Words.{word}
 use Rattle.machine.specs.declared.Machine.{Machine}
-use Rattle.machine.specs.Part.{STAYS}
 use Rattle.machine.specs.Walks.{Leads, left, right, fromLeft, fromRight, stays}
 use Rattle.reach.specs.Work.{Added, At, Climbs, Onward}
 use Rattle.matrices.proofs.Members.{or-cases, or-left, or-right, and-both, and-parts}

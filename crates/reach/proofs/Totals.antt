@@ -7,8 +7,8 @@ use native.Mathlib.Nat.{le-of-suc-le-suc, eq-or-lt-of-le}
 use native.Mathlib.Omega.{arith}
 use Rattle.bits.specs.Sets.{size}
 use Rattle.bits.proofs.SetLaws.{size-le}
-use Rattle.table.specs.Table.{word}
-use Rattle.machine.specs.Part.{SEEN}
+use Rattle.layout.specs.Part.{SEEN}
+use Rattle.layout.specs.Words.{word}
 use Rattle.reach.specs.Work.{total, Work}
 
 pub total-le : (p : List ℕ) (n v : ℕ) → total p n v ≤ 16 * v

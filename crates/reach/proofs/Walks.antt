@@ -6,9 +6,10 @@ use mathlib.Core.List.{List}
 use native.Mathlib.Omega.{arith}
 use lib.ListN.{getD}
 use Rattle.bits.specs.Sets.{bit}
-use Rattle.table.specs.Table.{LEFT, cell}
+use Rattle.layout.specs.Part.{STAYS, SEEN}
+use Rattle.layout.specs.Table.{LEFT}
+use Rattle.layout.specs.Words.{cell}
 use Rattle.machine.specs.declared.Machine.{Machine}
-use Rattle.machine.specs.Part.{STAYS, SEEN}
 use Rattle.machine.specs.Walks.{Leads, left, right, fromLeft, fromRight, stays, Walk, here, on}
 use Rattle.machine.proofs.Walking.{walk-inside}
 

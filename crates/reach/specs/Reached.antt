@@ -7,9 +7,9 @@ use mathlib.Core.List.{List}
 use lib.ListN.{length, getD}
 use Rattle.limits.specs.Limits.{positions}
 use Rattle.bits.specs.Sets.{bit}
-use Rattle.table.specs.Table.{word}
+use Rattle.layout.specs.Part.{SEEN}
+use Rattle.layout.specs.Words.{word}
 use Rattle.machine.specs.declared.Machine.{Machine}
-use Rattle.machine.specs.Part.{SEEN}
 use Rattle.machine.specs.Walks.{Walk}
 
 -- the column says what i at v comes to, and all before it is as it was

@@ -7,9 +7,10 @@ use mathlib.Core.List.{List, [], _∷_}
 use lib.ListN.{length, getD}
 use Rattle.limits.specs.Limits.{positions}
 use Rattle.bits.specs.Sets.{bit, size}
-use Rattle.table.specs.Table.{LEFT, RIGHT, cell, word}
+use Rattle.layout.specs.Part.{SEEN, NODES, POSITIONS, Space}
+use Rattle.layout.specs.Table.{LEFT, RIGHT}
+use Rattle.layout.specs.Words.{cell, word}
 use Rattle.machine.specs.declared.Machine.{Machine}
-use Rattle.machine.specs.Part.{SEEN, NODES, POSITIONS, Space}
 use Rattle.machine.specs.Walks.{Leads}
 
 -- position j is seen at node u

@@ -2,18 +2,19 @@
 use crate::list::add;
 use bits::meet;
 use bits::union;
+use layout::Part;
+use layout::Table;
+use layout::words::get;
 use machine::Machine;
-use machine::Part;
 use matrices::followers::followers;
-use table::table::Table;
-use table::table::get;
 ghost use mathlib.Core.Path.{_≡_};
 ghost use mathlib.Core.Bool.{true};
 ghost use mathlib.Core.Logic.{_↔_};
 ghost use Prim.Native.Nat.{ℕ, _<_};
 ghost use Rattle.bits.specs.Sets.{bit};
-ghost use Rattle.table.specs.Table.{COLUMNS, Room, word};
-ghost use Rattle.machine.specs.Part.{Space};
+ghost use Rattle.layout.specs.Part.{Space};
+ghost use Rattle.layout.specs.Table.{COLUMNS, Room};
+ghost use Rattle.layout.specs.Words.{word};
 ghost use Rattle.reach.specs.Work.{Work, Added, Climbs, Onward, After};
 
 // The set `w` if `v` stands in column `c` of node `u`, and else the empty set.

@@ -9,7 +9,7 @@ use list::clear;
 use machine::Machine;
 ghost use Prim.Native.Nat.{_<_};
 ghost use Rattle.limits.specs.Limits.{positions};
-ghost use Rattle.machine.specs.Part.{Space};
+ghost use Rattle.layout.specs.Part.{Space};
 ghost use Rattle.reach.specs.Reached.{Reached};
 
 // What `i` at node `v` comes to, at every node.

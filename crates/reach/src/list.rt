@@ -1,12 +1,12 @@
 // The work list: its entries are never taken off, since each of them makes one more position seen somewhere, and so 16 for each node are enough.
 use bits::union;
-use machine::Part;
+use layout::Part;
+use layout::words::put;
 use matrices::sets::without;
-use table::table::put;
 ghost use Prim.Native.Nat.{_*_, _<_};
 ghost use Rattle.limits.specs.Limits.{positions};
-ghost use Rattle.table.specs.Table.{Wrote};
-ghost use Rattle.machine.specs.Part.{Space};
+ghost use Rattle.layout.specs.Part.{Space};
+ghost use Rattle.layout.specs.Words.{Wrote};
 ghost use Rattle.reach.specs.Work.{Work, Added, At, Cleared, entered};
 
 // Nothing is seen anywhere.

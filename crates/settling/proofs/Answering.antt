@@ -7,9 +7,9 @@ use native.Mathlib.Nat.{eq-or-lt-of-le}
 use native.Mathlib.Omega.{arith}
 use lib.ListN.{getD}
 use Rattle.bits.specs.Sets.{bit, one}
-use Rattle.table.specs.Table.{PARENT, cell, word, Wrote}
-use Rattle.machine.specs.Part.{ANSWER}
-use Rattle.settling.specs.Derived.{pairAt}
+use Rattle.layout.specs.Part.{ANSWER, pairAt}
+use Rattle.layout.specs.Table.{PARENT}
+use Rattle.layout.specs.Words.{cell, word, Wrote}
 use Rattle.settling.specs.Growing.{Ready, Answering}
 
 -- a word that is known as another number

@@ -11,14 +11,13 @@ use Rattle.xpath.specs.Syntax.{XPath, compare, eq}
 use Rattle.xpath.specs.Tree.{Tree}
 use Rattle.xpath.specs.Meaning.{Holds}
 use Rattle.snippets.specs.Snippets.{Yielded}
-use Rattle.table.specs.Table.{word}
+use Rattle.layout.specs.Part.{ANSWER, pairAt}
+use Rattle.layout.specs.Words.{word}
 use Rattle.machine.specs.declared.Machine.{Machine}
-use Rattle.machine.specs.Part.{ANSWER}
 use Rattle.loops.specs.Loops.{Stage, Loops}
 use Rattle.loops.proofs.Sides.{parent-before}
 use Rattle.powers.specs.Powers.{Powers}
 use Rattle.settling.specs.Pairs.{Settles}
-use Rattle.settling.specs.Derived.{pairAt}
 use Rattle.settling.specs.Growing.{Ready, Framed, Started, Grown, Met, Everywhere, Still, Answering}
 use Rattle.settling.specs.Settled.{Marked, Settled}
 use Rattle.settling.proofs.Settling.{settles-holds}

@@ -4,11 +4,12 @@ use mathlib.Core.Path.{_≡_, refl, sym, _∙_, subst}
 use mathlib.Core.Logic.{_⊎_, inl, inr}
 use mathlib.Core.List.{List}
 use native.Mathlib.Omega.{arith}
-use Rattle.table.specs.Table.{PARENT, word}
+use Rattle.layout.specs.Blocks.{snippetAt}
+use Rattle.layout.specs.Part.{loopAt}
+use Rattle.layout.specs.Table.{PARENT}
+use Rattle.layout.specs.Words.{word}
 use Rattle.matrices.specs.Matrices.{Before}
-use Rattle.loops.specs.Loops.{loopAt}
 use Rattle.loops.proofs.Kept.{word-kept}
-use Rattle.powers.specs.Powers.{snippetAt}
 use Rattle.settling.specs.Derived.{Sees, LeadsOver, EndsAt, Derived}
 use Rattle.settling.specs.Growing.{Ready, Framed}
 use Rattle.settling.proofs.Widening.{SameAt, related-same, meets-same}

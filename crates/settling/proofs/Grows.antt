@@ -8,7 +8,8 @@ use native.Mathlib.Omega.{arith}
 use lib.ListN.{getD}
 use Rattle.matrices.specs.Matrices.{Related, Drawing, pairs}
 use Rattle.matrices.proofs.Pairs.{pairs-same, pairs-split}
-use Rattle.settling.specs.Derived.{pairAt, Derived}
+use Rattle.layout.specs.Part.{pairAt}
+use Rattle.settling.specs.Derived.{Derived}
 use Rattle.settling.specs.Growing.{Framed, Held, Ended, Grown, total}
 use Rattle.settling.proofs.Widening.{SameAt, related-same}
 use Rattle.settling.proofs.Framing.{framed-none, framed-then, framed-back, ends-kept, derived-kept}

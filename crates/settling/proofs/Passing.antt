@@ -6,12 +6,14 @@ use mathlib.Core.Bool.{false}
 use mathlib.Core.List.{List}
 use native.Mathlib.Nat.{eq-or-lt-of-le}
 use native.Mathlib.Omega.{arith}
-use Rattle.table.specs.Table.{PARENT, word}
+use Rattle.layout.specs.Blocks.{downAt, upAt}
+use Rattle.layout.specs.Part.{pairAt}
+use Rattle.layout.specs.Table.{PARENT}
+use Rattle.layout.specs.Words.{word}
 use Rattle.matrices.specs.Matrices.{Related}
 use Rattle.matrices.proofs.Pairs.{pairs-le}
 use Rattle.loops.specs.Growing.{Widening}
-use Rattle.powers.specs.Powers.{downAt, upAt}
-use Rattle.settling.specs.Derived.{pairAt, Over, LeadsOver, Derived}
+use Rattle.settling.specs.Derived.{Over, LeadsOver, Derived}
 use Rattle.settling.specs.Growing.{Ready, Widened, total, Passed, Rises, Falls, Everywhere, Still}
 use Rattle.settling.proofs.Grows.{grown-none, grown-then, drawn-grown, drawn-count}
 

@@ -11,15 +11,18 @@ use Rattle.xpath.specs.Tree.{Tree, Child, Down}
 use Rattle.xpath.proofs.Trees.{child-after}
 use Rattle.positions.specs.Positions.{Comes, Ends}
 use Rattle.snippets.proofs.Edges.{comes-few}
-use Rattle.table.specs.Table.{LEFT, PARENT, word}
+use Rattle.layout.specs.Blocks.{downAt, upAt, snippetAt}
+use Rattle.layout.specs.Part.{loopAt, pairAt}
+use Rattle.layout.specs.Table.{LEFT, PARENT}
+use Rattle.layout.specs.Words.{word}
 use Rattle.matrices.specs.Matrices.{Related, Before}
 use Rattle.machine.specs.declared.Machine.{Machine}
 use Rattle.machine.proofs.Walking.{child-inside, parent-word}
-use Rattle.loops.specs.Loops.{Stage, loopAt, Loops}
+use Rattle.loops.specs.Loops.{Stage, Loops}
 use Rattle.loops.proofs.Sides.{side-child}
-use Rattle.powers.specs.Powers.{Powers, downAt, upAt, snippetAt}
+use Rattle.powers.specs.Powers.{Powers}
 use Rattle.settling.specs.Pairs.{Meets, Settles, Closed}
-use Rattle.settling.specs.Derived.{pairAt, MeetsBy, Sees, LeadsOver, Derived}
+use Rattle.settling.specs.Derived.{MeetsBy, Sees, LeadsOver, Derived}
 use Rattle.settling.specs.Growing.{Framed, Ended, Held, Met, Everywhere, Still}
 use Rattle.settling.specs.Settled.{Marked}
 use Rattle.settling.proofs.Settling.{settles-before, closed-settles}

@@ -6,13 +6,14 @@ use mathlib.Core.Bool.{true, false}
 use mathlib.Core.List.{List}
 use native.Mathlib.Nat.{eq-or-lt-of-le}
 use native.Mathlib.Omega.{arith}
-use Rattle.table.specs.Table.{PARENT, word}
+use Rattle.layout.specs.Blocks.{downAt, upAt, snippetAt}
+use Rattle.layout.specs.Part.{loopAt, pairAt}
+use Rattle.layout.specs.Table.{PARENT}
+use Rattle.layout.specs.Words.{word}
 use Rattle.matrices.specs.Matrices.{Related, Apart, Drawing}
 use Rattle.matrices.proofs.Drawing.{apart-same}
-use Rattle.loops.specs.Loops.{loopAt}
 use Rattle.loops.specs.Growing.{Widening}
-use Rattle.powers.specs.Powers.{downAt, upAt, snippetAt}
-use Rattle.settling.specs.Derived.{pairAt, Turned, Over, MeetsBy, Sees, Derived}
+use Rattle.settling.specs.Derived.{Turned, Over, MeetsBy, Sees, Derived}
 use Rattle.settling.specs.Growing.{Ready, Widened, Planted, Grown, Met, Everywhere}
 use Rattle.settling.proofs.Widening.{SameAt, turned-same, over-same, meets-same}
 use Rattle.settling.proofs.Framing.{Outside, framed-then, framed-same, framed-back, framed-parent, sees-kept, sees-outside, snippet-outside}

@@ -8,8 +8,8 @@ use native.Mathlib.Nat.{eq-or-lt-of-le}
 use native.Mathlib.Omega.{arith}
 use Rattle.bits.specs.Sets.{bit}
 use Rattle.matrices.specs.Matrices.{Related, Before, Drawing}
-use Rattle.loops.specs.Loops.{loopAt}
-use Rattle.settling.specs.Derived.{pairAt, EndsAt, Derived}
+use Rattle.layout.specs.Part.{loopAt, pairAt}
+use Rattle.settling.specs.Derived.{EndsAt, Derived}
 use Rattle.settling.specs.Growing.{Square, Framed, Started}
 use Rattle.settling.proofs.Widening.{SameAt, related-same}
 use Rattle.settling.proofs.Framing.{framed-none, framed-then, framed-back, ends-kept, derived-kept}

@@ -5,15 +5,11 @@ use mathlib.Core.Logic.{_⊎_}
 use mathlib.Core.Bool.{Bool, true, false}
 use mathlib.Core.List.{List}
 use Rattle.limits.specs.Limits.{positions}
-use Rattle.table.specs.Table.{PARENT, word}
+use Rattle.layout.specs.Blocks.{downAt, upAt, snippetAt}
+use Rattle.layout.specs.Part.{loopAt, PAIRS}
+use Rattle.layout.specs.Table.{PARENT}
+use Rattle.layout.specs.Words.{word}
 use Rattle.matrices.specs.Matrices.{Related, Before}
-use Rattle.loops.specs.Loops.{loopAt}
-use Rattle.powers.specs.Powers.{downAt, upAt, snippetAt}
-use Rattle.machine.specs.Part.{PAIRS}
-
--- behind the loops: the pairs of node v, a position of the first path to a row and those of the second in it
-abbrev pub pairAt : ℕ → ℕ → ℕ
-pairAt n v = PAIRS * n + positions * v
 
 -- the matrix at an offset, from row to column or back
 abbrev pub Turned : Bool → List ℕ → ℕ → ℕ → ℕ → Type 0

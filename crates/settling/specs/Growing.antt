@@ -7,11 +7,12 @@ use mathlib.Core.List.{List}
 use lib.ListN.{length, getD}
 use Rattle.limits.specs.Limits.{documentNodes, positions}
 use Rattle.bits.specs.Sets.{bit, one}
-use Rattle.table.specs.Table.{PARENT, word}
-use Rattle.machine.specs.Part.{ANSWER, PAIRS, REST}
+use Rattle.layout.specs.Blocks.{downAt, upAt, snippetAt}
+use Rattle.layout.specs.Part.{ANSWER, PAIRS, REST, pairAt}
+use Rattle.layout.specs.Table.{PARENT}
+use Rattle.layout.specs.Words.{word}
 use Rattle.matrices.specs.Matrices.{Related, pairs}
-use Rattle.powers.specs.Powers.{downAt, upAt, snippetAt}
-use Rattle.settling.specs.Derived.{pairAt, Turned, Over, MeetsBy, Sees, EndsAt, Derived}
+use Rattle.settling.specs.Derived.{Turned, Over, MeetsBy, Sees, EndsAt, Derived}
 
 -- the part has room for the matrices of exponent 0, and each node but the root has its parent before it
 pub record Ready (n : ℕ) (p : List ℕ) : Type 0 where

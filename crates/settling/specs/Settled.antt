@@ -8,12 +8,13 @@ use lib.ListN.{length, getD}
 use Rattle.limits.specs.Limits.{positions}
 use Rattle.xpath.specs.Syntax.{XPath}
 use Rattle.xpath.specs.Tree.{Tree, Child}
-use Rattle.table.specs.Table.{word}
+use Rattle.layout.specs.Blocks.{snippetAt}
+use Rattle.layout.specs.Part.{ANSWER, PAIRS, REST}
+use Rattle.layout.specs.Words.{word}
 use Rattle.matrices.specs.Matrices.{Related}
 use Rattle.machine.specs.declared.Machine.{Machine}
-use Rattle.machine.specs.Part.{ANSWER, PAIRS, REST}
 use Rattle.loops.specs.Loops.{Stage, Loops}
-use Rattle.powers.specs.Powers.{Powers, snippetAt}
+use Rattle.powers.specs.Powers.{Powers}
 use Rattle.settling.specs.Pairs.{Settles}
 
 -- the words have a snippet of power 0 from x down to its child y: i at x and j at y

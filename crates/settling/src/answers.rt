@@ -1,17 +1,16 @@
 // The answers: whether the two starts are a pair of the node.
-use crate::place::pair_at;
 use bits::has;
-use machine::Part;
-use table::table::put;
+use layout::Part;
+use layout::places::pair_at;
+use layout::words::put;
 ghost use mathlib.Core.Path.{_≡_};
 ghost use mathlib.Core.List.{[], _∷_};
 ghost use Prim.Native.Nat.{_≤_, _<_};
 ghost use Rattle.limits.specs.Limits.{positions};
 ghost use Rattle.bits.specs.Sets.{bit, one};
 ghost use lib.ListN.{getD};
-ghost use Rattle.table.specs.Table.{cell, Wrote};
-ghost use Rattle.machine.specs.Part.{ANSWER};
-ghost use Rattle.settling.specs.Derived.{pairAt};
+ghost use Rattle.layout.specs.Part.{ANSWER, pairAt};
+ghost use Rattle.layout.specs.Words.{cell, Wrote};
 ghost use Rattle.settling.specs.Growing.{Ready, Answering};
 
 // 1 if `w` has `b`, and else 0.

@@ -1,10 +1,10 @@
 // Pairs spread over the edges, in rounds over all nodes.
-use crate::place::down_at;
-use crate::place::pair_at;
-use crate::place::up_at;
 use crate::widen::widen;
-use table::table::Table;
-use table::table::get;
+use layout::Table;
+use layout::places::down_at;
+use layout::places::pair_at;
+use layout::places::up_at;
+use layout::words::get;
 ghost use Prim.Native.Nat.{_<_};
 ghost use Rattle.settling.specs.Growing.{Ready, Grown, Passed, Rises, Falls, Everywhere, Still};
 

@@ -1,13 +1,13 @@
 // The pairs that meet a snippet from an end of its edge.
-use crate::place::down_at;
-use crate::place::loop_at;
-use crate::place::pair_at;
-use crate::place::snippet_at;
-use crate::place::up_at;
 use crate::widen::widen;
+use layout::Table;
+use layout::places::down_at;
+use layout::places::loop_at;
+use layout::places::pair_at;
+use layout::places::snippet_at;
+use layout::places::up_at;
+use layout::words::get;
 use matrices::is_empty;
-use table::table::Table;
-use table::table::get;
 ghost use Prim.Native.Nat.{_+_, _≤_, _<_};
 ghost use lib.ListN.{length};
 ghost use Rattle.limits.specs.Limits.{positions};

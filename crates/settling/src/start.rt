@@ -1,7 +1,7 @@
 // The pairs at the start: both end at the node itself.
-use crate::place::loop_at;
-use crate::place::pair_at;
 use bits::has;
+use layout::places::loop_at;
+use layout::places::pair_at;
 use limits::Rule;
 use matrices::before;
 ghost use mathlib.Core.Path.{_≡_};
@@ -12,7 +12,8 @@ ghost use lib.ListN.{length};
 ghost use Rattle.limits.specs.Limits.{positions};
 ghost use Rattle.bits.specs.Sets.{bit};
 ghost use Rattle.matrices.specs.Matrices.{Drawing};
-ghost use Rattle.settling.specs.Derived.{pairAt, EndsAt};
+ghost use Rattle.layout.specs.Part.{pairAt};
+ghost use Rattle.settling.specs.Derived.{EndsAt};
 ghost use Rattle.settling.specs.Growing.{Ready, Square, Started};
 
 // The set `w` if it has `a`, and else the empty set.

@@ -9,7 +9,8 @@ use Rattle.xpath.specs.Tree.{Tree, Child, Under}
 use Rattle.xpath.proofs.Trees.{child-after}
 use Rattle.snippets.specs.Snippets.{Skeleton}
 use Rattle.snippets.proofs.Nearest.{Climbed, climbed-none, climbed-step, climbed-top, edge-iff}
-use Rattle.table.specs.Table.{PARENT, NONE, word}
+use Rattle.layout.specs.Table.{PARENT}
+use Rattle.layout.specs.Words.{NONE, word}
 use Rattle.skeletons.specs.Shape.{Shape}
 use Rattle.skeletons.specs.Skeletons.{Group, Arrives, Ascent}
 use Rattle.skeletons.proofs.Shape.{parent-case}

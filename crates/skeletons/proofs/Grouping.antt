@@ -12,12 +12,14 @@ use Rattle.xpath.proofs.Trees.{one-parent, child-after}
 use Rattle.snippets.specs.Snippets.{Has, Skeleton}
 use Rattle.snippets.specs.Marks.{Marked}
 use Rattle.snippets.proofs.Marks.{BothMarked, skeleton-iff, skeleton-inside}
-use Rattle.table.specs.Table.{RANK, word}
+use Rattle.layout.specs.Groups.{FIRST, NEXT, MARKED}
+use Rattle.layout.specs.Table.{RANK}
+use Rattle.layout.specs.Words.{word, Within, Filled}
+use Rattle.layout.proofs.Frames.{within-none, within-then, before-within}
 use Rattle.table.specs.Links.{Points}
-use Rattle.skeletons.specs.Shape.{Shape, Within}
-use Rattle.skeletons.specs.Skeletons.{FIRST, NEXT, MARKED, IsMarked, IsNoted, Least, Buckets, Ranks, Group, Grouped}
-use Rattle.skeletons.specs.Steps.{Filled, Closed, Joined}
-use Rattle.skeletons.proofs.Within.{within-none, within-then, before-within}
+use Rattle.skeletons.specs.Shape.{Shape}
+use Rattle.skeletons.specs.Skeletons.{IsMarked, IsNoted, Least, Buckets, Ranks, Group, Grouped}
+use Rattle.skeletons.specs.Steps.{Closed, Joined}
 use Rattle.skeletons.proofs.Shape.{shape-within, ranks-within, parent-of}
 
 -- ── The bucket ──
@@ -62,7 +64,7 @@ pub record Grouping (n r w : ℕ) (p₀ p : List ℕ) : Type 0 where
 pub grouping-none : {n r w : ℕ} {p p₀ : List ℕ} → r < n → Filled n MARKED 0 n p p₀ → Buckets n p₀ → w ≡ word p₀ n FIRST r → Grouping n r w p₀ p₀
 grouping-none {n} {r} {p₀ = p₀} l f b e =
     record {
-      within = within-none n MARKED (suc MARKED) p₀;
+      within = within-none p₀;
       closed = record { up = λ u i a. absurd (bare u i a); forked = λ x a b l k. absurd (bare a (k .one .0) (k .one .1)) };
       from = 0;
       here = subst (λ x. Points (Least n p₀ 0 r) x) (sym e) (b .first r l);

@@ -9,8 +9,10 @@ use Rattle.xpath.specs.Tree.{Tree, Child}
 use Rattle.snippets.specs.Snippets.{Has, Skeleton}
 use Rattle.snippets.specs.Marks.{Marked}
 use Rattle.snippets.proofs.Marks.{BothMarked, skeleton-iff}
-use Rattle.table.specs.Table.{LEFT, RIGHT, RANK, column, word}
-use Rattle.skeletons.specs.Skeletons.{MARKED, IsNoted, Group}
+use Rattle.layout.specs.Groups.{MARKED}
+use Rattle.layout.specs.Table.{LEFT, RIGHT, RANK, column}
+use Rattle.layout.specs.Words.{word}
+use Rattle.skeletons.specs.Skeletons.{IsNoted, Group}
 use Rattle.skeletons.specs.Steps.{MarkedNode}
 use Rattle.skeletons.proofs.Shape.{child-word, word-child}
 

@@ -1,6 +1,4 @@
-pub mod Within
 pub mod Shape
-pub mod Filling
 pub mod Bucketing
 pub mod Noting
 pub mod Raising

@@ -4,10 +4,12 @@ use mathlib.Core.Path.{_≡_, sym, ap, _∙_, subst}
 use mathlib.Core.List.{List, [], _∷_}
 use native.Mathlib.Decide.{ℕ-discrete}
 use native.Mathlib.Omega.{arith}
-use Rattle.table.specs.Table.{PARENT, cell, word, Wrote}
-use Rattle.skeletons.specs.Skeletons.{MARKED, IsMarked, IsNoted}
+use Rattle.layout.specs.Groups.{MARKED}
+use Rattle.layout.specs.Table.{PARENT}
+use Rattle.layout.specs.Words.{cell, word, Wrote}
+use Rattle.layout.proofs.Frames.{within-put, before-within}
+use Rattle.skeletons.specs.Skeletons.{IsMarked, IsNoted}
 use Rattle.skeletons.specs.Steps.{Marking, Noting, Fork, Closed}
-use Rattle.skeletons.proofs.Within.{within-put, before-within}
 
 pub marking-put : {n v x : ℕ} {p p′ : List ℕ} → v < n → x ≡ word p n MARKED v → Wrote ((cell n MARKED v, x / 2 * 2 + 1) ∷ []) p p′ → Marking n v p p′
 marking-put {n} {v} {x} {p} {p′} l e w =

@@ -7,11 +7,13 @@ use native.Mathlib.Decide.{ℕ-discrete}
 use native.Mathlib.Omega.{arith}
 use Rattle.xpath.specs.Tree.{Tree, Child, Under}
 use Rattle.xpath.proofs.Trees.{under-refl, under-trans, under-child}
-use Rattle.table.specs.Table.{PARENT, NONE, word}
-use Rattle.skeletons.specs.Shape.{Shape, Within}
-use Rattle.skeletons.specs.Skeletons.{MARKED, IsMarked, IsNoted}
+use Rattle.layout.specs.Groups.{MARKED}
+use Rattle.layout.specs.Table.{PARENT}
+use Rattle.layout.specs.Words.{NONE, word, Within}
+use Rattle.layout.proofs.Frames.{within-none, within-then, before-within}
+use Rattle.skeletons.specs.Shape.{Shape}
+use Rattle.skeletons.specs.Skeletons.{IsMarked, IsNoted}
 use Rattle.skeletons.specs.Steps.{Marking, Noting, Fork, Closed, Raised, Joined}
-use Rattle.skeletons.proofs.Within.{within-none, within-then, before-within}
 use Rattle.skeletons.proofs.Shape.{parent-case, shape-within}
 use Rattle.skeletons.proofs.Noting.{fork-note}
 
@@ -44,7 +46,7 @@ pub raising-none : {n : ℕ} {p : List ℕ} {w : ℕ} → w < n → Closed n p �
 raising-none {n} {p} {w} l c =
     record {
       inside = l;
-      within = within-none n MARKED (suc MARKED) p;
+      within = within-none p;
       up = λ u l a r. inr (c .up u l a r);
       forked = λ x a b l f. inl (c .forked x a b l f);
       grows = λ u l a. a;

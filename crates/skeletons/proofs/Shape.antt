@@ -10,13 +10,17 @@ use Rattle.xpath.specs.Syntax.{Test, XPath, stay}
 use Rattle.xpath.specs.Tree.{Tree, Child, WellFormed}
 use Rattle.xpath.specs.Meaning.{Holds}
 use Rattle.xpath.proofs.Trees.{one-child}
-use Rattle.table.specs.Table.{PARENT, RANK, NONE, column, word}
+use Rattle.layout.specs.Part.{STAYS}
+use Rattle.layout.specs.Table.{PARENT, RANK, column}
+use Rattle.layout.specs.Words.{NONE, word, Within}
+use Rattle.layout.proofs.Frames.{before-within}
 use Rattle.table.specs.Links.{Points}
-use Rattle.machine.specs.Part.{STAYS}
 use Rattle.machine.specs.Meaning.{IsStep, Drawn}
-use Rattle.skeletons.specs.Shape.{Shape, Within}
+use Rattle.skeletons.specs.Shape.{Shape, Small}
 use Rattle.skeletons.specs.Skeletons.{Ranks}
-use Rattle.skeletons.proofs.Within.{before-within, small-within}
+
+pub small-within : {n c d : ℕ} {p p′ : List ℕ} → RANK < c → Within n c d p p′ → Small n p → Small n p′
+small-within l w s v r = let e = before-within w RANK v l r in let h = s v r in omega arith
 
 pub drawn-shape : {P R : XPath} {t : Tree} {n : ℕ} {p : List ℕ} → WellFormed t → Drawn P R t n p → Shape t n p
 drawn-shape wf d = record { formed = wf; size = d .size; few = d .few; children = d .children; parents = d .parents }

@@ -7,7 +7,8 @@ use mathlib.Core.List.{List}
 use lib.ListN.{length, getD}
 use Rattle.limits.specs.Limits.{documentNodes}
 use Rattle.xpath.specs.Tree.{Tree, Child, WellFormed}
-use Rattle.table.specs.Table.{PARENT, RANK, NONE, column, word}
+use Rattle.layout.specs.Table.{PARENT, RANK, column}
+use Rattle.layout.specs.Words.{NONE, word}
 use Rattle.table.specs.Links.{Points}
 
 -- the words hold the links of the tree t, which has n nodes: what `Drawn` says of them
@@ -23,9 +24,3 @@ pub record Shape (t : Tree) (n : ℕ) (p : List ℕ) : Type 0 where
 -- each node's rank is below n
 abbrev pub Small : ℕ → List ℕ → Type 0
 Small n p = (v : ℕ) → v < n → word p n RANK v < n
-
--- only the words of the columns from c up to d, d not among them, may be different
-pub record Within (n c d : ℕ) (p p′ : List ℕ) : Type 0 where
-  pub long : length p′ ≡ length p
-  pub front : (k : ℕ) → k < c * n → getD p′ k 0 ≡ getD p k 0
-  pub behind : (k : ℕ) → d * n ≤ k → getD p′ k 0 ≡ getD p k 0

@@ -7,26 +7,10 @@ use mathlib.Core.List.{List}
 use Rattle.xpath.specs.Tree.{Tree, Child, Under}
 use Rattle.snippets.specs.Snippets.{Skeleton, Edge}
 use Rattle.snippets.specs.Marks.{Marked}
-use Rattle.table.specs.Table.{RANK, NONE, word}
+use Rattle.layout.specs.Table.{RANK}
+use Rattle.layout.specs.Words.{NONE, word, Within}
 use Rattle.table.specs.Links.{Points}
-use Rattle.skeletons.specs.Shape.{Shape, Within}
-
--- ── The columns ──
--- by rank: the first node that has it, or none
-abbrev pub FIRST : ℕ
-FIRST = 9
-
--- the next node of equal rank, or none
-abbrev pub NEXT : ℕ
-NEXT = 10
-
--- two things in one word: an odd one for a node that has a node of the group at or below it, and 2 or 3 for a block of nodes that is noted
-abbrev pub MARKED : ℕ
-MARKED = 11
-
--- the nodes of a block
-abbrev pub BLOCK : ℕ
-BLOCK = 16
+use Rattle.skeletons.specs.Shape.{Shape}
 
 -- ── Groups ──
 -- w is the least node from v on that has the rank r

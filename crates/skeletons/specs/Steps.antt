@@ -4,16 +4,11 @@ use mathlib.Core.Path.{_≡_}
 use mathlib.Core.Logic.{_⊎_, _≢_}
 use mathlib.Core.List.{List, [], _∷_}
 use Rattle.xpath.specs.Tree.{Tree, Under}
-use Rattle.table.specs.Table.{PARENT, RANK, cell, word}
-use Rattle.skeletons.specs.Shape.{Shape, Within}
-use Rattle.skeletons.specs.Skeletons.{FIRST, NEXT, MARKED, IsMarked, IsNoted}
-
-pub record Filled (n c x v : ℕ) (p p′ : List ℕ) : Type 0 where
-  pub inside : v ≤ n
-  -- no other column has changed
-  pub within : Within n c (suc c) p p′
-  -- x stands in column c of the nodes below v
-  pub filled : (u : ℕ) → u < v → word p′ n c u ≡ x
+use Rattle.layout.specs.Groups.{FIRST, NEXT, MARKED}
+use Rattle.layout.specs.Table.{PARENT, RANK}
+use Rattle.layout.specs.Words.{cell, word, Within}
+use Rattle.skeletons.specs.Shape.{Shape}
+use Rattle.skeletons.specs.Skeletons.{IsMarked, IsNoted}
 
 -- what is written for node v: it is the first of its rank, and the node that was the first is next
 abbrev pub entered : ℕ → ℕ → List ℕ → List (ℕ × ℕ)

@@ -1,13 +1,13 @@
 // The marks of a group: a node is marked if it is in the group or has a node of the group below it.
-use crate::Column;
 use crate::blocks::note;
-use crate::fill::fill;
-use table::table::get;
-use table::table::parent;
-use table::table::put;
+use layout::Groups;
+use layout::words::fill;
+use layout::words::get;
+use layout::words::parent;
+use layout::words::put;
 ghost use Prim.Native.Nat.{_<_};
 ghost use Rattle.xpath.specs.Tree.{Tree};
-ghost use Rattle.table.specs.Table.{Room};
+ghost use Rattle.layout.specs.Table.{Room};
 ghost use Rattle.skeletons.specs.Shape.{Shape};
 ghost use Rattle.skeletons.specs.Skeletons.{Buckets, Grouped};
 ghost use Rattle.skeletons.specs.Steps.{Marking, Closed, Raised, Joined};
@@ -17,8 +17,8 @@ fn mark(p: &mut [u16], n: usize, v: usize)
     requires { ⌜ Room n (now p) × (v < n) ⌝ }
     ensures { λ _. ⌜ Marking n v (now (p .entry)) (now (p .exit)) ⌝ }
 {
-    let word = get(p, n, Column::MARKED, v);
-    put(p, n, Column::MARKED, v, word / 2 * 2 + 1);
+    let word = get(p, n, Groups::MARKED, v);
+    put(p, n, Groups::MARKED, v, word / 2 * 2 + 1);
 }
 
 // Node `w` and all above it. What is above a marked node is marked already, so the way up ends there, and no node is marked twice for a group. Only where it ends can two marked children meet, so that node's block is noted.
@@ -28,7 +28,7 @@ fn mark_up(p: &mut [u16], n: usize, w: usize)
 {
     let mut v = w;
     while v < n {
-        if get(p, n, Column::MARKED, v) % 2 == 1 {
+        if get(p, n, Groups::MARKED, v) % 2 == 1 {
             note(p, n, v);
             return;
         }
@@ -51,10 +51,10 @@ pub fn mark_group(p: &mut [u16], n: usize, r: usize)
     requires { ⌜ ((t : Tree) × Shape t n (now p)) × Room n (now p) × Buckets n (now p) × (r < n) ⌝ }
     ensures { λ _. ⌜ Grouped n r (now (p .entry)) (now (p .exit)) ⌝ }
 {
-    fill(p, n, Column::MARKED, 0);
-    let mut w = get(p, n, Column::FIRST, r);
+    fill(p, n, Groups::MARKED, 0);
+    let mut w = get(p, n, Groups::FIRST, r);
     while w < n {
         mark_member(p, n, w);
-        w = get(p, n, Column::NEXT, w);
+        w = get(p, n, Groups::NEXT, w);
     }
 }

@@ -1,12 +1,12 @@
 // The skeleton of a group, by its marks.
 use crate::Climb;
-use crate::Column;
 use crate::blocks::is_empty;
-use table::table::Table;
-use table::table::get;
-use table::table::left;
-use table::table::parent;
-use table::table::right;
+use layout::Groups;
+use layout::Table;
+use layout::words::get;
+use layout::words::left;
+use layout::words::parent;
+use layout::words::right;
 ghost use mathlib.Core.Bool.{true};
 ghost use mathlib.Core.List.{List};
 ghost use mathlib.Core.Logic.{_↔_};
@@ -14,7 +14,7 @@ ghost use mathlib.Core.Path.{_≡_};
 ghost use Prim.Native.Nat.{ℕ, _<_};
 ghost use Rattle.xpath.specs.Tree.{Tree};
 ghost use Rattle.snippets.specs.Snippets.{Skeleton};
-ghost use Rattle.table.specs.Table.{Room};
+ghost use Rattle.layout.specs.Table.{Room};
 ghost use Rattle.skeletons.specs.Shape.{Shape};
 ghost use Rattle.skeletons.specs.Skeletons.{Group, Ascent};
 ghost use Rattle.skeletons.specs.Steps.{MarkedNode};
@@ -25,7 +25,7 @@ fn is_marked(p: &[u16], n: usize, v: usize) -> bool
     ensures { λ r. ⌜ (r ≡ true) ↔ MarkedNode (now (p .entry)) n v ⌝ }
 {
     if v < n {
-        return get(p, n, Column::MARKED, v) % 2 == 1;
+        return get(p, n, Groups::MARKED, v) % 2 == 1;
     }
     false
 }

@@ -7,7 +7,7 @@ use native.Mathlib.Nat.{eq-or-lt-of-le}
 use native.Mathlib.Omega.{arith}
 use lib.ListN.{length, getD, set, length-set}
 use lib.Seq.{getD-set-same, getD-set-other}
-use Rattle.staging.specs.Drawing.{Within}
+use Rattle.layout.specs.Words.{Within}
 
 -- of the m words from a on the first i are written, each as F says, and all words around them are as before
 pub record Drawn (F : ℕ → ℕ → Type 0) (a m i : ℕ) (t t′ : List ℕ) : Type 0 where

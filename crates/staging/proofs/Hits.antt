@@ -8,7 +8,8 @@ use Rattle.xpath.specs.Syntax.{Op}
 use Rattle.xpath.specs.Meaning.{Rel}
 use Rattle.document_spec.specs.Library.{Node}
 use Rattle.document_spec.specs.Binary.{stringOf}
-use Rattle.table.specs.Table.{RANK, cell}
+use Rattle.layout.specs.Table.{RANK}
+use Rattle.layout.specs.Words.{cell}
 use Rattle.rule_parts.specs.declared.kinds.Operator.{Operator}
 use Rattle.rule_parts.specs.Kinds.{operator}
 use Rattle.constants.specs.declared.Place.{Place}

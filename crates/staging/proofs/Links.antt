@@ -5,7 +5,8 @@ use mathlib.Core.List.{List}
 use native.Mathlib.Nat.{mul-le-mul-right, add-mul}
 use native.Mathlib.Omega.{arith}
 use lib.ListN.{getD}
-use Rattle.table.specs.Table.{COLUMNS, LEFT, RANK, word}
+use Rattle.layout.specs.Table.{COLUMNS, LEFT, RANK}
+use Rattle.layout.specs.Words.{word}
 use Rattle.staging.specs.Drawing.{Copied}
 use Rattle.staging.proofs.Drawn.{Drawn, drawn-within}
 

@@ -10,8 +10,9 @@ use lib.ListN.{getD}
 use borrow.Author.Tests.{eq-eqb, ne-eqb}
 use Rattle.bits.specs.Sets.{bit, or, and, is}
 use Rattle.bits.proofs.SetLaws.{bit-none}
-use Rattle.table.specs.Table.{cell}
-use Rattle.test_bits.specs.Columns.{TESTS, held}
+use Rattle.layout.specs.Table.{TESTS}
+use Rattle.layout.specs.Words.{cell}
+use Rattle.test_bits.specs.Columns.{held}
 use Rattle.staging.specs.Drawing.{Stayed}
 use Rattle.staging.proofs.Drawn.{Drawn, drawn-within}
 

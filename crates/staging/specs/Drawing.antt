@@ -11,15 +11,10 @@ use Rattle.xpath.specs.Syntax.{Op}
 use Rattle.xpath.specs.Meaning.{Rel}
 use Rattle.document_spec.specs.Library.{Node}
 use Rattle.document_spec.specs.Binary.{stringOf}
-use Rattle.table.specs.Table.{COLUMNS, LEFT, RANK, word}
+use Rattle.layout.specs.Part.{STAYS, HIT}
+use Rattle.layout.specs.Table.{COLUMNS, LEFT, RANK}
+use Rattle.layout.specs.Words.{word}
 use Rattle.test_bits.specs.Columns.{held}
-use Rattle.machine.specs.Part.{STAYS, HIT}
-
--- only the words of the columns from c up to d may be different
-pub record Within (n c d : ℕ) (t t′ : List ℕ) : Type 0 where
-  pub long : length t′ ≡ length t
-  pub front : (i : ℕ) → i < c * n → getD t′ i 0 ≡ getD t i 0
-  pub behind : (i : ℕ) → d * n ≤ i → getD t′ i 0 ≡ getD t i 0
 
 -- the links and the ranks stand in the part too
 pub record Copied (n : ℕ) (t t′ : List ℕ) : Type 0 where

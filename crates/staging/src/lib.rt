@@ -6,10 +6,11 @@ use bits::insert;
 use constants::Place;
 use constants::compare_rank;
 use constants::find_place;
+use layout::Part;
+use layout::Table;
 use limits::Rule;
 use relations::fits;
 use rule_parts::kinds::Operator;
-use table::table::Table;
 use test_bits::holds;
 ghost use mathlib.Core.List.{List};
 ghost use mathlib.Core.Logic.{_↔_};
@@ -24,18 +25,18 @@ ghost use Rattle.xpath.specs.Meaning.{Rel};
 ghost use Rattle.document_spec.specs.Library as Library;
 ghost use Rattle.document_spec.specs.Binary.{stringOf};
 ghost use Rattle.document_spec.specs.Verdict.{Accepts};
-ghost use Rattle.table.specs.Table.{Room, COLUMNS};
+ghost use Rattle.layout.specs.Part.{HIT};
+ghost use Rattle.layout.specs.Table.{Room, COLUMNS};
 ghost use Rattle.ranks.specs.Ranks.{Tabled, Ranked};
 ghost use Rattle.rule_parts.specs.Kinds.{operator};
 ghost use Rattle.test_bits.specs.Columns.{held};
 ghost use Rattle.constants.specs.Places.{Placed};
-ghost use Rattle.machine.specs.Part.{HIT};
 ghost use Rattle.staging.specs.Drawing.{Copied, Stayed, Judged};
 
 // The part begins behind the table. It has the links and the ranks in the same columns as that, and then these two.
-const STAYS: usize = Table::COLUMNS + 6;
+const STAYS: usize = Table::COLUMNS + Part::STAYS;
 
-const HIT: usize = Table::COLUMNS + 7;
+const HIT: usize = Table::COLUMNS + Part::HIT;
 
 // The links and the ranks.
 pub fn draw(t: &mut [u16], n: usize)

@@ -10,10 +10,12 @@ use Rattle.document_spec.specs.Verdict.{Accepts}
 use Rattle.document_spec.proofs.Accepted.{accepts-one}
 use Rattle.document.specs.declared.entries.Entry.{Entry}
 use Rattle.document.specs.Entries.{Start, Stands, IsEntry}
-use Rattle.table.specs.Table.{COLUMNS, LAST, NONE, word, Room, Wrote, Kept}
+use Rattle.layout.specs.Table.{COLUMNS, LAST, Room}
+use Rattle.layout.specs.Words.{NONE, word, Wrote, Kept}
+use Rattle.layout.proofs.Frames.{frame-none, frame-then}
 use Rattle.table.specs.Writes.{entered, hung, parentBy}
 use Rattle.table.specs.Links.{Built}
-use Rattle.table.proofs.Cells.{kept-none, kept-then, hung-kept}
+use Rattle.table.proofs.Cells.{hung-kept}
 use Rattle.table.proofs.Upto.{Upto, upto-root, above-below, last-below, shallow-by, upto-step, upto-all}
 
 -- r is the entry of the node whose lines stand at an offset
@@ -46,7 +48,7 @@ module _ {s : List ℕ} {ns : List Node} {at : ℕ} (a : Accepts s ns) (first : 
         some = omega arith;
         inside = let l = a .legal .some in omega arith;
         room = let l = w .long in omega arith;
-        kept = kept-none (COLUMNS * n) t′;
+        kept = frame-none t′;
         upto = upto-root a size at (r .next) t t′ first (entry ns 0 first-stands .behind) w;
       }
 
@@ -84,7 +86,7 @@ building-step {n} {v = suc v} {at} {b} {t} {t′} {r} h l entry w =
       some = omega arith;
       inside = l;
       room = let k = w .long in let q = h .room in omega arith;
-      kept = kept-then (h .kept) (hung-kept n (suc v) at d (parentBy t n (suc v) d (ltb b d)) l (step-asks h l entry .5) (ltb b d) u w);
+      kept = frame-then (h .kept) (hung-kept n (suc v) at d (parentBy t n (suc v) d (ltb b d)) l (step-asks h l entry .5) (ltb b d) u w);
       upto = upto-step (h .accepts) (h .size) v at d b t l (e .depth) (h .upto) (r .next) t′ (e .behind) w;
     }
 
@@ -97,5 +99,5 @@ building-all {s} {n} {v} {at} {b} {t₀} {t} k h r ns a =
     subst (λ ms. Built s ms t₀ t) same
     (record {
       linked = upto-all (subst₂ (λ m i. Upto s (h .nodes) m i at b t) (sym (h .size)) (end ∙ sym (h .size)) (h .upto));
-      kept = subst (λ m. Kept (COLUMNS * m) t₀ t) (sym (h .size)) (kept-then k (h .kept));
+      kept = subst (λ m. Kept (COLUMNS * m) t₀ t) (sym (h .size)) (frame-then k (h .kept));
     })

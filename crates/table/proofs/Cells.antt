@@ -8,13 +8,10 @@ use lib.ListN.{length}
 use lib.Dec.{ltb}
 use native.Mathlib.Nat.{mul-le-mul-right}
 use native.Mathlib.Omega.{arith}
-use Rattle.table.specs.Table.{COLUMNS, column, cell, Room, Wrote, Kept}
+use Rattle.layout.specs.Table.{COLUMNS, column, Room}
+use Rattle.layout.specs.Words.{cell, Wrote, Kept}
+use Rattle.layout.proofs.Cells.{wrote-then}
 use Rattle.table.specs.Writes.{entered, hung, parentBy}
-use Rattle.table.proofs.Wrote.{wrote-then}
-
--- a cell of the table lies in the scratch
-pub cell-inside : (t : List ℕ) {n c v : ℕ} → c < COLUMNS → v < n → Room n t → cell n c v < length t
-cell-inside t {n} {c} h r room = let k : c * n ≤ 15 * n = mul-le-mul-right n (omega arith) in omega arith
 
 -- the children's columns are the third and the fourth
 pub sides : (n : ℕ) (side : Bool) → (2 * n ≤ column side * n) × (column side * n ≤ 3 * n)
@@ -39,15 +36,9 @@ hung-then n v at d b u side {t} {t₁} {t₂} e q r l k p w =
     (wrote-then {ws = entered n v at d u} p (omega arith, (omega arith, (own false, (own true, (omega arith, (omega arith, tt)))))) w))
 
 -- ── What is behind the table ──
-pub kept-none : (m : ℕ) (t : List ℕ) → Kept m t t
-kept-none m t = record { long = refl; behind = λ k h. refl }
-
-pub kept-then : {m : ℕ} {t t₁ t₂ : List ℕ} → Kept m t t₁ → Kept m t₁ t₂ → Kept m t t₂
-kept-then p q = record { long = q .long ∙ p .long; behind = λ k h. q .behind k h ∙ p .behind k h }
-
 module _ (n v at d u : ℕ) {t t′ : List ℕ} (inside : v < n) (shallow : d < n) where
   pub entered-kept : Wrote (entered n v at d u) t t′ → Kept (COLUMNS * n) t t′
-  entered-kept w = record { long = w .long; behind = λ k h. w .other k (omega arith) }
+  entered-kept w = record { long = w .long; front = λ k h. absurd (omega arith); behind = λ k h. w .other k (omega arith) }
 
   pub hung-kept : (side : Bool) → u < n → Wrote (hung n v at d side u) t t′ → Kept (COLUMNS * n) t t′
-  hung-kept side r w = record { long = w .long; behind = λ k h. let b = sides n side in w .other k (omega arith) }
+  hung-kept side r w = record { long = w .long; front = λ k h. absurd (omega arith); behind = λ k h. let b = sides n side in w .other k (omega arith) }

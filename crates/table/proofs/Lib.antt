@@ -1,4 +1,3 @@
-pub mod Wrote
 pub mod Cells
 pub mod Upto
 pub mod Building

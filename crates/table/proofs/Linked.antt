@@ -10,7 +10,8 @@ use Rattle.xpath.specs.Tree.{Child}
 use Rattle.document_spec.specs.Library.{Node}
 use Rattle.document_spec.specs.Binary.{parentOf, treeOf}
 use Rattle.document.specs.Entries.{Stands}
-use Rattle.table.specs.Table.{LOW, HIGH, PARENT, NONE, column, cell, word}
+use Rattle.layout.specs.Table.{LOW, HIGH, PARENT, column}
+use Rattle.layout.specs.Words.{NONE, cell, word}
 use Rattle.table.specs.Links.{Points, IsParent, Linked}
 use Rattle.table.proofs.Cells.{sides}
 

@@ -18,7 +18,8 @@ use Rattle.document_spec.specs.Verdict.{Accepts}
 use Rattle.document_spec.specs.Intervals.{deep}
 use Rattle.document_spec.proofs.Binary.{up-to, tree-formed, depth-le}
 use Rattle.document.specs.Entries.{Start, Stands}
-use Rattle.table.specs.Table.{LOW, HIGH, PARENT, LAST, NONE, column, cell, word, offsetOf, Wrote}
+use Rattle.layout.specs.Table.{LOW, HIGH, PARENT, LAST, column, offsetOf}
+use Rattle.layout.specs.Words.{NONE, cell, word, Wrote}
 use Rattle.table.specs.Writes.{entered, hung, parentBy}
 use Rattle.table.specs.Links.{Points, IsParent, Linked}
 use Rattle.table.proofs.Cells.{sides, apart}

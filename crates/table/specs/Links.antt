@@ -9,7 +9,8 @@ use Rattle.xpath.specs.Tree.{Child}
 use Rattle.document_spec.specs.Library.{Node}
 use Rattle.document_spec.specs.Binary.{parentOf, treeOf}
 use Rattle.document.specs.Entries.{Stands}
-use Rattle.table.specs.Table.{COLUMNS, PARENT, NONE, column, word, offsetOf, Kept}
+use Rattle.layout.specs.Table.{COLUMNS, PARENT, column, offsetOf}
+use Rattle.layout.specs.Words.{NONE, word, Kept}
 
 -- a word is a number that B holds of, or no node where there is none
 abbrev pub Points : (ℕ → Type 0) → ℕ → Type 0

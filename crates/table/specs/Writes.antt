@@ -4,7 +4,8 @@ use mathlib.Core.Bool.{Bool}
 use mathlib.Core.List.{List, [], _∷_}
 use Rattle.limits.specs.Limits.{wordValues}
 use Rattle.document_spec.specs.Binary.{pick}
-use Rattle.table.specs.Table.{LOW, HIGH, LEFT, RIGHT, PARENT, LAST, NONE, column, cell, word}
+use Rattle.layout.specs.Table.{LOW, HIGH, LEFT, RIGHT, PARENT, LAST, column}
+use Rattle.layout.specs.Words.{NONE, cell, word}
 
 abbrev pub placed : ℕ → ℕ → ℕ → List (ℕ × ℕ)
 placed n v at = (cell n HIGH v, at / wordValues) ∷ (cell n LOW v, at % wordValues) ∷ []

@@ -1,12 +1,10 @@
 // The binary tree of an accepted document, in words of a lent scratch: one pass over the document enters each node and hangs it under the node whose child it is.
-pub mod table;
-
 use document::entries::first_entry;
 use document::entries::read_entry;
+use layout::Table;
+use layout::words::get;
+use layout::words::put;
 use limits::Scratch;
-use table::Table;
-use table::get;
-use table::put;
 ghost use mathlib.Core.Path.{_≡_};
 ghost use mathlib.Core.List.{List};
 ghost use Prim.Native.Nat.{_*_, _≤_, _<_};
@@ -15,7 +13,8 @@ ghost use lib.Dec.{ltb};
 ghost use Rattle.limits.specs.Limits.{wordValues};
 ghost use Rattle.document_spec.specs.Library as Library;
 ghost use Rattle.document_spec.specs.Verdict.{Accepts};
-ghost use Rattle.table.specs.Table.{LAST, word, Room, Wrote};
+ghost use Rattle.layout.specs.Table.{LAST, Room};
+ghost use Rattle.layout.specs.Words.{word, Wrote};
 ghost use Rattle.table.specs.Writes.{placed, entered, hung, parentBy};
 ghost use Rattle.table.specs.Links.{Built};
 

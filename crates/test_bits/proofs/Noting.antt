@@ -10,8 +10,9 @@ use lib.ListN.{getD}
 use borrow.Author.Tests.{eq-eqb, ne-eqb}
 use Rattle.bits.specs.Sets.{bit, is}
 use Rattle.document_spec.specs.Binary.{pick}
-use Rattle.table.specs.Table.{cell, word, Wrote}
-use Rattle.test_bits.specs.Columns.{TESTS, held, Noted}
+use Rattle.layout.specs.Table.{TESTS}
+use Rattle.layout.specs.Words.{cell, word, Wrote}
+use Rattle.test_bits.specs.Columns.{held, Noted}
 
 -- two cells are one only in one column and for one node
 one-cell : (n c d u v : ℕ) → u < n → v < n → cell n c u ≡ cell n d v → (c ≡ d) × (u ≡ v)

@@ -8,7 +8,8 @@ use native.Mathlib.Omega.{arith}
 use native.Mathlib.Decide.{ℕ-discrete}
 use lib.ListN.{length, getD}
 use Rattle.ranks.specs.Ranks.{Worked}
-use Rattle.test_bits.specs.Columns.{TESTS, held, Settled, Noted}
+use Rattle.layout.specs.Table.{TESTS}
+use Rattle.test_bits.specs.Columns.{held, Settled, Noted}
 
 -- bit k is written for the nodes below i, and all else is as before
 pub record Settling (n k : ℕ) (A : ℕ → Type 0) (i : ℕ) (t t′ : List ℕ) : Type 0 where

@@ -7,11 +7,7 @@ use mathlib.Core.List.{List}
 use lib.ListN.{length, getD}
 use Rattle.limits.specs.Limits.{ruleTests, wordBits}
 use Rattle.bits.specs.Sets.{bit}
-use Rattle.table.specs.Table.{word}
-
--- the first of the four columns
-abbrev pub TESTS : ℕ
-TESTS = 8
+use Rattle.layout.specs.Words.{word}
 
 -- bit k of node v
 abbrev pub held : List ℕ → ℕ → ℕ → ℕ → Bool

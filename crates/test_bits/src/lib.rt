@@ -3,26 +3,20 @@ pub mod labels;
 mod notes;
 pub mod passes;
 
+use layout::Table;
+use layout::words::get;
 use limits::Scratch;
-use table::table::get;
 ghost use mathlib.Core.Path.{_≡_};
 ghost use Prim.Native.Nat.{_<_};
 ghost use Rattle.limits.specs.Limits.{ruleTests};
-ghost use Rattle.table.specs.Table.{Room};
+ghost use Rattle.layout.specs.Table.{Room};
 ghost use Rattle.test_bits.specs.Columns.{held};
-
-pub struct Tests;
-
-impl Tests {
-    // The first of the four columns.
-    pub const COLUMN: usize = 8;
-}
 
 // Test `k` holds at node `v`.
 pub fn holds(t: &[u16], n: usize, k: usize, v: usize) -> bool
     requires { ⌜ (k < ruleTests) × (v < n) × Room n (now t) ⌝ }
     ensures { λ r. ⌜ r ≡ held (now (t .entry)) n k v ⌝ }
 {
-    let w = get(t, n, Tests::COLUMN + k / Scratch::WORD_BITS, v);
+    let w = get(t, n, Table::TESTS + k / Scratch::WORD_BITS, v);
     bits::has(w as u16, (k % Scratch::WORD_BITS) as u16)
 }

@@ -1,14 +1,14 @@
 // One bit of one node, written.
-use crate::Tests;
+use layout::Table;
+use layout::words::get;
+use layout::words::put;
 use limits::Scratch;
-use table::table::get;
-use table::table::put;
 ghost use mathlib.Core.Path.{_≡_};
 ghost use Prim.Native.Nat.{ℕ, _<_};
 ghost use Rattle.limits.specs.Limits.{ruleTests, wordBits};
 ghost use Rattle.bits.specs.Sets.{bit, is};
 ghost use Rattle.document_spec.specs.Binary.{pick};
-ghost use Rattle.table.specs.Table.{Room};
+ghost use Rattle.layout.specs.Table.{Room};
 ghost use Rattle.test_bits.specs.Columns.{Noted};
 
 // The word with bit `j` as told.
@@ -25,7 +25,7 @@ pub fn note(t: &mut [u16], n: usize, k: usize, v: usize, b: bool)
     requires { ⌜ (k < ruleTests) × (v < n) × Room n (now t) ⌝ }
     ensures { λ _. ⌜ Noted n k v b (now (t .entry)) (now (t .exit)) ⌝ }
 {
-    let c = Tests::COLUMN + k / Scratch::WORD_BITS;
+    let c = Table::TESTS + k / Scratch::WORD_BITS;
     let w = get(t, n, c, v);
     let x = with_bit(w as u16, (k % Scratch::WORD_BITS) as u16, b);
     put(t, n, c, v, x as usize);

@@ -1,14 +1,15 @@
 // One pass over the nodes for each kind of test that is made of other tests.
 use crate::holds;
 use crate::notes::note;
-use table::table::Table;
+use layout::Table;
 ghost use mathlib.Core.Path.{_≡_};
 ghost use mathlib.Core.Bool.{true};
 ghost use mathlib.Core.Logic.{_⊎_};
 ghost use Prim.Native.Nat.{_*_, _≤_, _<_, _+_};
 ghost use lib.ListN.{length};
 ghost use Rattle.limits.specs.Limits.{ruleTests};
-ghost use Rattle.table.specs.Table.{COLUMNS, word, Room};
+ghost use Rattle.layout.specs.Table.{COLUMNS, Room};
+ghost use Rattle.layout.specs.Words.{word};
 ghost use Rattle.test_bits.specs.Columns.{held, Settled};
 
 // Test `k` where test `a` does not hold.

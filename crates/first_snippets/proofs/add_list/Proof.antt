@@ -2,7 +2,8 @@
 use Prim.Native.Nat.{_-_, _≤_, _<_}
 use mathlib.Core.Path.{_≡_, sym, _∙_, subst}
 use native.Mathlib.Omega.{arith}
-use Rattle.first_snippets.specs.Groups.{LIST, Listed, AddedOf}
+use Rattle.layout.specs.Groups.{LIST}
+use Rattle.first_snippets.specs.Groups.{Listed, AddedOf}
 use Rattle.first_snippets.proofs.Rest.{same-word, sizes-front}
 use Rattle.first_snippets.proofs.Adding.{base-rest}
 use Rattle.first_snippets.proofs.Lists.{listed-none, listed-step}

@@ -3,7 +3,7 @@ use Prim.Native.Nat.{_+_, _*_, _-_, _≤_}
 use mathlib.Core.Path.{_≡_, refl, sym, ap, ap₂, _∙_, subst}
 use native.Mathlib.Omega.{arith}
 use Rattle.matrices.proofs.Pairs.{pairs-le}
-use Rattle.powers.specs.Powers.{BLOCKS}
+use Rattle.layout.specs.Blocks.{BLOCKS}
 use Rattle.halving.specs.Halving.{Counts}
 use Rattle.halving.proofs.Counting.{total, total-more, total-le, total-counts}
 use Rattle.halving.proofs.count.Statement.{statement}

@@ -1,7 +1,7 @@
 -- `levels::enter` meets its contract.
 use native.Mathlib.Omega.{arith}
 use borrow.Author.Needs.{needs}
-use Rattle.levels.specs.Levels.{LEVEL}
+use Rattle.layout.specs.Groups.{LEVEL}
 use Rattle.levels.proofs.Levelling.{known}
 use Rattle.levels.proofs.enter.Statement.{statement}
 use Rattle.levels.proofs.enter.Tie as tie

@@ -3,7 +3,7 @@ use Prim.Native.Nat.{_-_}
 use mathlib.Core.Path.{_∙_}
 use native.Mathlib.Omega.{arith}
 use native.Mathlib.Numerals.{add-one}
-use Rattle.table.specs.Table.{NONE}
+use Rattle.layout.specs.Words.{NONE}
 use Rattle.table.proofs.Cells.{entered-kept}
 use Rattle.table.proofs.Building.{Building, first-stands, building-root, stands, step-asks, building-step, building-all}
 use Rattle.table.proofs.build.Statement.{statement}

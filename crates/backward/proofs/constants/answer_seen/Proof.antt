@@ -3,8 +3,8 @@ use Prim.Native.Nat.{ℕ, _-_}
 use mathlib.Core.Path.{_≡_, sym, ap, _∙_}
 use native.Mathlib.Omega.{arith}
 use Rattle.bits.specs.Sets.{bit}
-use Rattle.table.specs.Table.{cell, word}
-use Rattle.machine.specs.Part.{SEEN}
+use Rattle.layout.specs.Part.{SEEN}
+use Rattle.layout.specs.Words.{cell, word}
 use Rattle.reach.specs.Work.{Seen}
 use Rattle.backward.proofs.Telling.{Telling, telling-none, telling-step, telling-space, telling-all}
 use Rattle.backward.proofs.constants.answer_seen.Statement.{statement}

@@ -1,8 +1,8 @@
 -- `backward::list::join` meets its contract.
 use mathlib.Core.Path.{refl}
 use native.Mathlib.Omega.{arith}
-use Rattle.table.specs.Table.{word}
-use Rattle.machine.specs.Part.{SEEN}
+use Rattle.layout.specs.Part.{SEEN}
+use Rattle.layout.specs.Words.{word}
 use Rattle.reach.proofs.Entering.{Fresh, added-known, enter-room}
 use Rattle.backward.proofs.Joining.{joined-same, joined-new}
 use borrow.Author.Needs.{needs}

@@ -1,8 +1,8 @@
 -- `backward::notes::note_entry` meets its contract.
 use Prim.Native.Nat.{_*_, _<_}
 use native.Mathlib.Omega.{arith}
-use Rattle.table.specs.Table.{cell, word}
-use Rattle.machine.specs.Part.{NODES, POSITIONS}
+use Rattle.layout.specs.Part.{NODES, POSITIONS}
+use Rattle.layout.specs.Words.{cell, word}
 use Rattle.reach.proofs.Totals.{work-room}
 use Rattle.backward.proofs.Noting.{notes-put, notes-tested, put-long}
 use borrow.Author.Needs.{needs}

@@ -1,8 +1,8 @@
 -- `backward::retrace::retrace` meets its contract.
 use Prim.Native.Nat.{_*_, _<_}
 use native.Mathlib.Omega.{arith}
-use Rattle.table.specs.Table.{cell}
-use Rattle.machine.specs.Part.{NODES}
+use Rattle.layout.specs.Part.{NODES}
+use Rattle.layout.specs.Words.{cell}
 use Rattle.reach.proofs.Totals.{work-room}
 use borrow.Author.Needs.{needs}
 use Rattle.backward.proofs.retrace.retrace.Statement.{statement}

@@ -1,7 +1,7 @@
 -- `backward::sweeps::fall` meets its contract.
 use Prim.Native.Nat.{_≤_}
 use native.Mathlib.Omega.{arith}
-use Rattle.backward.specs.Sweeps.{ABOVE}
+use Rattle.layout.specs.Sweeps.{ABOVE}
 use Rattle.backward.proofs.Ranking.{Falling, falling-none, falling-step, falling-all, sweeping-buckets}
 use Rattle.backward.proofs.sweeps.fall.Statement.{statement}
 use Rattle.backward.proofs.sweeps.fall.Tie as tie

@@ -1,7 +1,7 @@
 -- `backward::sweeps::rise` meets its contract.
 use Prim.Native.Nat.{_-_}
 use native.Mathlib.Omega.{arith}
-use Rattle.backward.specs.Sweeps.{LEAST}
+use Rattle.layout.specs.Sweeps.{LEAST}
 use Rattle.backward.proofs.Ranking.{Rising, rising-none, rising-step, rising-all, sweeping-buckets}
 use Rattle.backward.proofs.sweeps.rise.Statement.{statement}
 use Rattle.backward.proofs.sweeps.rise.Tie as tie

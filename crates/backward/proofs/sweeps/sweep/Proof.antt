@@ -1,6 +1,6 @@
 -- `backward::sweeps::sweep` meets its contract.
 use native.Mathlib.Omega.{arith}
-use Rattle.backward.specs.Sweeps.{LEAST}
+use Rattle.layout.specs.Sweeps.{LEAST}
 use Rattle.backward.proofs.Ranking.{spared-ready, ready-again, ranges-all}
 use borrow.Author.Needs.{needs}
 use Rattle.backward.proofs.sweeps.sweep.Statement.{statement}

@@ -2,7 +2,7 @@
 use Prim.Native.Nat.{_-_}
 use mathlib.Core.Path.{_≡_, subst}
 use native.Mathlib.Omega.{arith}
-use Rattle.skeletons.proofs.Within.{room-within}
+use Rattle.layout.proofs.Frames.{room-within}
 use Rattle.first_snippets.specs.Steps.{Ranged}
 use Rattle.first_snippets.proofs.Lists.{ranged-none, ranged-step}
 use Rattle.first_snippets.proofs.listing.list_ranks.Statement.{statement}

@@ -3,7 +3,7 @@ use Prim.Native.Nat.{ℕ, suc, _+_, _<_}
 use mathlib.Core.Path.{_≡_, subst}
 use native.Mathlib.Omega.{arith}
 use Rattle.matrices.specs.Matrices.{Related}
-use Rattle.powers.specs.Powers.{snippetAt}
+use Rattle.layout.specs.Blocks.{snippetAt}
 use Rattle.halving.proofs.Growing.{hands-nothing}
 use borrow.Author.Needs.{needs}
 use Rattle.halving.proofs.passes.hand_down.Statement.{statement}

@@ -2,7 +2,7 @@
 use mathlib.Core.Path.{ap, _∙_}
 use native.Mathlib.Omega.{arith}
 use borrow.Author.Needs.{needs}
-use Rattle.loops.specs.Loops.{loopAt}
+use Rattle.layout.specs.Part.{loopAt}
 use Rattle.loops.proofs.place.above.Statement.{statement}
 use Rattle.loops.proofs.place.above.Tie as tie
 

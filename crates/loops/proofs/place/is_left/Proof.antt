@@ -4,7 +4,8 @@ use mathlib.Core.Path.{_≡_, sym, ap, _∙_}
 use native.Mathlib.Omega.{arith}
 use borrow.Author.Needs.{needs}
 use borrow.Author.Tests.{eqb-true, eqb-false}
-use Rattle.table.specs.Table.{LEFT, PARENT, word}
+use Rattle.layout.specs.Table.{LEFT, PARENT}
+use Rattle.layout.specs.Words.{word}
 use Rattle.loops.proofs.place.is_left.Statement.{statement}
 use Rattle.loops.proofs.place.is_left.Tie as tie
 

@@ -3,8 +3,8 @@ use Prim.Native.Nat.{ℕ, _-_, _<_}
 use mathlib.Core.Path.{_≡_}
 use borrow.Author.Count.{below-none, below-more}
 use native.Mathlib.Omega.{arith}
-use Rattle.table.specs.Table.{word}
-use Rattle.machine.specs.Part.{HIT}
+use Rattle.layout.specs.Part.{HIT}
+use Rattle.layout.specs.Words.{word}
 use Rattle.plain.specs.Ends.{Ended}
 use Rattle.plain.proofs.Telling.{tells-yes, tells-no, denied}
 use Rattle.plain.proofs.ends.any_hit.Statement.{statement}

@@ -2,8 +2,8 @@
 use Prim.Native.Nat.{_<_}
 use mathlib.Core.Path.{_∙_}
 use native.Mathlib.Omega.{arith}
-use Rattle.table.specs.Table.{cell}
-use Rattle.machine.specs.Part.{MARK}
+use Rattle.layout.specs.Part.{MARK}
+use Rattle.layout.specs.Words.{cell}
 use Rattle.plain.proofs.Steady.{held-then, held-space, held-small, steady-reached}
 use Rattle.plain.proofs.Compared.{equal-steady, equal-told}
 use borrow.Author.Needs.{needs}

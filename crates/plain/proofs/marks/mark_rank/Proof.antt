@@ -4,8 +4,8 @@ use Prim.Native.Nat.{_<_}
 use mathlib.Core.Logic.{inl, inr}
 use mathlib.Core.List.{[], _∷_}
 use native.Mathlib.Omega.{arith}
-use Rattle.table.specs.Table.{cell, Wrote}
-use Rattle.machine.specs.Part.{MARK}
+use Rattle.layout.specs.Part.{MARK}
+use Rattle.layout.specs.Words.{cell, Wrote}
 use Rattle.plain.proofs.Telling.{denied}
 use borrow.Author.Needs.{needs}
 use Rattle.plain.proofs.marks.mark_rank.Statement.{statement}

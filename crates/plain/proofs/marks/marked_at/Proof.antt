@@ -3,8 +3,8 @@ use mathlib.Core.Path.{_∙_, sym, ap, subst}
 use Prim.Native.Nat.{ℕ, _<_}
 use borrow.Author.Tests.{eqb-true, eq-eqb}
 use native.Mathlib.Omega.{arith}
-use Rattle.table.specs.Table.{word}
-use Rattle.machine.specs.Part.{MARK}
+use Rattle.layout.specs.Part.{MARK}
+use Rattle.layout.specs.Words.{word}
 use Rattle.plain.proofs.Telling.{tells-no, denied}
 use borrow.Author.Needs.{needs}
 use Rattle.plain.proofs.marks.marked_at.Statement.{statement}

@@ -3,7 +3,8 @@ use Prim.Native.Nat.{_-_, _≤_}
 use mathlib.Core.Path.{_≡_, subst}
 use native.Mathlib.Numerals.{add-one}
 use native.Mathlib.Omega.{arith}
-use Rattle.table.specs.Table.{RANK, word}
+use Rattle.layout.specs.Table.{RANK}
+use Rattle.layout.specs.Words.{word}
 use Rattle.plain.specs.Ends.{Ended}
 use Rattle.plain.specs.Ranges.{Ranged}
 use Rattle.plain.proofs.Ranged.{ranged-none}

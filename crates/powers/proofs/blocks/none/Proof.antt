@@ -3,8 +3,8 @@ use Prim.Native.Nat.{ℕ, _+_}
 use mathlib.Core.Path.{_≡_, sym, subst}
 use lib.ListN.{getD, set}
 use borrow.Author.Needs.{needs}
-use Rattle.table.specs.Table.{NONE}
-use Rattle.powers.specs.Powers.{upperAt}
+use Rattle.layout.specs.Blocks.{upperAt}
+use Rattle.layout.specs.Words.{NONE}
 use Rattle.powers.specs.Blocks.{Only}
 use Rattle.powers.proofs.Making.{only-upper, upper-set}
 use Rattle.powers.proofs.blocks.none.Statement.{statement}
@@ -12,6 +12,9 @@ use Rattle.powers.proofs.blocks.none.Tie as tie
 
 block-at-requires : tie.Need-block-at-requires
 block-at-requires c κs = search needs
+
+cast-p : tie.Need-cast-p
+cast-p c = search needs
 
 add-p : tie.Need-add-p
 add-p c = search needs
@@ -32,4 +35,4 @@ returns c =
     (only-upper (x .n) (x .k) (x .y) (x .p .now) NONE, upper-set (x .n) (x .k) (x .y) (x .p .now) NONE (c .before .before .pre))
 
 pub none-spec : {M : Type 1} → statement M
-none-spec = tie.close (tie.spec block-at-requires add-p mul-p slice-write-p same-length returns)
+none-spec = tie.close (tie.spec block-at-requires cast-p add-p mul-p slice-write-p same-length returns)

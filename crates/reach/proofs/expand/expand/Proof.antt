@@ -1,8 +1,8 @@
 -- `reach::expand::expand` meets its contract.
 use Prim.Native.Nat.{_*_, _<_}
 use native.Mathlib.Omega.{arith}
-use Rattle.machine.specs.Part.{NODES}
-use Rattle.table.specs.Table.{cell}
+use Rattle.layout.specs.Part.{NODES}
+use Rattle.layout.specs.Words.{cell}
 use Rattle.reach.proofs.Totals.{work-room}
 use Rattle.reach.proofs.Reaching.{added-after}
 use borrow.Author.Needs.{needs}

@@ -1,7 +1,7 @@
 -- `reach::list::add` meets its contract.
 use native.Mathlib.Omega.{arith}
-use Rattle.table.specs.Table.{word}
-use Rattle.machine.specs.Part.{SEEN}
+use Rattle.layout.specs.Part.{SEEN}
+use Rattle.layout.specs.Words.{word}
 use Rattle.reach.proofs.Adding.{added-same}
 use Rattle.reach.proofs.Entering.{Fresh, added-known, enter-room, added-new}
 use borrow.Author.Needs.{needs}

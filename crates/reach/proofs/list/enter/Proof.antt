@@ -1,9 +1,9 @@
 -- `reach::list::enter` meets its contract.
 use native.Mathlib.Omega.{arith}
 use lib.ListN.{length-set}
-use Rattle.table.specs.Table.{cell}
-use Rattle.table.proofs.Wrote.{wrote-one, wrote-then}
-use Rattle.machine.specs.Part.{SEEN, NODES, POSITIONS}
+use Rattle.layout.specs.Part.{SEEN, NODES, POSITIONS}
+use Rattle.layout.specs.Words.{cell}
+use Rattle.layout.proofs.Cells.{wrote-one, wrote-then}
 use borrow.Author.Needs.{needs}
 use Rattle.reach.proofs.list.enter.Statement.{statement}
 use Rattle.reach.proofs.list.enter.Tie as tie

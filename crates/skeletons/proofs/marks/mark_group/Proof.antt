@@ -2,9 +2,10 @@
 use Prim.Native.Nat.{_-_}
 use mathlib.Core.Path.{_≡_, _∙_}
 use native.Mathlib.Omega.{arith}
-use Rattle.table.specs.Table.{word}
-use Rattle.skeletons.specs.Skeletons.{NEXT, Buckets}
-use Rattle.skeletons.proofs.Within.{within-then, before-within, room-within}
+use Rattle.layout.specs.Groups.{NEXT}
+use Rattle.layout.specs.Words.{word}
+use Rattle.layout.proofs.Frames.{within-then, before-within, room-within}
+use Rattle.skeletons.specs.Skeletons.{Buckets}
 use Rattle.skeletons.proofs.Shape.{shape-within}
 use Rattle.skeletons.proofs.Bucketing.{buckets-within}
 use Rattle.skeletons.proofs.Grouping.{Grouping, next-behind, grouping-none, grouping-step, grouping-all}

@@ -1,6 +1,6 @@
 -- `skeletons::marks::mark_member` meets its contract.
 use native.Mathlib.Omega.{arith}
-use Rattle.skeletons.proofs.Within.{room-within}
+use Rattle.layout.proofs.Frames.{room-within}
 use Rattle.skeletons.proofs.Shape.{shape-within}
 use Rattle.skeletons.proofs.Noting.{closed-note}
 use Rattle.skeletons.proofs.Raising.{raised-joined}

@@ -2,8 +2,8 @@
 use Prim.Native.Nat.{ℕ, _%_, _<_}
 use mathlib.Core.Path.{sym, ap, _∙_, subst}
 use native.Mathlib.Omega.{arith}
-use Rattle.table.specs.Table.{PARENT}
-use Rattle.skeletons.proofs.Within.{before-within, room-within}
+use Rattle.layout.specs.Table.{PARENT}
+use Rattle.layout.proofs.Frames.{before-within, room-within}
 use Rattle.skeletons.proofs.Raising.{Raising, raising-none, raising-step, raising-note, raising-all, height, height-less}
 use Rattle.skeletons.proofs.marks.mark_up.Statement.{statement}
 use Rattle.skeletons.proofs.marks.mark_up.Tie as tie

@@ -3,7 +3,8 @@ use Prim.Native.Nat.{_-_}
 use mathlib.Core.Path.{_≡_}
 use native.Mathlib.Omega.{arith}
 use native.Mathlib.Numerals.{add-one}
-use Rattle.table.specs.Table.{COLUMNS, cell, word}
+use Rattle.layout.specs.Table.{COLUMNS}
+use Rattle.layout.specs.Words.{cell, word}
 use Rattle.test_bits.proofs.Told.{told-one}
 use Rattle.test_bits.proofs.Settling.{Settling, settling-none, settling-step, settling-all}
 use Rattle.test_bits.proofs.passes.take.Statement.{statement}

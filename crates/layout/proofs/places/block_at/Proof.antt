@@ -1,9 +1,9 @@
--- `powers::blocks::block_at` meets its contract.
+-- `layout::places::block_at` meets its contract.
 use native.Mathlib.Omega.{arith}
 use borrow.Author.Needs.{needs}
-use Rattle.powers.proofs.Places.{small}
-use Rattle.powers.proofs.blocks.block_at.Statement.{statement}
-use Rattle.powers.proofs.blocks.block_at.Tie as tie
+use Rattle.layout.proofs.Fitting.{small}
+use Rattle.layout.proofs.places.block_at.Statement.{statement}
+use Rattle.layout.proofs.places.block_at.Tie as tie
 
 mul-result : tie.Need-mul-result
 mul-result c = search needs

@@ -1,12 +1,19 @@
--- One word written, and one more.
-use Prim.Native.Nat.{ℕ, _<_}
+-- Where a word stands; one word written, and one more.
+use Prim.Native.Nat.{ℕ, _*_, _≤_, _<_}
 use mathlib.Core.Path.{_≡_, _∙_}
 use mathlib.Core.Logic.{_≢_}
 use mathlib.Core.List.{List, [], _∷_}
 use lib.ListN.{length, getD, set, length-set}
 use lib.Seq.{getD-set-same, getD-set-other}
+use native.Mathlib.Nat.{mul-le-mul-right}
+use native.Mathlib.Omega.{arith}
 use Rattle.lists.specs.Lists.{All}
-use Rattle.table.specs.Table.{Wrote}
+use Rattle.layout.specs.Words.{cell, Wrote}
+use Rattle.layout.specs.Table.{COLUMNS, Room}
+
+-- a cell of the table lies in the scratch
+pub cell-inside : (t : List ℕ) {n c v : ℕ} → c < COLUMNS → v < n → Room n t → cell n c v < length t
+cell-inside t {n} {c} h r room = let k : c * n ≤ 15 * n = mul-le-mul-right n (omega arith) in omega arith
 
 pub wrote-one : (t : List ℕ) (i x : ℕ) → i < length t → Wrote ((i, x) ∷ []) t (set t i x)
 wrote-one t i x h =

@@ -1,13 +1,12 @@
--- `links::table::put` meets its contract.
+-- `layout::words::put` meets its contract.
 use Prim.Native.Nat.{_<_}
 use lib.ListN.{length}
 use native.Mathlib.Omega.{arith}
-use Rattle.table.specs.Table.{cell}
-use Rattle.table.proofs.Cells.{cell-inside}
-use Rattle.table.proofs.Wrote.{wrote-one}
+use Rattle.layout.specs.Words.{cell}
+use Rattle.layout.proofs.Cells.{cell-inside, wrote-one}
 use borrow.Author.Needs.{needs}
-use Rattle.table.proofs.table.put.Statement.{statement}
-use Rattle.table.proofs.table.put.Tie as tie
+use Rattle.layout.proofs.words.put.Statement.{statement}
+use Rattle.layout.proofs.words.put.Tie as tie
 
 inside : (c : tie.Start) → cell (c .args .n) (c .args .c) (c .args .v) < length (c .args .t .now)
 inside c = cell-inside (c .args .t .now) (c .pre .0) (c .pre .1) (c .pre .2)

@@ -1,35 +1,12 @@
-// The table of the tree: 16 columns of N words, one for each thing that is told of a node.
+// One word of a column, read and written, and a whole column filled.
+use crate::Table;
 use limits::Scratch;
 ghost use mathlib.Core.Path.{_≡_};
 ghost use mathlib.Core.List.{[], _∷_};
 ghost use Prim.Native.Nat.{_<_};
 ghost use Rattle.limits.specs.Limits.{wordValues};
-ghost use Rattle.table.specs.Table.{COLUMNS, LEFT, RIGHT, PARENT, cell, word, offsetOf, Room, Wrote};
-
-pub struct Table;
-
-impl Table {
-    // The offset of a node's lines takes two words: it can be more than 65,535.
-    pub const LOW: usize = 0;
-
-    pub const HIGH: usize = 1;
-
-    pub const LEFT: usize = 2;
-
-    pub const RIGHT: usize = 3;
-
-    pub const PARENT: usize = 4;
-
-    pub const RANK: usize = 5;
-
-    // While the tree is built: the last node so far of a depth.
-    pub const LAST: usize = 6;
-
-    pub const COLUMNS: usize = Scratch::TREE_WORDS;
-
-    // The word that stands for none: no node, or no rank.
-    pub const NONE: usize = Scratch::WORD_VALUES - 1;
-}
+ghost use Rattle.layout.specs.Words.{cell, word, Wrote, Filled};
+ghost use Rattle.layout.specs.Table.{COLUMNS, LEFT, RIGHT, PARENT, offsetOf, Room};
 
 // Column `c` of node `v` becomes `x`.
 pub fn put(t: &mut [u16], n: usize, c: usize, v: usize, x: usize)
@@ -77,4 +54,16 @@ pub fn parent(t: &[u16], n: usize, v: usize) -> usize
     ensures { λ r. ⌜ (r ≡ word (now (t .entry)) n PARENT v) × (r < wordValues) ⌝ }
 {
     get(t, n, Table::PARENT, v)
+}
+
+// Column `c` of every node becomes `x`.
+pub fn fill(t: &mut [u16], n: usize, c: usize, x: usize)
+    requires { ⌜ (c < COLUMNS) × Room n (now t) × (x < wordValues) ⌝ }
+    ensures { λ _. ⌜ Filled n c x n (now (t .entry)) (now (t .exit)) ⌝ }
+{
+    let mut v = 0;
+    while v < n {
+        put(t, n, c, v, x);
+        v += 1;
+    }
 }

@@ -3,7 +3,7 @@ use Prim.Native.Nat.{ℕ, _*_, _≤_, _<_, _+_}
 use mathlib.Core.List.{List}
 use lib.ListN.{length}
 use Rattle.limits.specs.Limits.{documentNodes, positions}
-use Rattle.table.specs.Table.{COLUMNS}
+use Rattle.layout.specs.Table.{COLUMNS}
 
 -- 1 where the comparison holds, and else 0
 abbrev pub ANSWER : ℕ
@@ -45,6 +45,14 @@ PAIRS = LOOPS + positions
 
 abbrev pub REST : ℕ
 REST = PAIRS + positions
+
+-- the matrix of node v
+abbrev pub loopAt : ℕ → ℕ → ℕ
+loopAt n v = LOOPS * n + positions * v
+
+-- a position of the first path to a row, and those of the second in it
+abbrev pub pairAt : ℕ → ℕ → ℕ
+pairAt n v = PAIRS * n + positions * v
 
 -- the part has room, and n is a number of nodes
 pub record Space (n : ℕ) (p : List ℕ) : Type 0 where

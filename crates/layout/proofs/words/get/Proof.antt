@@ -1,12 +1,12 @@
--- `links::table::get` meets its contract.
+-- `layout::words::get` meets its contract.
 use Prim.Native.Nat.{_<_}
 use lib.ListN.{length}
 use native.Mathlib.Omega.{arith}
 use mathlib.Core.Path.{refl}
-use Rattle.table.specs.Table.{cell}
-use Rattle.table.proofs.Cells.{cell-inside}
-use Rattle.table.proofs.table.get.Statement.{statement}
-use Rattle.table.proofs.table.get.Tie as tie
+use Rattle.layout.specs.Words.{cell}
+use Rattle.layout.proofs.Cells.{cell-inside}
+use Rattle.layout.proofs.words.get.Statement.{statement}
+use Rattle.layout.proofs.words.get.Tie as tie
 
 inside : (c : tie.Start) → cell (c .args .n) (c .args .c) (c .args .v) < length (c .args .t .now)
 inside c = cell-inside (c .args .t .now) (c .pre .0) (c .pre .1) (c .pre .2)

@@ -1,21 +1,21 @@
--- `skeletons::fill::fill` meets its contract.
+-- `layout::words::fill` meets its contract.
 use Prim.Native.Nat.{_-_}
 use mathlib.Core.Path.{_≡_, subst}
 use native.Mathlib.Omega.{arith}
-use Rattle.skeletons.specs.Steps.{Filled}
-use Rattle.skeletons.proofs.Within.{room-within}
-use Rattle.skeletons.proofs.Filling.{filled-none, filled-step}
-use Rattle.skeletons.proofs.fill.fill.Statement.{statement}
-use Rattle.skeletons.proofs.fill.fill.Tie as tie
+use Rattle.layout.specs.Words.{Filled}
+use Rattle.layout.proofs.Filling.{filled-none, filled-step}
+use Rattle.layout.proofs.Frames.{room-within}
+use Rattle.layout.proofs.words.fill.Statement.{statement}
+use Rattle.layout.proofs.words.fill.Tie as tie
 
 abbrev Inv-loop : tie.InvT-loop
-Inv-loop p₀ n c x v₀ p v = Filled n c x v p₀ p
+Inv-loop t₀ n c x v₀ t v = Filled n c x v t₀ t
 
 abbrev μ-loop : tie.MeasureT-loop
-μ-loop p₀ n c x v₀ p v = n - v
+μ-loop t₀ n c x v₀ t v = n - v
 
 loop-holds : tie.Need-loop-holds Inv-loop μ-loop
-loop-holds c = let x = c .before .args in filled-none (x .n) (x .c) (x .x) (x .p .now)
+loop-holds c = let x = c .before .args in filled-none (x .n) (x .c) (x .x) (x .t .now)
 
 put-requires : tie.Need-put-requires Inv-loop μ-loop
 put-requires c κs =
@@ -38,7 +38,7 @@ returns : tie.Need-returns Inv-loop μ-loop
 returns c =
     let g = c .before .loop .inv in let x = c .before .before .before .args in let i = g .inside in let l = c .loop-test .left in
     let whole : c .before .loop .v ≡ x .n = omega arith in
-    subst (λ v. Filled (x .n) (x .c) (x .x) v (x .p .now) (c .before .loop .p)) whole g
+    subst (λ v. Filled (x .n) (x .c) (x .x) v (x .t .now) (c .before .loop .t)) whole g
 
 pub fill-spec : {M : Type 1} → statement M
 fill-spec =

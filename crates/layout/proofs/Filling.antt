@@ -4,12 +4,11 @@ use mathlib.Core.Path.{_≡_, ap, _∙_}
 use mathlib.Core.List.{List, [], _∷_}
 use native.Mathlib.Decide.{ℕ-discrete}
 use native.Mathlib.Omega.{arith}
-use Rattle.table.specs.Table.{cell, word, Wrote}
-use Rattle.skeletons.specs.Steps.{Filled}
-use Rattle.skeletons.proofs.Within.{within-none, within-then, within-put}
+use Rattle.layout.specs.Words.{cell, word, Wrote, Filled}
+use Rattle.layout.proofs.Frames.{within-none, within-then, within-put}
 
 pub filled-none : (n c x : ℕ) (p : List ℕ) → Filled n c x 0 p p
-filled-none n c x p = record { inside = omega arith; within = within-none n c (suc c) p; filled = λ u h. absurd (omega arith) }
+filled-none n c x p = record { inside = omega arith; within = within-none p; filled = λ u h. absurd (omega arith) }
 
 pub filled-step : {n c x v : ℕ} {p₀ p p′ : List ℕ} → Filled n c x v p₀ p → v < n → Wrote ((cell n c v, x) ∷ []) p p′ → Filled n c x (v + 1) p₀ p′
 filled-step {n} {c} {x} {v} {p₀} {p} {p′} f l w =

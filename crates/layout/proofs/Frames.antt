@@ -1,0 +1,54 @@
+-- Laws of what may have changed: words from one up to another, and columns.
+use Prim.Native.Nat.{ℕ, suc, _*_, _≤_, _<_}
+use mathlib.Core.Path.{_≡_, refl, sym, _∙_}
+use mathlib.Core.List.{List, [], _∷_}
+use native.Mathlib.Nat.{mul-le-mul-right}
+use native.Mathlib.Omega.{arith}
+use Rattle.layout.specs.Words.{cell, word, Wrote, Frame, Within}
+use Rattle.layout.specs.Table.{Room}
+
+-- ── Any words ──
+pub frame-none : {a b : ℕ} (t : List ℕ) → Frame a b t t
+frame-none t = record { long = refl; front = λ k h. refl; behind = λ k h. refl }
+
+pub frame-then : {a b : ℕ} {t t₁ t₂ : List ℕ} → Frame a b t t₁ → Frame a b t₁ t₂ → Frame a b t t₂
+frame-then g h = record { long = h .long ∙ g .long; front = λ k r. h .front k r ∙ g .front k r; behind = λ k r. h .behind k r ∙ g .behind k r }
+
+pub frame-back : {a b : ℕ} {t t′ : List ℕ} → Frame a b t t′ → Frame a b t′ t
+frame-back h = record { long = sym (h .long); front = λ k r. sym (h .front k r); behind = λ k r. sym (h .behind k r) }
+
+pub frame-wider : {a b c d : ℕ} {t t′ : List ℕ} → a ≤ c → d ≤ b → Frame c d t t′ → Frame a b t t′
+frame-wider l r h = record { long = h .long; front = λ k q. h .front k (omega arith); behind = λ k q. h .behind k (omega arith) }
+
+-- ── Columns ──
+pub within-frame : {n c d : ℕ} {t t′ : List ℕ} → Within n c d t t′ → Frame (c * n) (d * n) t t′
+within-frame h = record { long = h .long; front = h .front; behind = h .behind }
+
+pub frame-within : (n c d : ℕ) {t t′ : List ℕ} → Frame (c * n) (d * n) t t′ → Within n c d t t′
+frame-within n c d h = record { long = h .long; front = h .front; behind = h .behind }
+
+pub within-none : {n c d : ℕ} (t : List ℕ) → Within n c d t t
+within-none {n} {c} {d} t = frame-within n c d (frame-none t)
+
+pub within-then : {n c d : ℕ} {t t₁ t₂ : List ℕ} → Within n c d t t₁ → Within n c d t₁ t₂ → Within n c d t t₂
+within-then {n} {c} {d} g h = frame-within n c d (frame-then (within-frame g) (within-frame h))
+
+pub within-back : {n c d : ℕ} {t t′ : List ℕ} → Within n c d t t′ → Within n c d t′ t
+within-back {n} {c} {d} h = frame-within n c d (frame-back (within-frame h))
+
+-- fewer columns are within more
+pub within-more : {n c d a b : ℕ} {t t′ : List ℕ} → a ≤ c → d ≤ b → Within n c d t t′ → Within n a b t t′
+within-more {n} {c} {d} {a} {b} l r h = frame-within n a b (frame-wider (mul-le-mul-right n l) (mul-le-mul-right n r) (within-frame h))
+
+-- one word of one of the columns
+pub within-put : {n c d a v x : ℕ} {t t′ : List ℕ} → c ≤ a → a < d → v < n → Wrote ((cell n a v, x) ∷ []) t t′ → Within n c d t t′
+within-put {n} {c} {d} {a} {v} l r q w =
+    let x : c * n ≤ a * n = mul-le-mul-right n l in let y : suc a * n ≤ d * n = mul-le-mul-right n r in
+    record { long = w .long; front = λ k h. w .other k (omega arith, tt); behind = λ k h. w .other k (omega arith, tt) }
+
+-- the columns before them
+pub before-within : {n c d : ℕ} {t t′ : List ℕ} → Within n c d t t′ → (a v : ℕ) → a < c → v < n → word t′ n a v ≡ word t n a v
+before-within {n} {c} h a v l r = let y : suc a * n ≤ c * n = mul-le-mul-right n l in h .front (cell n a v) (omega arith)
+
+pub room-within : {n c d : ℕ} {t t′ : List ℕ} → Within n c d t t′ → Room n t → Room n t′
+room-within h r = let l = h .long in omega arith

@@ -1,0 +1,4 @@
+pub mod Cells
+pub mod Frames
+pub mod Filling
+pub mod Fitting

@@ -1,0 +1,7 @@
+pub mod Words
+pub mod Table
+pub mod Ranking
+pub mod Part
+pub mod Groups
+pub mod Sweeps
+pub mod Blocks
