@@ -14,6 +14,7 @@ use Rattle.reach.specs.Work.{Added}
 use Rattle.plain.specs.Ends.{Held}
 use Rattle.plain.specs.Ranges.{Some, Ranged}
 use Rattle.plain.specs.declared.ranges.Range.{Range}
+use Rattle.layout.specs.Sweeps.{LEAST, ABOVE}
 use Rattle.backward.specs.Backward.{Once, Listed, New, Ends}
 
 -- c is the first of such two columns

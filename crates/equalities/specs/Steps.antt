@@ -13,7 +13,7 @@ use Rattle.snippets.specs.Count.{IsSnippet}
 use Rattle.snippets.specs.Direct.{Direct}
 use Rattle.machine.specs.declared.Machine.{Machine}
 use Rattle.loops.specs.Loops.{Stage, Loops}
-use Rattle.layout.specs.Blocks.{BLOCKS, snippetAt}
+use Rattle.layout.specs.Blocks.{BLOCKS, snippetAt, rowsAt}
 use Rattle.powers.specs.Powers.{Powers}
 use Rattle.settling.specs.Settled.{Marked}
 use Rattle.first_snippets.specs.Groups.{Enough}

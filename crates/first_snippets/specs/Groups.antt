@@ -13,7 +13,7 @@ use Rattle.snippets.specs.Snippets.{Skeleton, Edge}
 use Rattle.snippets.specs.Ways.{In, Above, FromChild}
 use Rattle.snippets.specs.Direct.{Upper, Lower, Direct}
 use Rattle.layout.specs.Blocks.{BLOCKS, snippetAt}
-use Rattle.layout.specs.Groups.{MARKED}
+use Rattle.layout.specs.Groups.{MARKED, LIST, IN, LEFTIN, RIGHTIN, ABOVE}
 use Rattle.layout.specs.Table.{RANK, COLUMNS}
 use Rattle.layout.specs.Words.{word}
 use Rattle.machine.specs.declared.Machine.{Machine}

@@ -4,6 +4,7 @@ use mathlib.Core.List.{List}
 use Rattle.xpath.specs.Tree.{Tree, Down}
 use Rattle.layout.specs.Words.{Within}
 use Rattle.skeletons.specs.Shape.{Shape}
+use Rattle.layout.specs.Groups.{LEVEL}
 
 -- every way down the tree has fewer than r edges, and there are r nodes at least; no other column has changed
 pub record Levelled (n : ℕ) (p p′ : List ℕ) (r : ℕ) : Type 0 where

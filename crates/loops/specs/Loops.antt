@@ -11,7 +11,7 @@ use Rattle.positions.specs.Positions.{Comes}
 use Rattle.matrices.specs.Matrices.{Related}
 use Rattle.machine.specs.declared.Machine.{Machine}
 use Rattle.machine.specs.Meaning.{IsMachine, Drawn}
-use Rattle.layout.specs.Part.{LOOPS, PAIRS}
+use Rattle.layout.specs.Part.{LOOPS, PAIRS, loopAt}
 
 -- a comparison of two paths on a tree, and the words that stand for them
 pub record Stage (P R : XPath) (t : Tree) (m : Machine) (n : ℕ) (p : List ℕ) : Type 0 where

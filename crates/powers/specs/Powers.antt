@@ -12,6 +12,7 @@ use Rattle.xpath.specs.Tree.{Tree, Down}
 use Rattle.positions.specs.Positions.{Comes}
 use Rattle.table.specs.Links.{Points}
 use Rattle.matrices.specs.Matrices.{Related}
+use Rattle.layout.specs.Blocks.{BLOCKS, downAt, upAt, upperAt}
 
 module _ (P R : XPath) (t : Tree) (n : ℕ) (p : List ℕ) where
   -- the words of exponent k and node y

@@ -9,7 +9,7 @@ use Rattle.document_spec.specs.Binary.{stringOf}
 use Rattle.document_spec.specs.Verdict.{Accepts}
 use Rattle.document_spec.specs.Intervals.{End}
 use Rattle.document.specs.declared.entries.Span.{Span}
-use Rattle.layout.specs.Ranking.{FIRST-TEXT}
+use Rattle.layout.specs.Ranking.{FIRST-TEXT, FIRST, LOW, HIGH, LENGTH}
 use Rattle.layout.specs.Words.{NONE, cell, word, Within}
 use Rattle.values.specs.Comes.{Lies}
 use Rattle.ranks.specs.Ranks.{Tabled}

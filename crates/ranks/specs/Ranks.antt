@@ -11,7 +11,7 @@ use Rattle.document_spec.specs.Library.{Node}
 use Rattle.document_spec.specs.Binary.{pick, stringOf}
 use Rattle.document_spec.specs.Verdict.{Accepts}
 use Rattle.layout.specs.Table.{COLUMNS, RANK, Room}
-use Rattle.layout.specs.Words.{word, Kept}
+use Rattle.layout.specs.Words.{word, Kept, Within}
 use Rattle.table.specs.Links.{Linked}
 
 -- t begins with the table of the tree of an accepted document with n nodes

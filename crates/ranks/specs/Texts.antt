@@ -9,6 +9,7 @@ use Rattle.document_spec.specs.Binary.{textOf}
 use Rattle.document_spec.specs.Intervals.{End}
 use Rattle.layout.specs.Table.{RANK}
 use Rattle.layout.specs.Words.{NONE, word, Within}
+use Rattle.layout.specs.Ranking.{FIRST-TEXT, LAST-TEXT}
 
 -- ── The nodes from a up to b ──
 -- none of them has text

@@ -10,6 +10,7 @@ use Rattle.snippets.specs.Marks.{Marked}
 use Rattle.layout.specs.Table.{RANK}
 use Rattle.layout.specs.Words.{NONE, word, Within}
 use Rattle.table.specs.Links.{Points}
+use Rattle.layout.specs.Groups.{FIRST, NEXT, MARKED, BLOCK}
 use Rattle.skeletons.specs.Shape.{Shape}
 
 -- ── Groups ──

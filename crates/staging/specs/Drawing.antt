@@ -13,7 +13,7 @@ use Rattle.document_spec.specs.Library.{Node}
 use Rattle.document_spec.specs.Binary.{stringOf}
 use Rattle.layout.specs.Part.{STAYS, HIT}
 use Rattle.layout.specs.Table.{COLUMNS, LEFT, RANK}
-use Rattle.layout.specs.Words.{word}
+use Rattle.layout.specs.Words.{word, Within}
 use Rattle.test_bits.specs.Columns.{held}
 
 -- the links and the ranks stand in the part too

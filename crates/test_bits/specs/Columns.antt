@@ -8,6 +8,7 @@ use lib.ListN.{length, getD}
 use Rattle.limits.specs.Limits.{ruleTests, wordBits}
 use Rattle.bits.specs.Sets.{bit}
 use Rattle.layout.specs.Words.{word}
+use Rattle.layout.specs.Table.{TESTS}
 
 -- bit k of node v
 abbrev pub held : List ℕ → ℕ → ℕ → ℕ → Bool
