@@ -13,6 +13,9 @@ use Rattle.powers.proofs.blocks.none.Tie as tie
 block-at-requires : tie.Need-block-at-requires
 block-at-requires c κs = search needs
 
+cast-p : tie.Need-cast-p
+cast-p c = search needs
+
 add-p : tie.Need-add-p
 add-p c = search needs
 
@@ -32,4 +35,4 @@ returns c =
     (only-upper (x .n) (x .k) (x .y) (x .p .now) NONE, upper-set (x .n) (x .k) (x .y) (x .p .now) NONE (c .before .before .pre))
 
 pub none-spec : {M : Type 1} → statement M
-none-spec = tie.close (tie.spec block-at-requires add-p mul-p slice-write-p same-length returns)
+none-spec = tie.close (tie.spec block-at-requires cast-p add-p mul-p slice-write-p same-length returns)
