@@ -18,7 +18,7 @@ use test_numbers::tests_of;
 ghost use mathlib.Core.List.{List};
 ghost use Rattle.xpath.specs.Syntax.{Test};
 ghost use Rattle.document_spec.specs.Library as Library;
-ghost use Rattle.rule_spec.specs.Verdict as Rule;
+ghost use Rattle.rule_spec.specs.Verdict as Grammar;
 ghost use Rattle.rule_parts.specs.declared.kinds.TestKind.the-variants.{Comparison};
 ghost use Rattle.test_numbers.specs.Tests.{testsOf, test};
 ghost use Rattle.driver.specs.Tasks.{Scene, Task, Shape, Settles, Evaluates};
@@ -81,8 +81,8 @@ fn settle(
 
 // Where the rule and each test in it hold: bit 0 is that of the rule. The number of snippets of all its equalities is handed back.
 pub fn settle_rule(e: Evaluator, s: &[u8], rule: &[u8], t: &mut [u16], n: usize) -> usize
-    requires { ⌜ ((ns : List Library.Node) × (T : Test) × Scene (now s) ns n (now t) × Rule.Accepts (now rule) T) ⌝ }
-    ensures { λ r. ⌜ ((ns : List Library.Node) (T : Test) → Scene (now (s .entry)) ns n (now (t .entry)) → Rule.Accepts (now (rule .entry)) T → Evaluates e ns n T (now (t .entry)) (now (t .exit)) r) ⌝ }
+    requires { ⌜ ((ns : List Library.Node) × (T : Test) × Scene (now s) ns n (now t) × Grammar.Accepts (now rule) T) ⌝ }
+    ensures { λ r. ⌜ ((ns : List Library.Node) (T : Test) → Scene (now (s .entry)) ns n (now (t .entry)) → Grammar.Accepts (now (rule .entry)) T → Evaluates e ns n T (now (t .entry)) (now (t .exit)) r) ⌝ }
 {
     let mut offsets = [0; Rule::MAX_TESTS];
     let mut k = tests_of(rule, &mut offsets);
