@@ -228,7 +228,10 @@ mod tests {
         }
     }
 
-    /// Counts of snippets too, on trees that are too large for the evaluator.
+    /// Counts of snippets too, also on trees that are too large for the
+    /// evaluator to count. The version in Rust has the algorithm of the proved
+    /// one, so a mistake in what they share would not show here; on smaller
+    /// trees both are compared with the evaluator.
     #[test]
     fn random_trees_are_answered_alike() {
         let mut counted = 0;

@@ -1,10 +1,30 @@
-//! An evaluator of document 01, written from its sentences by brute force.
+//! An evaluator of document 01, written from its sentences and not from the
+//! proved code. No code is shared. The archive is compared with it.
 //!
-//! It is the evidence from outside for the proved program: it shares no code
-//! and no algorithm with it. Everything is kept as plain sets and relations
-//! over nodes, so it is meant for libraries of up to a few hundred nodes.
-//! The checks of documents and rules have no such bound, and for marks alone
-//! `backward` has the meaning a second time, for the largest libraries too.
+//! By the definitions, over plain sets and tables, are
+//! - the checks: `document`, and `grammar` with `rule_check`;
+//! - the marks: `meaning`, where a path is the relation of the nodes that it
+//!   joins (`relation`);
+//! - the counts: `positions`, `chains` and `snippets`, where each skeleton is
+//!   made from every two nodes of a value, and all first snippets and halves
+//!   are written out and kept in one set.
+//!
+//! The checks have no bound; marks and counts are meant for libraries of up to
+//! a few hundred nodes. In four places something is found in a quicker way than
+//! the sentence says, and the tests in `tests/suite` hold it against the
+//! sentence:
+//! - `relation` joins relations row by row and closes them by doubling; in
+//!   `relations` both are done pair by pair.
+//! - `positions` keeps what two steps see of a word and not the words; in
+//!   `word_positions` the words are written out.
+//! - `chains` searches from place to place; in `place_chains` it is the closure
+//!   of the single links. A search by a list of what is open is also how the
+//!   proved plain evaluation walks (crate `reach`, over sets of positions).
+//! - `backward` has the marks a second time, and no counts, for libraries of up
+//!   to 4,096 nodes. That it goes backwards from the nodes where paths end is
+//!   also the way of the proved crate `backward` (for constants and order, over
+//!   positions), so it is no way of its own; in `meanings` it is compared with
+//!   `meaning` at every node, on random libraries of up to 300 nodes.
 
 pub mod backward;
 pub mod chains;

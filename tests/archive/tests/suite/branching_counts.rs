@@ -1,10 +1,9 @@
-//! Counts of snippets on branching trees of 40 to 120 nodes. The evaluator
-//! counts them and marks the nodes by the definitions, so that the archive's
-//! counts are compared with something other than its own algorithm here too.
+//! Counts of snippets, marks and scratch on branching trees of 40 to 120 nodes,
+//! compared with what the evaluator counts and marks by the definitions.
 
 use std::collections::{BTreeMap, BTreeSet};
 
-use crate::evaluation_agreement::{assert_agreement_by_definition, Buffers, Length};
+use crate::evaluation_agreement::{assert_agreement, Buffers, Length, BY_DEFINITION};
 use evaluator::document::{spell, Library};
 use evaluator::evaluate::Outcome;
 use evaluator::random::{branching_library, rule, rule_about, wandering_rule, Random};
@@ -14,16 +13,20 @@ use evaluator::tree::Tree;
 
 const SMALLEST: usize = 40;
 const LARGEST: usize = 120;
+/// Above, the evaluator would not count.
+const _: () = assert!(LARGEST <= BY_DEFINITION);
 /// So many pairs of a tree and a rule for each size.
-const CASES_OF_A_SIZE: u64 = 10;
+const CASES_OF_A_SIZE: usize = 16;
+/// Other seeds than those of the other tests.
+const FIRST_SEED: u64 = 4_000_000;
 /// More equalities in one rule would take long.
 const MOST_EQUALITIES: usize = 4;
 
-/// What makes a tree branch. Children, forks and ways are meant in the binary
-/// tree, where skeletons are.
+/// How a tree branches. Levels and families are those of the document, all else
+/// is meant in the binary tree, where the skeletons are.
 struct Branching {
     levels: usize,
-    /// How many nodes have several nodes directly inside in the document.
+    /// How many nodes have several nodes directly inside.
     families: usize,
     /// How many nodes have a left child and a right child.
     forks: usize,
@@ -128,7 +131,7 @@ fn draw_buffers(random: &mut Random) -> Buffers {
     }
 }
 
-/// How much the calls exercised. All of them have snippets.
+/// How much the calls exercised; those without snippets are only counted.
 #[derive(Default)]
 struct Exercise {
     calls: BTreeMap<&'static str, usize>,
@@ -180,12 +183,13 @@ impl Exercise {
     }
 
     fn assert_not_idle(&self) {
-        println!("{:?}, {} counts", self.calls, self.counts.len());
-        assert!(self.calls["snippets"] >= 780, "{:?}", self.calls);
+        println!("seeds from {FIRST_SEED} on: {:?}", self.calls);
+        println!("{} distinct counts", self.counts.len());
+        assert!(self.calls["snippets"] >= 1_200, "{:?}", self.calls);
         let sizes: Vec<usize> = self.sizes.keys().copied().collect();
         assert!(sizes.iter().copied().eq(SMALLEST..=LARGEST), "{sizes:?}");
         assert!(
-            self.sizes.values().all(|calls| *calls >= 5),
+            self.sizes.values().all(|calls| *calls >= 12),
             "{:?}",
             self.sizes
         );
@@ -223,20 +227,17 @@ fn has_bracket(p: &Path, r: &Path, such: fn(&Test) -> bool) -> bool {
 #[test]
 fn branching_trees_are_counted_as_by_the_definition() {
     let mut exercise = Exercise::default();
-    for nodes in SMALLEST..=LARGEST {
-        for case in 0..CASES_OF_A_SIZE {
-            // Other seeds than those of the other tests.
-            let seed = 4_000_000 + CASES_OF_A_SIZE * nodes as u64 + case;
-            let random = &mut Random::new(seed);
-            let (library, tree, branching) = draw_tree(random, nodes);
-            let rule = draw_rule(random, &tree);
-            let buffers = draw_buffers(random);
-            let origin = format_args!("seed {seed}, {nodes} nodes");
-            let (document, spelled) = (spell(&library), rule.spell());
-            let outcome = assert_agreement_by_definition(origin, &document, &spelled, buffers);
-            assert_eq!(outcome.number, 0, "seed {seed}");
-            exercise.add(nodes, &branching, &rule, &outcome);
-        }
+    let sizes = (SMALLEST..=LARGEST).flat_map(|nodes| [nodes; CASES_OF_A_SIZE]);
+    for (seed, nodes) in (FIRST_SEED..).zip(sizes) {
+        let random = &mut Random::new(seed);
+        let (library, tree, branching) = draw_tree(random, nodes);
+        let rule = draw_rule(random, &tree);
+        let buffers = draw_buffers(random);
+        let origin = format_args!("seed {seed}, {nodes} nodes");
+        let (document, spelled) = (spell(&library), rule.spell());
+        let outcome = assert_agreement(origin, &document, &spelled, buffers);
+        assert_eq!(outcome.number, 0, "seed {seed}");
+        exercise.add(nodes, &branching, &rule, &outcome);
     }
     exercise.assert_not_idle();
 }

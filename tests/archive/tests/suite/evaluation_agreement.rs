@@ -6,7 +6,7 @@ use std::time::{Duration, Instant};
 
 use archive::needed_words;
 use evaluator::evaluate::{evaluate_plain, evaluate_snippets, most_snippets};
-use evaluator::evaluate::{Evaluation, Meaning, Outcome};
+use evaluator::evaluate::{Evaluation, Outcome};
 use evaluator::random::Random;
 use evaluator::shrink::{shrink_nodes, shrink_rule};
 use evaluator::{backward, document, meaning, reader};
@@ -114,87 +114,71 @@ pub fn called(
     }
 }
 
-/// Up to how many nodes the evaluator goes by the definitions.
-#[derive(Clone, Copy)]
-struct Extent {
-    /// Up to so many it counts snippets.
-    counted: usize,
-    /// Up to so many it marks by relations over nodes; above, they take too
-    /// long, and it follows paths backwards.
-    marked: usize,
+fn archive_after(evaluation: Evaluation, document: &[u8], rule: &[u8], before: &Memory) -> After {
+    let mut memory = before.clone();
+    let (scratch, marks) = memory.lent();
+    let outcome = called(evaluation, document, rule, scratch, marks);
+    After { outcome, memory }
 }
 
-/// Up to so many nodes snippets are counted where many calls are made.
-pub const COUNTED: usize = 20;
-/// Where many calls are made, or large ones.
-const QUICK: Extent = Extent {
-    counted: COUNTED,
-    marked: 100,
-};
-/// Where calls are few and not large.
-const WHOLE: Extent = Extent {
-    counted: usize::MAX,
-    marked: usize::MAX,
-};
+/// Up to so many nodes the evaluator counts snippets and marks nodes by the
+/// definitions. Above, relations over nodes take too long: it marks by
+/// following paths backwards, and does not count.
+pub const BY_DEFINITION: usize = 130;
 
-/// One call, to be made to both.
-#[derive(Clone, Copy)]
-struct Call<'a> {
+/// What is due. Where snippets are not counted, the archive may report what it
+/// does, up to the bound.
+fn evaluator_after(
     evaluation: Evaluation,
-    document: &'a [u8],
-    rule: &'a [u8],
-    buffers: Buffers,
-    extent: Extent,
-}
-
-impl Call<'_> {
-    fn archive_after(self, before: &Memory) -> After {
-        let mut memory = before.clone();
-        let (scratch, marks) = memory.lent();
-        let outcome = called(self.evaluation, self.document, self.rule, scratch, marks);
-        After { outcome, memory }
-    }
-
-    /// What is due. Where counting takes too long, the archive may report what
-    /// it does, up to the bound.
-    fn evaluator_after(self, before: &Memory, reported: usize) -> After {
-        let Call { document, rule, .. } = self;
-        let nodes = document::check(document).nodes;
-        let mut memory = before.clone();
-        let (scratch, marks) = memory.lent();
-        let snippets = self.evaluation == Evaluation::Snippets;
-        if snippets && nodes <= self.extent.counted {
-            let outcome = evaluate_snippets(document, rule, scratch, marks);
-            return After { outcome, memory };
+    document: &[u8],
+    rule: &[u8],
+    before: &Memory,
+    reported: usize,
+) -> After {
+    let nodes = document::check(document).nodes;
+    let mut memory = before.clone();
+    let (scratch, marks) = memory.lent();
+    let plain = |scratch, marks, meaning| evaluate_plain(document, rule, scratch, marks, meaning);
+    let outcome = match (evaluation, nodes <= BY_DEFINITION) {
+        (Evaluation::Plain, true) => plain(scratch, marks, meaning::holds),
+        (Evaluation::Snippets, true) => evaluate_snippets(document, rule, scratch, marks),
+        (Evaluation::Plain, false) => plain(scratch, marks, backward::holds),
+        (Evaluation::Snippets, false) => {
+            let mut outcome = plain(scratch, marks, backward::holds);
+            if outcome.number == 0 {
+                outcome.snippets = reported.min(most_snippets(nodes, &reader::read(rule)));
+            }
+            outcome
         }
-        let meaning: Meaning = match nodes <= self.extent.marked {
-            true => meaning::holds,
-            false => backward::holds,
-        };
-        let mut outcome = evaluate_plain(document, rule, scratch, marks, meaning);
-        if snippets && outcome.number == 0 {
-            outcome.snippets = reported.min(most_snippets(nodes, &reader::read(rule)));
-        }
-        After { outcome, memory }
-    }
+    };
+    After { outcome, memory }
 }
 
 /// One call, and what both made of it.
 struct Trial<'a> {
-    call: Call<'a>,
+    evaluation: Evaluation,
+    document: &'a [u8],
+    rule: &'a [u8],
     before: Memory,
     archive: After,
     evaluator: After,
 }
 
 impl Trial<'_> {
-    fn of(call: Call) -> Trial {
-        let before = Memory::before(call.document, call.buffers);
-        let archive = call.archive_after(&before);
+    fn of<'a>(
+        evaluation: Evaluation,
+        document: &'a [u8],
+        rule: &'a [u8],
+        buffers: Buffers,
+    ) -> Trial<'a> {
+        let before = Memory::before(document, buffers);
+        let archive = archive_after(evaluation, document, rule, &before);
         let reported = archive.outcome.snippets;
         Trial {
-            call,
-            evaluator: call.evaluator_after(&before, reported),
+            evaluation,
+            document,
+            rule,
+            evaluator: evaluator_after(evaluation, document, rule, &before, reported),
             archive,
             before,
         }
@@ -206,7 +190,7 @@ impl Trial<'_> {
 
     /// The numbers of the nodes that an accepted call marked.
     fn marked(mut self) -> Vec<usize> {
-        let nodes = document::check(self.call.document).nodes;
+        let nodes = document::check(self.document).nodes;
         let (_, marks) = self.archive.memory.lent();
         (0..nodes).filter(|v| marks[*v] == 1).collect()
     }
@@ -219,18 +203,11 @@ fn agreed<'a>(
     document: &'a [u8],
     rule: &'a [u8],
     buffers: Buffers,
-    extent: Extent,
 ) -> [Trial<'a>; 2] {
     EVALUATIONS.map(|evaluation| {
-        let trial = Trial::of(Call {
-            evaluation,
-            document,
-            rule,
-            buffers,
-            extent,
-        });
+        let trial = Trial::of(evaluation, document, rule, buffers);
         if trial.differs() {
-            report(origin, &trial);
+            report(origin, &trial, buffers);
         }
         trial
     })
@@ -245,20 +222,8 @@ pub fn assert_agreement(
     rule: &[u8],
     buffers: Buffers,
 ) -> Outcome {
-    let [_, snippets] = agreed(&origin, document, rule, buffers, QUICK);
+    let [_, snippets] = agreed(&origin, document, rule, buffers);
     snippets.archive.outcome
-}
-
-/// The same, but snippets are counted and nodes marked by the definitions,
-/// however many nodes there are.
-pub fn assert_agreement_by_definition(
-    origin: impl Display,
-    document: &[u8],
-    rule: &[u8],
-    buffers: Buffers,
-) -> Outcome {
-    let [_, snippets] = agreed(&origin, document, rule, buffers, WHOLE);
-    snippets.evaluator.outcome
 }
 
 /// Asserts the same of an accepted call, and that it marks just these nodes.
@@ -269,7 +234,7 @@ pub fn assert_marked(
     buffers: Buffers,
     due: &[usize],
 ) {
-    for trial in agreed(&origin, document, rule, buffers, QUICK) {
+    for trial in agreed(&origin, document, rule, buffers) {
         let shown = rule.escape_ascii();
         let outcome = trial.archive.outcome;
         assert_eq!((outcome.number, outcome.place), (0, 0), "{origin}: {shown}");
@@ -301,29 +266,22 @@ const PATIENCE: Duration = Duration::from_secs(20);
 
 /// Nodes are left out first, since calls on small documents are quick, then
 /// the rule is made small, then both again.
-fn report(origin: &dyn Display, trial: &Trial) -> ! {
+fn report(origin: &dyn Display, trial: &Trial, buffers: Buffers) -> ! {
     let begun = Instant::now();
     let go_on = || begun.elapsed() < PATIENCE;
-    let call = trial.call;
     let again = |document: &[u8], rule: &[u8]| {
-        Trial::of(Call {
-            document,
-            rule,
-            ..call
-        })
-        .differs()
+        Trial::of(trial.evaluation, document, rule, buffers).differs()
     };
-    let (mut document, mut rule) = (call.document.to_vec(), call.rule.to_vec());
+    let (mut document, mut rule) = (trial.document.to_vec(), trial.rule.to_vec());
     for _ in 0..2 {
         document = shrink_nodes(&document, |bytes| again(bytes, &rule), go_on);
         rule = shrink_rule(&rule, |bytes| again(&document, bytes), go_on);
     }
-    let small = Trial::of(Call {
-        document: &document,
-        rule: &rule,
-        ..call
-    });
-    panic!("{origin}, {:?}\n{trial}\nShrunk to:\n{small}", call.buffers);
+    panic!(
+        "{origin}, {buffers:?}\n{}\nShrunk to:\n{}",
+        trial,
+        Trial::of(trial.evaluation, &document, &rule, buffers)
+    );
 }
 
 /// How much of a document is printed.
@@ -333,15 +291,14 @@ const SHOWN: usize = 2_000;
 /// of a line.
 impl Display for Trial<'_> {
     fn fmt(&self, out: &mut Formatter) -> fmt::Result {
-        let Call { document, rule, .. } = self.call;
-        let shown = &document[..document.len().min(SHOWN)];
+        let shown = &self.document[..self.document.len().min(SHOWN)];
         writeln!(
             out,
             "{:?}, rule: {}",
-            self.call.evaluation,
-            rule.escape_ascii()
+            self.evaluation,
+            self.rule.escape_ascii()
         )?;
-        writeln!(out, "document of {} bytes:", document.len())?;
+        writeln!(out, "document of {} bytes:", self.document.len())?;
         for line in shown.split_inclusive(|byte| *byte == b'\n') {
             writeln!(out, "{}", line.escape_ascii())?;
         }

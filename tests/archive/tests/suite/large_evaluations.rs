@@ -1,5 +1,6 @@
 //! Documents around each power of two and of 4,096 nodes: deep, wide and
-//! random. The evaluator follows paths backwards on them.
+//! random. Small ones the evaluator marks and counts by the definitions; on
+//! large ones it follows paths backwards, and counts only keep their bound.
 
 use crate::evaluation_agreement::{assert_agreement, needed, Buffers, Length};
 use evaluator::document::{spell, Library, NODE_LIMIT};

@@ -1,4 +1,5 @@
-//! The proved functions in the archive against the independent evaluator.
+//! The proved functions in the archive against the evaluator, which is written
+//! from document 01 and not from their code.
 //!
 //! The proof holds of the source; these tests run what was compiled from it,
 //! through the calling convention that other languages use.

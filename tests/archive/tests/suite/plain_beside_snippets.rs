@@ -1,5 +1,6 @@
-//! The two evaluations of the archive beside each other, on libraries that are
-//! too large for the evaluator's definitions: they mark the same nodes.
+//! The two evaluations of the archive beside each other, mostly on libraries
+//! that are too large for the evaluator's definitions: they mark the same nodes.
+//! Their counts are not compared here; they only keep the bound.
 
 use crate::evaluation_agreement::called;
 use archive::needed_words;

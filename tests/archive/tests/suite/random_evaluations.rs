@@ -3,7 +3,7 @@
 
 use std::collections::{BTreeMap, BTreeSet};
 
-use crate::evaluation_agreement::{assert_agreement, Buffers, Length, COUNTED};
+use crate::evaluation_agreement::{assert_agreement, Buffers, Length, BY_DEFINITION};
 use crate::rules_seen::Seen;
 use evaluator::document::{spell, Kind, Library};
 use evaluator::evaluate::{needed_words, Outcome};
@@ -118,16 +118,16 @@ impl Exercise {
         self.count("all marked", selected == nodes);
     }
 
-    /// Of the pairs whose snippets are counted by the definition.
+    /// The evaluator counts them by the definition on every pair.
     fn add_snippets(&mut self, pair: &Pair, snippets: usize) {
         let nodes = pair.tree.size();
-        let counted = nodes <= COUNTED;
+        assert!(nodes <= BY_DEFINITION);
         let equalities = equalities(&pair.rule).len();
-        self.count("counted", counted && equalities > 0);
-        self.count("counted, none", counted && equalities > 0 && snippets == 0);
-        self.count("counted, some", counted && snippets > 0);
-        self.count("counted, many", counted && snippets > 8 * nodes);
-        let added = counted && equalities > 1 && snippets > 0;
+        self.count("counted", equalities > 0);
+        self.count("counted, none", equalities > 0 && snippets == 0);
+        self.count("counted, some", snippets > 0);
+        self.count("counted, many", snippets > 8 * nodes);
+        let added = equalities > 1 && snippets > 0;
         self.count("counted, added over several", added);
     }
 

@@ -3,7 +3,7 @@
 
 use std::collections::BTreeSet;
 
-use crate::evaluation_agreement::{assert_agreement, called, needed, COUNTED};
+use crate::evaluation_agreement::{assert_agreement, called, needed, BY_DEFINITION};
 use archive::needed_words;
 use evaluator::document::{self, spell, NODE_LIMIT};
 use evaluator::evaluate::{most_snippets, Evaluation, Outcome};
@@ -88,7 +88,7 @@ fn no_rule_counts_more_than_its_bound() {
     let values: Vec<String> = (0..1_000)
         .map(|number| format!("v{}", number % 37))
         .collect();
-    for nodes in [2, COUNTED, 100, 1_000] {
+    for nodes in [2, BY_DEFINITION, 100, 1_000] {
         let values: Vec<&str> = values[1..nodes].iter().map(String::as_str).collect();
         let document = row(&values);
         let outcome = assert_agreement("the most", &document, rule.as_bytes(), needed(2));

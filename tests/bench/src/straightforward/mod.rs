@@ -83,9 +83,9 @@ fn in_relation(sign: Sign, first: Option<Range>, second: Option<Range>) -> bool 
 #[cfg(test)]
 mod tests {
     use super::{plain, snippets, Answer};
-    use evaluator::document::spell;
+    use evaluator::document::{spell, Library};
     use evaluator::evaluate::{evaluate, needed_words, Evaluation};
-    use evaluator::random::{library, rule_about, Random};
+    use evaluator::random::{branching_library, library, rule_about, Random};
     use evaluator::samples::selections::GROUPS;
     use evaluator::tree::Tree;
     use evaluator::{document, meaning};
@@ -130,21 +130,40 @@ mod tests {
         }
     }
 
+    /// Whether the evaluator counts snippets by a random rule; both count the
+    /// same.
+    fn has_snippets(seed: u64, random: &mut Random, library: &Library) -> bool {
+        let (nodes, document) = (library.nodes.len(), spell(library));
+        let rule = evaluator::random::rule(random, 12).spell();
+        let words = needed_words(nodes);
+        let (due, _) = evaluate(&document, &rule, words, nodes, Evaluation::Snippets);
+        let [(plain, _), (snippets, _)] = both(&document, &rule);
+        assert_eq!(plain.snippets, 0);
+        assert_eq!(snippets.snippets, due.snippets, "seed {seed}");
+        due.snippets > 0
+    }
+
     #[test]
     fn snippets_are_counted_as_the_evaluator_counts_them() {
         let mut with_snippets = 0;
         for seed in 0..1_000 {
             let random = &mut Random::new(seed);
             let nodes = 1 + random.below(20);
-            let library = spell(&library(random, nodes));
-            let rule = evaluator::random::rule(random, 12).spell();
-            let words = needed_words(nodes);
-            let (due, _) = evaluate(&library, &rule, words, nodes, Evaluation::Snippets);
-            let [(plain, _), (snippets, _)] = both(&library, &rule);
-            assert_eq!(plain.snippets, 0);
-            assert_eq!(snippets.snippets, due.snippets, "seed {seed}");
-            with_snippets += usize::from(due.snippets > 0);
+            let library = library(random, nodes);
+            with_snippets += usize::from(has_snippets(seed, random, &library));
         }
         assert!(with_snippets > 300, "{with_snippets}");
+    }
+
+    #[test]
+    fn snippets_of_branching_trees_are_counted_as_the_evaluator_counts_them() {
+        let mut with_snippets = 0;
+        for seed in 0..300 {
+            let random = &mut Random::new(seed);
+            let nodes = 40 + random.below(81);
+            let library = branching_library(random, nodes);
+            with_snippets += usize::from(has_snippets(seed, random, &library));
+        }
+        assert!(with_snippets > 150, "{with_snippets}");
     }
 }

@@ -1,4 +1,4 @@
-//! The program of document 01 by the independent evaluator: standard input to standard output.
+//! The program of document 01 by the evaluator: standard input to standard output.
 
 use std::io::{self, Read, Write};
 

@@ -2,7 +2,7 @@
 
 use crate::samples::run;
 use evaluator::meaning::compare;
-use evaluator::random::{library, rule, rule_about, Random};
+use evaluator::random::{branching_library, library, rule, rule_about, Random};
 use evaluator::rule::Sign;
 use evaluator::samples::selections::GROUPS;
 use evaluator::tree::Tree;
@@ -19,28 +19,46 @@ fn every_fixed_selection_marks_what_is_due() {
     }
 }
 
+/// Whether a random rule marks some nodes and not all; by both meanings it
+/// marks the same.
+fn marks_some(seed: u64, random: &mut Random, tree: &Tree) -> bool {
+    let size = 2 + random.below(24);
+    let test = match random.percent(50) {
+        true => rule(random, size),
+        false => rule_about(random, size, &tree.values),
+    };
+    let holds = backward::holds(tree, &test);
+    let due = meaning::holds(tree, &test);
+    let spelled = String::from_utf8_lossy(&test.spell()).into_owned();
+    assert_eq!(holds, due, "seed {seed}: {spelled}");
+    holds.contains(&true) && holds.contains(&false)
+}
+
 #[test]
-fn backward_is_the_same_meaning() {
+fn backward_is_the_same_meaning_on_small_trees() {
     let mut some = 0;
     for seed in 0..4_000 {
         let random = &mut Random::new(seed);
         let nodes = 1 + random.below(24);
         let tree = Tree::of(&library(random, nodes));
-        let size = 2 + random.below(24);
-        let test = match random.percent(50) {
-            true => rule(random, size),
-            false => rule_about(random, size, &tree.values),
-        };
-        let holds = backward::holds(&tree, &test);
-        let spelled = String::from_utf8_lossy(&test.spell()).into_owned();
-        assert_eq!(
-            holds,
-            meaning::holds(&tree, &test),
-            "seed {seed}: {spelled}"
-        );
-        some += usize::from(holds.contains(&true) && holds.contains(&false));
+        some += usize::from(marks_some(seed, random, &tree));
     }
     assert!(some > 1_000, "{some} marked some nodes and not all");
+}
+
+#[test]
+fn backward_is_the_same_meaning_on_larger_trees() {
+    let mut some = 0;
+    for seed in 0..600 {
+        let random = &mut Random::new(seed);
+        let nodes = 25 + random.below(276);
+        let tree = Tree::of(&match random.percent(50) {
+            true => library(random, nodes),
+            false => branching_library(random, nodes),
+        });
+        some += usize::from(marks_some(seed, random, &tree));
+    }
+    assert!(some > 200, "{some} marked some nodes and not all");
 }
 
 #[test]
