@@ -3,7 +3,6 @@ pub mod blocks;
 mod hops;
 mod passes;
 
-use blocks::DOWN;
 use hops::first_hop;
 use layout::Blocks;
 use layout::places::block_at;
@@ -21,6 +20,9 @@ ghost use Rattle.loops.specs.Loops.{Stage, Loops};
 ghost use Rattle.layout.specs.Blocks.{BLOCKS};
 ghost use Rattle.powers.specs.Powers.{Powered, Lifts};
 ghost use Rattle.powers.specs.Ladder.{Ladder, Stretch};
+
+// Within a block the rows that lead down come first.
+const DOWN: usize = 0;
 
 // The powers of all nodes, for the exponents below `b`.
 pub fn find_powers(p: &mut [u16], n: usize, b: usize, m: Machine)
