@@ -8,8 +8,8 @@ use Rattle.powers.proofs.lift.Reads as lift
 use Rattle.powers.proofs.lift.Kinds as lift-kinds
 use Rattle.powers.proofs.+lift.Lts-lift as lift-lts
 use Rattle.matrices.proofs.before.Reads as before-reads
-use Rattle.powers.proofs.blocks.block_at.Reads as block-at-reads
-use Rattle.powers.proofs.blocks.loop_at.Reads as loop-at-reads
+use Rattle.layout.proofs.places.block_at.Reads as block-at-reads
+use Rattle.layout.proofs.places.loop_at.Reads as loop-at-reads
 use Rattle.powers.proofs.hops.first_hop.Reads as first-hop-reads
 use Rattle.powers.proofs.+lift.{statement}
 use Rattle.powers.proofs.+lift.Tie.{close}
@@ -27,7 +27,7 @@ abbrev lift-calls : ℕ → lift-lts.Claims
 lift-calls t = (loop-at-reads.Asked, loop-at-reads.Learnt, before-reads.Asked, before-reads.Learnt, first-hop-reads.Asked, first-hop-reads.Learnt, block-at-reads.Asked, block-at-reads.Learnt, lift-below t, lift.Post)
 
 lift-loop-at-requires : (t : ℕ) → lift-lts.Need-loop-at-requires (lift-calls t) (lift-at t) lift.Post
-lift-loop-at-requires t c κs = let s = c .before .before .pre .1 in (s .node, s .few)
+lift-loop-at-requires t c κs = let s = c .before .before .pre .1 in let h = s .node in (s .few, omega arith)
 
 lift-before-requires : (t : ℕ) → lift-lts.Need-before-requires (lift-calls t) (lift-at t) lift.Post
 lift-before-requires t c κs = let room = stretch-loops (c .before .before .before .pre .1) in omega (arith, c .loop-at .ensures)

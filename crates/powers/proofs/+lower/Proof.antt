@@ -9,8 +9,8 @@ use Rattle.powers.proofs.lower.Reads as lower
 use Rattle.powers.proofs.lower.Kinds as lower-kinds
 use Rattle.powers.proofs.+lower.Lts-lower as lower-lts
 use Rattle.matrices.proofs.before.Reads as before-reads
-use Rattle.powers.proofs.blocks.block_at.Reads as block-at-reads
-use Rattle.powers.proofs.blocks.loop_at.Reads as loop-at-reads
+use Rattle.layout.proofs.places.block_at.Reads as block-at-reads
+use Rattle.layout.proofs.places.loop_at.Reads as loop-at-reads
 use Rattle.powers.proofs.hops.first_hop.Reads as first-hop-reads
 use Rattle.powers.proofs.+lower.{statement}
 use Rattle.powers.proofs.+lower.Tie.{close}
@@ -28,7 +28,7 @@ abbrev lower-calls : ℕ → lower-lts.Claims
 lower-calls t = (loop-at-reads.Asked, loop-at-reads.Learnt, before-reads.Asked, before-reads.Learnt, first-hop-reads.Asked, first-hop-reads.Learnt, lower-below t, lower.Post, block-at-reads.Asked, block-at-reads.Learnt)
 
 lower-loop-at-requires : (t : ℕ) → lower-lts.Need-loop-at-requires (lower-calls t) (lower-at t) lower.Post
-lower-loop-at-requires t c κs = let s = c .before .before .pre .1 in (s .node, s .few)
+lower-loop-at-requires t c κs = let s = c .before .before .pre .1 in let h = s .node in (s .few, omega arith)
 
 lower-before-requires : (t : ℕ) → lower-lts.Need-before-requires (lower-calls t) (lower-at t) lower.Post
 lower-before-requires t c κs = let room = stretch-loops (c .before .before .before .pre .1) in omega (arith, c .loop-at .ensures)
