@@ -73,19 +73,19 @@ pub hits-answered : {m : Machine} {n len : ℕ} {p p₁ p₂ p₃ : List ℕ} �
     → Answered n (λ v. Seen p₂ n v 0) p₂ p₃ → Answered n (Hits m n p) p p₃
 hits-answered {m} {n} {len} {p} {p₁} {p₂} {p₃} empty f g a =
     record {
-      long = a .long ∙ g .added .long ∙ f .long;
+      long = a .long ∙ g .added .long ∙ f .within .long;
       answers = λ v l. ⊎-elim (λ (s, e). inl (to v l (g .added .seen v 0 l (omega arith) .0 s), e)) (λ (s, e). inr (λ h. s (from v l h), e)) (a .answers v l);
     }
   where
     hit : (w : ℕ) → w < n → word p₁ n HIT w ≡ word p n HIT w
-    hit w l = f .front (cell n HIT w) (omega arith)
+    hit w l = f .within .front (cell n HIT w) (omega arith)
 
     to : (v : ℕ) → v < n → Seen p₁ n v 0 ⊎ Ends m n p₁ (IsHit p₁ n) v 0 → Hits m n p v
     to v l (inl s) = absurd (unseen empty v 0 l (omega arith) s)
     to v l (inr s) =
-        let (w, r, e, t) = ends-same {p = p₁} {q = p} (λ k h q. sym (f .front k q)) {F = IsHit p n} (λ w r e. sym (hit w r) ∙ e) l s in
+        let (w, r, e, t) = ends-same {p = p₁} {q = p} (λ k h q. sym (f .within .front k q)) {F = IsHit p n} (λ w r e. sym (hit w r) ∙ e) l s in
         (w, r, t, e)
 
     from : (v : ℕ) → v < n → Hits m n p v → Seen p₂ n v 0
     from v l (w, r, t, e) =
-        g .added .seen v 0 l (omega arith) .1 (inr (ends-same {p = p} {q = p₁} (λ k h q. f .front k q) {E = IsHit p n} {F = IsHit p₁ n} (λ w r e. hit w r ∙ e) l (w, r, e, t)))
+        g .added .seen v 0 l (omega arith) .1 (inr (ends-same {p = p} {q = p₁} (λ k h q. f .within .front k q) {E = IsHit p n} {F = IsHit p₁ n} (λ w r e. hit w r ∙ e) l (w, r, e, t)))

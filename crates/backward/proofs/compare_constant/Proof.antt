@@ -12,7 +12,7 @@ fill-requires c κs = search needs
 spread-hits-requires : tie.Need-spread-hits-requires
 spread-hits-requires c κs =
     let f = c .before .before .before in let x = f .before .before .before .pre in let g = f .fill .ensures in
-    (listed-none (x .0) (filled-cleared g), linked-same (λ k l h. g .front k h) (x .1))
+    (listed-none (x .0) (filled-cleared g), linked-same (λ k l h. g .within .front k h) (x .1))
 
 answer-seen-requires : tie.Need-answer-seen-requires
 answer-seen-requires c κs = search needs
