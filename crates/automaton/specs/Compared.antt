@@ -24,11 +24,11 @@ module _ (P : XPath) (b n : ℕ) where
   pub record Started (before after : List (List Bool)) : Type 0 where
     pub told : (i j : ℕ) → i < positions → j < positions → (cell after i j ≡ true) ↔ ((cell before i j ≡ true) ⊎ ((i ≡ n) × Begins P b j))
 
--- 01: which position may follow which is a square
+-- 01, "Which position may follow which is a square of 16 by 16": cell j of row i tells whether j follows i
 pub record FollowSquare (P R : XPath) (f : List (List Bool)) : Type 0 where
   pub follow : (i j : ℕ) → i < positions → j < positions → (cell f i j ≡ true) ↔ Follows P R i j
 
--- 01: which positions are last; and where the steps of each path end
+-- 01, "A position is last if": the set of those, and the numbers of each path's last step
 pub record IsAutomaton (P R : XPath) (r : Automaton) : Type 0 where
   pub last : (i : ℕ) → (bit (r .last) i ≡ true) ↔ IsLast P R i
   pub middle : r .middle ≡ size P

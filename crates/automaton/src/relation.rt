@@ -1,4 +1,4 @@
-// What follows what in a path, by a walk over its bytes: the square is handed on by value. The sets of its parts are read anew at each level of nesting.
+// What follows what in a path, by a walk over its bytes that hands the square on by value. The sets of the parts are scanned anew at each level: a function returns one thing, and these paths are short.
 use crate::scan::scan;
 use bits::square::Square;
 use bits::square::joined;
