@@ -2,6 +2,8 @@
 //! and reports a difference with a small input.
 
 use std::fmt::{self, Display, Formatter};
+use std::panic::catch_unwind;
+use std::thread::panicking;
 use std::time::{Duration, Instant};
 
 use archive::needed_words;
@@ -196,6 +198,18 @@ impl Trial<'_> {
     }
 }
 
+/// Prints the origin of a call if something panics meanwhile: the evaluator
+/// asserts things too, and they do not know what call they are in.
+struct Origin<'a>(&'a dyn Display);
+
+impl Drop for Origin<'_> {
+    fn drop(&mut self) {
+        if panicking() {
+            eprintln!("in the call of {}", self.0);
+        }
+    }
+}
+
 /// Makes the call to each evaluation, and asserts that archive and evaluator do
 /// the same, with every word of scratch and every mark.
 fn agreed<'a>(
@@ -204,6 +218,7 @@ fn agreed<'a>(
     rule: &'a [u8],
     buffers: Buffers,
 ) -> [Trial<'a>; 2] {
+    let _origin = Origin(origin);
     EVALUATIONS.map(|evaluation| {
         let trial = Trial::of(evaluation, document, rule, buffers);
         if trial.differs() {
@@ -269,8 +284,10 @@ const PATIENCE: Duration = Duration::from_secs(20);
 fn report(origin: &dyn Display, trial: &Trial, buffers: Buffers) -> ! {
     let begun = Instant::now();
     let go_on = || begun.elapsed() < PATIENCE;
+    // A call on which an assertion of the evaluator fails is another failure.
     let again = |document: &[u8], rule: &[u8]| {
-        Trial::of(trial.evaluation, document, rule, buffers).differs()
+        let differs = || Trial::of(trial.evaluation, document, rule, buffers).differs();
+        catch_unwind(differs).unwrap_or(false)
     };
     let (mut document, mut rule) = (trial.document.to_vec(), trial.rule.to_vec());
     for _ in 0..2 {
