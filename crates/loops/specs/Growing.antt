@@ -25,25 +25,9 @@ pub record Ready (n : ℕ) (p : List ℕ) : Type 0 where
   pub parents : (v : ℕ) → 0 < v → v < n → word p n PARENT v < v
 
 -- ── One matrix ──
--- the members of w are added to one word; r is 1 if one of them is new, and else 0
-pub record Joined (at w : ℕ) (p p′ : List ℕ) (r : ℕ) : Type 0 where
-  pub long : length p′ ≡ length p
-  pub here : (j : ℕ) → bit (getD p′ at 0) j ≡ or (bit (getD p at 0) j) (bit w j)
-  pub other : (k : ℕ) → k ≢ at → getD p′ k 0 ≡ getD p k 0
-  pub small : r ≤ 1
-  pub count : r + size positions (getD p at 0) ≤ size positions (getD p′ at 0)
-  pub still : r ≡ 0 → p′ ≡ p
-
 -- what is related already, or by a detour over the matrix that stands elsewhere
 abbrev pub Widened : Machine → List ℕ → ℕ → ℕ → ℕ → ℕ → ℕ → ℕ → Type 0
 Widened m p over at w w′ i j = Related p at i j ⊎ Detour m p over w w′ i j
-
--- the first k rows get the relation A; r of them are larger than before
-pub record Widening (A : ℕ → ℕ → Type 0) (at k : ℕ) (p p′ : List ℕ) (r : ℕ) : Type 0 where
-  pub drawn : Drawing A at k p p′
-  pub small : r ≤ k
-  pub count : r + pairs p at k ≤ pairs p′ at k
-  pub still : r ≡ 0 → p′ ≡ p
 
 -- the matrix becomes the closure of A, by at least r pairs; r is 0 if it has all of A already, and then nothing changes
 pub record Visited (A : ℕ → ℕ → Type 0) (at : ℕ) (p p′ : List ℕ) (r : ℕ) : Type 0 where
