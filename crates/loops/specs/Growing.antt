@@ -1,18 +1,18 @@
 -- How the matrices of the nodes grow: what each function adds to them, and what it keeps.
 use Prim.Native.Nat.{ℕ, _+_, _*_, _≤_, _<_}
 use mathlib.Core.Path.{_≡_}
-use mathlib.Core.Logic.{_⊎_, _≢_, _↔_}
+use mathlib.Core.Logic.{_⊎_, _↔_}
 use mathlib.Core.Bool.{Bool, true}
 use mathlib.Core.List.{List}
 use lib.ListN.{length, getD}
 use Rattle.limits.specs.Limits.{documentNodes, positions}
-use Rattle.bits.specs.Sets.{bit, or, size}
+use Rattle.bits.specs.Sets.{bit}
 use Rattle.xpath.specs.Syntax.{XPath}
 use Rattle.xpath.specs.Tree.{Tree}
 use Rattle.layout.specs.Part.{STAYS, LOOPS, PAIRS, loopAt}
 use Rattle.layout.specs.Table.{PARENT}
-use Rattle.layout.specs.Words.{word}
-use Rattle.matrices.specs.Matrices.{Related, Chain, Redrawn, Drawing, pairs}
+use Rattle.layout.specs.Words.{word, Frame}
+use Rattle.matrices.specs.Matrices.{Related, Chain, Redrawn, pairs}
 use Rattle.machine.specs.declared.Machine.{Machine}
 use Rattle.loops.specs.Loops.{Stage}
 use Rattle.loops.specs.Closed.{downs, ups, OnSide, Goes, Detour}
@@ -60,9 +60,7 @@ pub record Woven (m : Machine) (n k : ℕ) (p : List ℕ) : Type 0 where
 
 -- they are drawn from the steps that stay, and all other words are as before
 pub record Started (m : Machine) (n k : ℕ) (p p′ : List ℕ) : Type 0 where
-  pub long : length p′ ≡ length p
-  pub front : (l : ℕ) → l < LOOPS * n → getD p′ l 0 ≡ getD p l 0
-  pub behind : (l : ℕ) → loopAt n k ≤ l → getD p′ l 0 ≡ getD p l 0
+  pub frame : Frame (LOOPS * n) (loopAt n k) p p′
   pub woven : Woven m n k p′
   pub sound : (P R : XPath) (t : Tree) → Stage P R t m n p → SoundBelow P R t n k p′
 
@@ -73,9 +71,7 @@ total n p = pairs p (LOOPS * n) (positions * n)
 
 -- at least r pairs are added, each of them sound; r is 0 only if nothing changes
 pub record Grown (m : Machine) (n : ℕ) (p p′ : List ℕ) (r : ℕ) : Type 0 where
-  pub long : length p′ ≡ length p
-  pub front : (k : ℕ) → k < LOOPS * n → getD p′ k 0 ≡ getD p k 0
-  pub behind : (k : ℕ) → PAIRS * n ≤ k → getD p′ k 0 ≡ getD p k 0
+  pub frame : Frame (LOOPS * n) (PAIRS * n) p p′
   pub grow : (v i j : ℕ) → v < n → i < positions → j < positions → Related p (loopAt n v) i j → Related p′ (loopAt n v) i j
   pub woven : Woven m n n p → Woven m n n p′
   pub sound : (P R : XPath) (t : Tree) → Stage P R t m n p → SoundBelow P R t n n p → SoundBelow P R t n n p′
