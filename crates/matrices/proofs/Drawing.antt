@@ -1,9 +1,10 @@
 -- A matrix that is drawn row by row.
-use Prim.Native.Nat.{ℕ, _+_, _≤_, _<_}
+use Prim.Native.Nat.{ℕ, _+_, _-_, _≤_, _<_}
 use mathlib.Core.Path.{_≡_, refl, sym, ap, _∙_, subst}
 use mathlib.Core.Bool.{true, false, false≢true}
 use mathlib.Core.Logic.{_≢_, _⊎_, inl, inr, _↔_}
 use mathlib.Core.List.{List}
+use native.Mathlib.Decide.{decLt}
 use native.Mathlib.Nat.{eq-or-lt-of-le}
 use native.Mathlib.Omega.{arith}
 use lib.ListN.{length, getD, set, length-set}
@@ -11,7 +12,7 @@ use lib.Seq.{getD-set-same, getD-set-other}
 use borrow.Author.Tests.{eqb-true, eq-eqb}
 use Rattle.bits.specs.Sets.{bit, or, is}
 use Rattle.layout.proofs.Frames.{frame-none, frame-then, frame-wider}
-use Rattle.matrices.specs.Matrices.{Related, Image, Apart, Drawing, Reflexive, Through, Composed}
+use Rattle.matrices.specs.Matrices.{Related, Image, Redrawn, Apart, Drawing, Reflexive, Through, Composed}
 use Rattle.matrices.proofs.Members.{or-cases, or-left, or-right, union-iff}
 
 pub drawing-none : (A : ℕ → ℕ → Type 0) (at : ℕ) (p : List ℕ) → Drawing A at 0 p p
@@ -43,6 +44,15 @@ module _ {A : ℕ → ℕ → Type 0} {at k : ℕ} {p q : List ℕ} (d : Drawing
   pub apart-same : (a i : ℕ) → Apart a at → k ≤ 16 → i < 16 → getD q (a + i) 0 ≡ getD p (a + i) 0
   apart-same a i (inl f) few h = d .frame .front (a + i) (omega arith)
   apart-same a i (inr b) few h = d .frame .behind (a + i) (omega arith)
+
+-- a word that is none of the matrix
+pub redrawn-other : {at : ℕ} {p q : List ℕ} → Redrawn at p q → (l : ℕ) → ((i : ℕ) → i < 16 → l ≢ at + i) → getD q l 0 ≡ getD p l 0
+redrawn-other {at} {p} {q} f l e = go (decLt l at) (decLt l (at + 16))
+  where
+    go : Dec (l < at) → Dec (l < at + 16) → getD q l 0 ≡ getD p l 0
+    go (yes h) d = f .front l h
+    go (no h) (no g) = f .behind l (omega arith)
+    go (no h) (yes g) = absurd (e (l - at) (omega arith) (omega arith))
 
 pub drawing-to : {A : ℕ → ℕ → Type 0} {at k m : ℕ} {p q : List ℕ} → k ≡ m → Drawing A at k p q → Drawing A at m p q
 drawing-to {A} {at} {k} {m} {p} {q} e d = subst (λ (x : ℕ). Drawing A at x p q) e d
