@@ -1,31 +1,34 @@
 -- Laws of the rows that become 0.
-use Prim.Native.Nat.{ℕ, suc, _+_, _-_, _*_, _/_, _%_, _≤_, _<_}
+use Prim.Native.Nat.{ℕ, suc, _+_, _*_, _/_, _%_, _≤_, _<_}
 use mathlib.Core.Path.{_≡_, refl, sym, ap, _∙_, subst}
 use mathlib.Core.Logic.{_≢_, _⊎_, inl, inr}
 use mathlib.Core.List.{List}
-use native.Mathlib.Decide.{decLt, decLe}
 use native.Mathlib.Nat.{eq-or-lt-of-le, mul-le-mul-right, div-add-mod', div-lt-iff-lt-mul, mod-lt}
 use native.Mathlib.Omega.{arith}
 use lib.ListN.{length, getD, set, length-set}
 use lib.Seq.{getD-set-same, getD-set-other}
+use Rattle.layout.proofs.Frames.{frame-none, frame-then, frame-wider}
+use Rattle.matrices.proofs.Drawing.{redrawn-other}
 use Rattle.first_snippets.specs.Groups.{Aside, Rest}
 use Rattle.layout.specs.Blocks.{rowsAt}
 use Rattle.equalities.specs.Steps.{Zeroed, Cleared, Empty}
 
 -- ── Words from an offset on ──
 pub zeroed-none : (at : ℕ) (p : List ℕ) → Zeroed at 0 p p
-zeroed-none at p = record { long = refl; front = λ l h. refl; behind = λ l h. refl; zero = λ i h. absurd (omega arith) }
+zeroed-none at p = record { frame = frame-none p; zero = λ i h. absurd (omega arith) }
 
 pub zeroed-step : {at k : ℕ} {p q : List ℕ} → Zeroed at k p q → at + k < length p → Zeroed at (k + 1) p (set q (at + k) 0)
 zeroed-step {at} {k} {p} {q} z room = record {
-  long = length-set q (at + k) 0 ∙ z .long;
-  front = λ l h. getD-set-other q (at + k) l 0 0 (omega arith) ∙ z .front l h;
-  behind = λ l h. getD-set-other q (at + k) l 0 0 (omega arith) ∙ z .behind l (omega arith);
+  frame = frame-then (frame-wider (omega arith) (omega arith) (z .frame)) (record {
+    long = length-set q (at + k) 0;
+    front = λ l h. getD-set-other q (at + k) l 0 0 (omega arith);
+    behind = λ l h. getD-set-other q (at + k) l 0 0 (omega arith);
+  });
   zero = λ i h. go i (eq-or-lt-of-le (omega arith));
 }
   where
     go : (i : ℕ) → (i ≡ k) ⊎ (i < k) → getD (set q (at + k) 0) (at + i) 0 ≡ 0
-    go i (inl e) = ap (λ (j : ℕ). getD (set q (at + k) 0) (at + j) 0) e ∙ getD-set-same q (at + k) 0 0 (omega (arith, z .long))
+    go i (inl e) = ap (λ (j : ℕ). getD (set q (at + k) 0) (at + j) 0) e ∙ getD-set-same q (at + k) 0 0 (omega (arith, z .frame .long))
     go i (inr h) = getD-set-other q (at + k) (at + i) 0 0 (omega arith) ∙ z .zero i h
 
 pub zeroed-to : {at k m : ℕ} {p q : List ℕ} → k ≡ m → Zeroed at k p q → Zeroed at m p q
@@ -37,22 +40,14 @@ cleared-none n p = record { long = refl; other = λ k h. refl; zero = λ l i h. 
 
 pub cleared-step : {n c : ℕ} {p q q′ : List ℕ} → Cleared n c p q → Zeroed (rowsAt n c) 16 q q′ → Cleared n (c + 1) p q′
 cleared-step {n} {c} {p} {q} {q′} f z = record {
-  long = z .long ∙ f .long;
-  other = λ k h. outside k (λ i r. h c i (omega arith) r) ∙ f .other k (λ l i r s. h l i (omega arith) s);
+  long = z .frame .long ∙ f .long;
+  other = λ k h. redrawn-other (z .frame) k (λ i r. h c i (omega arith) r) ∙ f .other k (λ l i r s. h l i (omega arith) s);
   zero = λ l i h r. go l i r (eq-or-lt-of-le (omega arith));
 }
   where
-    outside : (k : ℕ) → ((i : ℕ) → i < 16 → k ≢ rowsAt n c + i) → getD q′ k 0 ≡ getD q k 0
-    outside k h = go (decLt k (rowsAt n c)) (decLe (rowsAt n c + 16) k)
-      where
-        go : Dec (k < rowsAt n c) → Dec (rowsAt n c + 16 ≤ k) → getD q′ k 0 ≡ getD q k 0
-        go (yes r) d = z .front k r
-        go (no r) (yes s) = z .behind k s
-        go (no r) (no s) = absurd (h (k - rowsAt n c) (omega arith) (omega arith))
-
     go : (l i : ℕ) → i < 16 → (l ≡ c) ⊎ (l < c) → getD q′ (rowsAt n l + i) 0 ≡ 0
     go l i r (inl e) = ap (λ (j : ℕ). getD q′ (rowsAt n j + i) 0) e ∙ z .zero i r
-    go l i r (inr h) = z .front (rowsAt n l + i) (omega arith) ∙ f .zero l i h r
+    go l i r (inr h) = z .frame .front (rowsAt n l + i) (omega arith) ∙ f .zero l i h r
 
 module _ {n b : ℕ} {p p′ : List ℕ} (f : Cleared n (b * n) p p′) where
   pub cleared-empty : Empty n b p′

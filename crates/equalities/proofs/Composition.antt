@@ -84,7 +84,7 @@ bucketed-empty {n} g f k y i l r s = g .within .behind (snippetAt n k y + i) (om
 module _ {m : Machine} {n : ℕ} {p p₁ : List ℕ} (given : (P R : XPath) × (t : Tree) × Stage P R t m n p) (loops : (P R : XPath) (t : Tree) → Stage P R t m n p → Looped P R t n p p₁) where
   -- p₁ is the part with its loops
   pub looped : ((P R : XPath) × (t : Tree) × Stage P R t m n p₁ × Loops P R t n p₁) × (length p₁ ≡ length p)
-  looped = let (P, R, t, stage) = given in let l = loops P R t stage in ((P, R, t, stage-kept (l .front) stage, l .loops), l .long)
+  looped = let (P, R, t, stage) = given in let l = loops P R t stage in ((P, R, t, stage-kept (l .frame .front) stage, l .loops), l .frame .long)
 
   -- p₂ has its powers too, and p₃ has no snippets
   pub prepared : {b : ℕ} {p₂ p₃ : List ℕ} → 0 < n → ((P R : XPath) (t : Tree) → Stage P R t m n p₁ → Loops P R t n p₁ → Powered P R t n b p₁ p₂) → Cleared n (b * n) p₂ p₃ → Prepares m n b p p₃
@@ -92,7 +92,7 @@ module _ {m : Machine} {n : ℕ} {p p₁ : List ℕ} (given : (P R : XPath) × (
     long = cleared .long ∙ (let ((P, R, t, stage, found), long) = looped in powers P R t stage found .long ∙ long);
     founded = λ P R t stage enough.
         let l = loops P R t stage in
-        let stage₁ = stage-kept (l .front) stage in
+        let stage₁ = stage-kept (l .frame .front) stage in
         let powered = powers P R t stage₁ (l .loops) in
         let ladder = ladder-of stage₁ (l .loops) powered in
         founded-rest (omega arith) (cleared-rest cleared some)

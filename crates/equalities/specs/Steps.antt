@@ -14,6 +14,7 @@ use Rattle.snippets.specs.Direct.{Direct}
 use Rattle.machine.specs.declared.Machine.{Machine}
 use Rattle.loops.specs.Loops.{Stage, Loops}
 use Rattle.layout.specs.Blocks.{BLOCKS, snippetAt, rowsAt}
+use Rattle.layout.specs.Words.{Frame}
 use Rattle.powers.specs.Powers.{Powers}
 use Rattle.settling.specs.Settled.{Marked}
 use Rattle.first_snippets.specs.Groups.{Enough}
@@ -21,9 +22,7 @@ use Rattle.first_snippets.specs.Groups.{Enough}
 -- ── Rows without snippets ──
 -- the first k words from an offset on become 0
 pub record Zeroed (at k : ℕ) (p p′ : List ℕ) : Type 0 where
-  pub long : length p′ ≡ length p
-  pub front : (l : ℕ) → l < at → getD p′ l 0 ≡ getD p l 0
-  pub behind : (l : ℕ) → at + k ≤ l → getD p′ l 0 ≡ getD p l 0
+  pub frame : Frame at (at + k) p p′
   pub zero : (i : ℕ) → i < k → getD p′ (at + i) 0 ≡ 0
 
 -- the rows of the first c blocks become 0, and all other words are as before

@@ -26,12 +26,13 @@ use Rattle.layout.proofs.Frames.{within-none, within-then, within-more, within-
 use Rattle.table.specs.Links.{Points}
 use Rattle.machine.specs.declared.Machine.{Machine}
 use Rattle.matrices.proofs.Members.{union-iff}
+use Rattle.matrices.specs.Matrices.{Exactly}
 use Rattle.loops.specs.Loops.{Stage}
 use Rattle.powers.specs.Powers.{Lifts}
 use Rattle.powers.specs.Ladder.{Ladder, Stretch}
 use Rattle.skeletons.specs.Skeletons.{IsNoted, Group, Arrives, Ascent}
 use Rattle.skeletons.proofs.Judging.{empty-block}
-use Rattle.first_snippets.specs.Groups.{inward, Exactly, Setting, Given, Rest, Sides, Risen}
+use Rattle.first_snippets.specs.Groups.{inward, Setting, Given, Rest, Sides, Risen}
 use Rattle.first_snippets.specs.Steps.{Placed, Cleared, Handed, Rises, Rose}
 use Rattle.first_snippets.proofs.Rest.{rest-more, rest-within, sizes-rest, setting-rest, ladder-of}
 

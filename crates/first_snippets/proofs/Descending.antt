@@ -23,12 +23,13 @@ use Rattle.layout.specs.Words.{cell, word, Wrote, Within}
 use Rattle.layout.proofs.Frames.{within-put}
 use Rattle.machine.specs.declared.Machine.{Machine}
 use Rattle.matrices.proofs.Members.{union-iff}
+use Rattle.matrices.specs.Matrices.{Exactly}
 use Rattle.loops.specs.Loops.{Stage, Loops}
 use Rattle.powers.specs.Powers.{Lifts}
 use Rattle.powers.specs.Ladder.{Ladder}
 use Rattle.skeletons.specs.Skeletons.{IsNoted, Ranks, Group, Arrives, Ascent}
 use Rattle.skeletons.proofs.Judging.{empty-block}
-use Rattle.first_snippets.specs.Groups.{inward, Exactly, Setting, OfFirst, Rest, Gains, OfEdge, Yields, Sides, Risen, Sunk}
+use Rattle.first_snippets.specs.Groups.{inward, Setting, OfFirst, Rest, Gains, OfEdge, Yields, Sides, Risen, Sunk}
 use Rattle.first_snippets.specs.Steps.{EdgeAt, Gained, BothParts, Outside, Sinks, SinksBy, Sank}
 use Rattle.first_snippets.proofs.Rest.{rest-none, rest-then, rest-more, rest-within, same-word, setting-rest, ladder-of}
 use Rattle.first_snippets.proofs.Gains.{gains-same, gains-then, gains-iff, gains-before}

@@ -14,21 +14,20 @@ use Rattle.layout.specs.Part.{loopAt}
 use Rattle.layout.specs.Table.{RANK}
 use Rattle.layout.specs.Words.{word}
 use Rattle.machine.specs.declared.Machine.{Machine}
-use Rattle.matrices.specs.Matrices.{Before}
+use Rattle.matrices.specs.Matrices.{Exactly, Before}
 use Rattle.loops.specs.Loops.{Stage, Loops}
 use Rattle.skeletons.specs.Skeletons.{Ranks}
-use Rattle.first_snippets.specs.Groups.{Exactly}
 
 module _ (P R : XPath) (t : Tree) (d : List ℕ) {m : Machine} {n r v : ℕ} {p : List ℕ} (stage : Stage P R t m n p) (loops : Loops P R t n p) (ranks : Ranks t d n r p) (node : v < n) where
   -- of a node of the group
-  pub own-here : (w at : ℕ) → word p n RANK v ≡ r → at ≡ loopAt n v → ((i : ℕ) → i < 16 → (bit w i ≡ true) ↔ Before p at (m .last) i) → Exactly w (Own t P R d v)
+  pub own-here : (w at : ℕ) → word p n RANK v ≡ r → at ≡ loopAt n v → Exactly w (Before p at (m .last)) → Exactly w (Own t P R d v)
   own-here w at e place asked i l = (
     λ x. let (j, q, a, c) = before i l .0 x in (record { inside = subst (λ (z : ℕ). v < z) (sym (stage .drawn .size)) node; value = ranks v node .0 e }, (j, stage .machine .last j .0 a, loops v i j node l q .0 c)),
     λ (h, (j, a, c)). let q = comes-few P R t (stage .machine .few) c l in before i l .1 (j, q, stage .machine .last j .1 a, loops v i j node l q .1 c),
   )
     where
-      before : (i : ℕ) → i < 16 → (bit w i ≡ true) ↔ Before p (loopAt n v) (m .last) i
-      before = subst (λ (z : ℕ). (i : ℕ) → i < 16 → (bit w i ≡ true) ↔ Before p z (m .last) i) place asked
+      before : Exactly w (Before p (loopAt n v) (m .last))
+      before = subst (λ (z : ℕ). Exactly w (Before p z (m .last))) place asked
 
   -- of another
   pub own-none : word p n RANK v ≢ r → Exactly 0 (Own t P R d v)

@@ -1,11 +1,10 @@
 -- Laws of what may change: columns from one on, and the snippets' rows; and what stays by them.
-use Prim.Native.Nat.{ℕ, suc, _+_, _-_, _*_, _/_, _%_, _≤_, _<_}
+use Prim.Native.Nat.{ℕ, suc, _+_, _*_, _/_, _%_, _≤_, _<_}
 use mathlib.Core.Path.{_≡_, refl, sym, _∙_, subst}
 use mathlib.Core.Logic.{_⊎_, inl, inr, _↔_}
 use mathlib.Core.Bool.{Bool, true, false}
 use mathlib.Core.List.{List}
 use lib.ListN.{length, getD}
-use native.Mathlib.Decide.{decLt, decLe}
 use native.Mathlib.Nat.{mul-le-mul-right}
 use native.Mathlib.Omega.{arith}
 use Rattle.bits.specs.Sets.{bit}
@@ -24,6 +23,7 @@ use Rattle.table.specs.Links.{Points}
 use Rattle.machine.specs.declared.Machine.{Machine}
 use Rattle.machine.specs.Meaning.{IsStep, Drawn}
 use Rattle.matrices.specs.Matrices.{Redrawn}
+use Rattle.matrices.proofs.Drawing.{redrawn-other}
 use Rattle.loops.specs.Loops.{Stage, Loops}
 use Rattle.powers.specs.Powers.{Powers}
 use Rattle.powers.specs.Ladder.{Ladder, Stretch}
@@ -49,16 +49,11 @@ rest-within {d = d} {n} l h = let x : d * n ≤ 16 * n = mul-le-mul-right n l in
 
 -- the rows of one exponent and node
 pub rest-rows : {n b k y : ℕ} {p p′ : List ℕ} → k < b → y < n → Redrawn (snippetAt n k y) p p′ → Rest 16 n b p p′
-rest-rows {n} {b} {k} {y} {p} {p′} low node h = record {
+rest-rows {k = k} {y} low node h = record {
   long = h .long;
   front = λ l q. h .front l (omega arith);
-  behind = λ l q f. go l f (decLt l (snippetAt n k y)) (decLe (snippetAt n k y + 16) l);
+  behind = λ l q f. redrawn-other h l (λ i s. f k y i low node s);
 }
-  where
-    go : (l : ℕ) → Aside n b l → Dec (l < snippetAt n k y) → Dec (snippetAt n k y + 16 ≤ l) → getD p′ l 0 ≡ getD p l 0
-    go l f (yes q) d = h .front l q
-    go l f (no q) (yes r) = h .behind l r
-    go l f (no q) (no r) = absurd (f k y (l - snippetAt n k y) low node (omega arith) (omega arith))
 
 -- ── What stays ──
 -- the words of a power are no rows of snippets

@@ -12,7 +12,6 @@ use Rattle.xpath.proofs.Trees.{down-join, down-split}
 use Rattle.positions.specs.Positions.{Comes}
 use Rattle.snippets.proofs.Edges.{comes-few}
 use Rattle.matrices.specs.Matrices.{Drawing}
-use Rattle.matrices.proofs.Drawing.{drawing-only}
 use Rattle.exponents.specs.Exponent.{Exponent}
 use Rattle.layout.specs.Blocks.{snippetAt}
 use Rattle.powers.specs.Powers.{Lifts}
@@ -110,7 +109,7 @@ module _ {n b v len k two : ℕ} {p : List ℕ} (s : Stretch n b v len p) (expon
     upper-gained {first} {inside} {outside} {p′} set at lifts place drawn =
         let h : Drawing (Crossed p (snippetAt n k u) outside set first) (snippetAt n k u) 16 p p′ = subst (λ (z : ℕ). Drawing (Crossed p z outside set first) z 16 p p′) place drawn in
         record {
-          rest = rest-rows (exponent-below (exponent .low) (s .short)) upper-node (drawing-only h);
+          rest = rest-rows (exponent-below (exponent .low) (s .short)) upper-node (h .frame);
           found = λ P R t d x e.
               let (z, far, near) = down-split t (e .ladder .formed) (2 ^ k) (len - two) (let l = exponent .low in omega arith) (e .edge .far) in
               let q = over P R t z (e .ladder) near in
@@ -127,7 +126,7 @@ module _ {n b v len k two : ℕ} {p : List ℕ} (s : Stretch n b v len p) (expon
     lower-gained {first} {inside} {outside} {p′} set at lifts place drawn =
         let h : Drawing (Crossed p (snippetAt n k v) set inside first) (snippetAt n k v) 16 p p′ = subst (λ (z : ℕ). Drawing (Crossed p z set inside first) z 16 p p′) place drawn in
         record {
-          rest = rest-rows (exponent-below (exponent .low) (s .short)) (s .node) (drawing-only h);
+          rest = rest-rows (exponent-below (exponent .low) (s .short)) (s .node) (h .frame);
           found = λ P R t d x e.
               let (z, far, near) = down-split t (e .ladder .formed) (len - two) two (let l = part-le in omega arith) (e .edge .far) in
               let q = over P R t z (e .ladder) near in

@@ -6,7 +6,6 @@ use mathlib.Core.Bool.{Bool, true, false}
 use mathlib.Core.List.{List}
 use lib.ListN.{length, getD}
 use Rattle.limits.specs.Limits.{documentNodes, positions, nodeDigits, wordsPerDigit}
-use Rattle.bits.specs.Sets.{bit}
 use Rattle.xpath.specs.Syntax.{XPath, size}
 use Rattle.xpath.specs.Tree.{Tree, Down}
 use Rattle.snippets.specs.Snippets.{Skeleton, Edge}
@@ -17,7 +16,7 @@ use Rattle.layout.specs.Groups.{MARKED, LIST, IN, LEFTIN, RIGHTIN, ABOVE}
 use Rattle.layout.specs.Table.{RANK, COLUMNS}
 use Rattle.layout.specs.Words.{word}
 use Rattle.machine.specs.declared.Machine.{Machine}
-use Rattle.matrices.specs.Matrices.{Related}
+use Rattle.matrices.specs.Matrices.{Exactly, Related}
 use Rattle.loops.specs.Loops.{Stage, Loops}
 use Rattle.powers.specs.Powers.{Powers}
 use Rattle.skeletons.specs.Skeletons.{Buckets, Ranks, Group}
@@ -28,10 +27,6 @@ inward true = LEFTIN
 inward false = RIGHTIN
 
 -- ── What is given ──
--- the 16 positions that are members of w are those that A holds of
-abbrev pub Exactly : ℕ → (ℕ → Type 0) → Type 0
-Exactly w A = (i : ℕ) → i < positions → (bit w i ≡ true) ↔ A i
-
 -- a comparison of two paths on a tree with its loops and its powers, and the marks of the nodes of rank r, which have the value d
 pub record Setting (P R : XPath) (t : Tree) (d : List ℕ) (m : Machine) (n b r : ℕ) (p : List ℕ) : Type 0 where
   pub stage : Stage P R t m n p

@@ -14,11 +14,11 @@ use Rattle.layout.specs.Groups.{LIST, IN, LEFTIN, ABOVE}
 use Rattle.layout.specs.Table.{COLUMNS}
 use Rattle.layout.specs.Words.{word, Within}
 use Rattle.machine.specs.declared.Machine.{Machine}
-use Rattle.matrices.specs.Matrices.{Related}
+use Rattle.matrices.specs.Matrices.{Exactly, Related}
 use Rattle.powers.specs.Ladder.{Ladder}
 use Rattle.loops.specs.Loops.{Stage, Loops}
 use Rattle.skeletons.specs.Skeletons.{IsNoted, Group}
-use Rattle.first_snippets.specs.Groups.{inward, Exactly, Setting, Enough, Sizes, OfFirst, Rest, Gains, OfEdge, Yields, Sides, Risen, Sunk}
+use Rattle.first_snippets.specs.Groups.{inward, Setting, Enough, Sizes, OfFirst, Rest, Gains, OfEdge, Yields, Sides, Risen, Sunk}
 
 -- ── Rows ──
 -- one of the two is a position of the first path, and the other is none

@@ -14,7 +14,7 @@ ghost use Rattle.snippets.specs.Ways.{Own};
 ghost use Rattle.loops.specs.Loops.{Stage, Loops};
 ghost use Rattle.skeletons.specs.Skeletons.{Ranks};
 ghost use Rattle.layout.specs.Part.{PAIRS};
-ghost use Rattle.first_snippets.specs.Groups.{Exactly};
+ghost use Rattle.matrices.specs.Matrices.{Exactly};
 
 // The positions that at node `v` end at `v`, if it has the rank `r` of the group.
 pub fn own(p: &[u16], n: usize, m: Machine, v: usize, r: usize) -> u16

@@ -24,7 +24,8 @@ ghost use Rattle.layout.specs.Part.{PAIRS};
 ghost use Rattle.layout.specs.Table.{Room};
 ghost use Rattle.loops.specs.Loops.{Stage, Loops};
 ghost use Rattle.skeletons.specs.Skeletons.{Ranks};
-ghost use Rattle.first_snippets.specs.Groups.{Exactly, Given, Sides};
+ghost use Rattle.matrices.specs.Matrices.{Exactly};
+ghost use Rattle.first_snippets.specs.Groups.{Given, Sides};
 ghost use Rattle.first_snippets.specs.Steps.{Placed, Cleared, Handed, Rises, Rose};
 
 // Nothing has been handed up to node `v`; what stands at the nodes of an empty block is never read. The result is where to go on.

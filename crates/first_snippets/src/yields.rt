@@ -4,22 +4,13 @@ use exponents::exponent;
 use layout::Blocks;
 use layout::places::block_at;
 use powers::above;
+use powers::hops::two_to;
 use powers::lift;
 use powers::lower;
-ghost use mathlib.Core.Path.{_≡_};
-ghost use Prim.Native.Nat.{_^_, _<_};
-ghost use Rattle.limits.specs.Limits.{nodeDigits};
+ghost use Prim.Native.Nat.{_<_};
 ghost use Rattle.exponents.specs.Exponent.{Exponent};
 ghost use Rattle.powers.specs.Ladder.{Stretch};
 ghost use Rattle.first_snippets.specs.Steps.{Gained, UpperPart, LowerPart, BothParts};
-
-// 2^k.
-fn two_to(k: usize) -> usize
-    requires { ⌜ k < nodeDigits ⌝ }
-    ensures { λ r. ⌜ r ≡ 2 ^ k ⌝ }
-{
-    1 << k
-}
 
 // The upper part of the edge of length `len` above node `v`, where `k` is the exponent of the length.
 fn add_upper(

@@ -1,13 +1,14 @@
 -- The snippets of one power, with some added.
-use Prim.Native.Nat.{ℕ, suc, _+_, _-_, _≤_, _<_}
+use Prim.Native.Nat.{ℕ, suc, _+_, _≤_, _<_}
 use mathlib.Core.Path.{_≡_, refl, sym, _∙_, subst}
-use mathlib.Core.Logic.{_≢_, _⊎_, inl, inr, ⊎-map, _↔_}
+use mathlib.Core.Logic.{_⊎_, inl, inr, ⊎-map, _↔_}
 use mathlib.Core.List.{List}
 use native.Mathlib.Omega.{arith}
 use native.Mathlib.Nat.{eq-or-lt-of-le}
-use native.Mathlib.Decide.{ℕ-discrete, decLt}
+use native.Mathlib.Decide.{ℕ-discrete}
 use lib.ListN.{getD}
 use Rattle.matrices.specs.Matrices.{Related, Drawing}
+use Rattle.matrices.proofs.Drawing.{redrawn-other}
 use Rattle.layout.specs.Blocks.{blockAt, downAt, upAt, snippetAt}
 use Rattle.halving.specs.Passes.{Upper, Lower, With, middle, Hands, upper, lower, Elsewhere, Grown, Handed}
 use Rattle.halving.proofs.Adding.{bit-same, upper-same, lower-same}
@@ -49,19 +50,11 @@ module _ (n k : ℕ) where
   pub grown-drawn : (u : ℕ) (M : ℕ → ℕ → Type 0) {p q : List ℕ} → Drawing (With p (snippetAt n k u) M) (snippetAt n k u) 16 p q → u < n
       → Grown n k (λ z i j. (u ≡ z) × M i j) p q
   grown-drawn u M {p} {q} d h = record {
-    long = d .long;
-    other = λ l e. outside l (λ i a. e u i h a);
+    long = d .frame .long;
+    other = λ l e. redrawn-other (d .frame) l (λ i a. e u i h a);
     rows = λ z i j l a b. go z i j l a b (ℕ-discrete u z);
   }
     where
-      outside : (l : ℕ) → ((i : ℕ) → i < 16 → l ≢ snippetAt n k u + i) → getD q l 0 ≡ getD p l 0
-      outside l e = side (decLt l (snippetAt n k u)) (decLt l (snippetAt n k u + 16))
-        where
-          side : Dec (l < snippetAt n k u) → Dec (l < snippetAt n k u + 16) → getD q l 0 ≡ getD p l 0
-          side (yes f) g = d .front l f
-          side (no f) (no g) = d .behind l (omega arith)
-          side (no f) (yes g) = absurd (e (l - snippetAt n k u) (omega arith) (omega arith))
-
       go : (z i j : ℕ) → z < n → i < 16 → j < 16 → Dec (u ≡ z) → Related q (snippetAt n k z) i j ↔ (Related p (snippetAt n k z) i j ⊎ ((u ≡ z) × M i j))
       go z i j l a b (yes e) =
           subst (λ v. Related q (snippetAt n k v) i j ↔ (Related p (snippetAt n k v) i j ⊎ ((u ≡ v) × M i j))) e
@@ -69,7 +62,7 @@ module _ (n k : ℕ) where
       go z i j l a b (no f) = (λ r. inl (bit-same q p (snippetAt n k z + i) j (sym same) r), back)
         where
           same : getD q (snippetAt n k z + i) 0 ≡ getD p (snippetAt n k z + i) 0
-          same = outside (snippetAt n k z + i) (λ c m e. f (omega arith))
+          same = redrawn-other (d .frame) (snippetAt n k z + i) (λ c m e. f (omega arith))
 
           back : Related p (snippetAt n k z) i j ⊎ ((u ≡ z) × M i j) → Related q (snippetAt n k z) i j
           back (inl r) = bit-same p q (snippetAt n k z + i) j same r

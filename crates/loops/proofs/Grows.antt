@@ -1,40 +1,38 @@
 -- The matrices of all nodes while they grow.
-use Prim.Native.Nat.{ℕ, _+_, _<_}
+use Prim.Native.Nat.{ℕ, _+_, _*_, _<_}
 use mathlib.Core.Path.{_≡_, refl, sym, _∙_, subst}
 use mathlib.Core.Logic.{inl, inr, _↔_}
 use mathlib.Core.Bool.{Bool, true, false}
 use mathlib.Core.List.{List}
 use native.Mathlib.Decide.{ℕ-discrete}
 use native.Mathlib.Omega.{arith}
-use lib.ListN.{length}
 use Rattle.xpath.specs.Syntax.{XPath}
 use Rattle.xpath.specs.Tree.{Tree}
 use Rattle.positions.specs.Positions.{Comes}
-use Rattle.layout.specs.Part.{loopAt}
+use Rattle.layout.specs.Part.{LOOPS, loopAt}
 use Rattle.layout.specs.Table.{PARENT}
-use Rattle.layout.specs.Words.{word}
+use Rattle.layout.specs.Words.{word, Frame}
+use Rattle.layout.proofs.Frames.{frame-none, frame-then, frame-wider}
 use Rattle.matrices.specs.Matrices.{Related, Chain}
 use Rattle.matrices.proofs.Chains.{chain-one}
 use Rattle.machine.specs.declared.Machine.{Machine}
 use Rattle.loops.specs.Loops.{Stage}
 use Rattle.loops.specs.Closed.{downs, ups, OnSide, Detour}
 use Rattle.loops.specs.Growing.{Ready, Widened, Visited, SoundBelow, Grown, Passed, Rises, Falls}
-use Rattle.loops.proofs.Kept.{Front, word-kept, stage-kept}
+use Rattle.loops.proofs.Kept.{word-kept, stage-kept}
 use Rattle.loops.proofs.Sounds.{chain-comes, detour-up, detour-down}
-use Rattle.loops.proofs.Replaced.{front-same, stays, sound-one, woven-one, total-more}
+use Rattle.loops.proofs.Replaced.{stays, sound-one, woven-one, total-more}
 
-pub ready-kept : {n : ℕ} {p q : List ℕ} → length q ≡ length p → Front n p q → Ready n p → Ready n q
-ready-kept {n} {p} {q} long front r = record {
+pub ready-kept : {n b : ℕ} {p q : List ℕ} → Frame (LOOPS * n) b p q → Ready n p → Ready n q
+ready-kept {n} {p = p} {q} f r = record {
   few = r .few;
-  room = omega (arith, r .room);
-  parents = λ v h l. subst (λ (u : ℕ). u < v) (sym (word-kept n p q front PARENT v (omega arith) l)) (r .parents v h l);
+  room = omega (arith, f .long, r .room);
+  parents = λ v h l. subst (λ (u : ℕ). u < v) (sym (word-kept n p q (f .front) PARENT v (omega arith) l)) (r .parents v h l);
 }
 
 pub grown-none : (m : Machine) (n : ℕ) (p : List ℕ) → Grown m n p p 0
 grown-none m n p = record {
-  long = refl;
-  front = λ k h. refl;
-  behind = λ k h. refl;
+  frame = frame-none p;
   grow = λ v i j h l r a. a;
   woven = λ w. w;
   sound = λ P R t s b. b;
@@ -44,12 +42,10 @@ grown-none m n p = record {
 
 pub grown-then : {m : Machine} {n r s : ℕ} {a b c : List ℕ} → Grown m n a b r → Grown m n b c s → Grown m n a c (r + s)
 grown-then g h = record {
-  long = h .long ∙ g .long;
-  front = λ k l. h .front k l ∙ g .front k l;
-  behind = λ k l. h .behind k l ∙ g .behind k l;
+  frame = frame-then (g .frame) (h .frame);
   grow = λ v i j l q o a. h .grow v i j l q o (g .grow v i j l q o a);
   woven = λ w. h .woven (g .woven w);
-  sound = λ P R t s b. h .sound P R t (stage-kept (g .front) s) (g .sound P R t s b);
+  sound = λ P R t s b. h .sound P R t (stage-kept (g .frame .front) s) (g .sound P R t s b);
   count = omega (arith, g .count, h .count);
   still = λ e. h .still (omega arith) ∙ g .still (omega arith);
 }
@@ -61,9 +57,7 @@ module _ {m : Machine} {n x r : ℕ} {A : ℕ → ℕ → Type 0} {p p′ : List
   -- something is new
   visited-more : 0 < r → Grown m n p p′ r
   visited-more more = record {
-    long = w .only .long;
-    front = front-same n x (w .only);
-    behind = λ k h. w .only .behind k (omega arith);
+    frame = frame-wider (omega arith) (omega arith) (w .only);
     grow = λ v i j h l q a. grow v i j h l q a (ℕ-discrete v x);
     woven = λ old. woven-one n x (w .only) (λ y h e. h) (omega arith) closed (λ i j h l q g. has i j (old .bracket x i j inside l q g)) old;
     sound = λ P R t stage old. sound-one n x (w .only) (λ y h e. h) (λ i j h l a. chain-comes (comes P R t stage old) h (closed i j h l .0 a)) old;

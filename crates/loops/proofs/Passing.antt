@@ -8,6 +8,7 @@ use native.Mathlib.Omega.{arith}
 use lib.ListN.{length}
 use Rattle.xpath.specs.Syntax.{XPath}
 use Rattle.xpath.specs.Tree.{Tree}
+use Rattle.layout.proofs.Frames.{frame-then, frame-wider}
 use Rattle.matrices.proofs.Pairs.{pairs-le}
 use Rattle.machine.specs.declared.Machine.{Machine}
 use Rattle.loops.specs.Loops.{Stage, Looped}
@@ -76,11 +77,9 @@ closed-of w (up, down) = record {
 
 -- from the start to matrices that are settled
 pub found : {P R : XPath} {t : Tree} {m : Machine} {n r : ℕ} {p q q′ : List ℕ} → Started m n n p q → Grown m n q q′ r → Settled m n q′ → Stage P R t m n p → Looped P R t n p q′
-found {P} {R} {t} s g settled stage =
-    let begun = stage-kept (s .front) stage in
+found {P} {R} {t} {m} {n} {q = q} s g settled stage =
+    let begun : Stage P R t m n q = stage-kept (s .frame .front) stage in
     record {
-      long = g .long ∙ s .long;
-      front = λ k h. g .front k h ∙ s .front k h;
-      behind = λ k h. g .behind k h ∙ s .behind k (omega arith);
-      loops = loops-of (stage-kept (g .front) begun) (closed-of (g .woven (s .woven)) settled) (g .sound P R t begun (s .sound P R t stage));
+      frame = frame-then (frame-wider (omega arith) (omega arith) (s .frame)) (g .frame);
+      loops = loops-of (stage-kept (g .frame .front) begun) (closed-of (g .woven (s .woven)) settled) (g .sound P R t begun (s .sound P R t stage));
     }

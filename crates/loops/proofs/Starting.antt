@@ -1,11 +1,12 @@
 -- The matrices at the start.
 use Prim.Native.Nat.{ℕ, _+_, _<_}
-use mathlib.Core.Path.{_≡_, refl, sym, _∙_, subst}
+use mathlib.Core.Path.{_≡_, sym, subst}
 use mathlib.Core.Logic.{_↔_}
 use mathlib.Core.List.{List}
 use native.Mathlib.Omega.{arith}
 use Rattle.layout.specs.Part.{STAYS, loopAt}
 use Rattle.layout.specs.Words.{word}
+use Rattle.layout.proofs.Frames.{frame-none, frame-then, frame-wider}
 use Rattle.matrices.specs.Matrices.{Related, Chain, Redrawn, Drawing}
 use Rattle.matrices.proofs.Chains.{chain-map}
 use Rattle.machine.specs.declared.Machine.{Machine}
@@ -20,11 +21,7 @@ use Rattle.loops.proofs.Replaced.{sound-one, woven-one}
 pub begun : (m : Machine) (n v : ℕ) {p q q′ : List ℕ} {at w : ℕ} → at ≡ loopAt n v → w ≡ word p n STAYS v → Drawing (Steps (m .rows) w) at 16 p q
     → Redrawn at q q′ × ((i j : ℕ) → i < 16 → j < 16 → Related q′ at i j ↔ Chain (λ i j. Related q at i j) i j) → Begun m n v p q′
 begun m n v {p} {q} {q′} {at} {w} e f d (only, closure) = record {
-  only = subst (λ (x : ℕ). Redrawn x p q′) e (record {
-    long = only .long ∙ d .long;
-    front = λ k h. only .front k h ∙ d .front k h;
-    behind = λ k h. only .behind k h ∙ d .behind k h;
-  });
+  only = subst (λ (x : ℕ). Redrawn x p q′) e (frame-then (d .frame) only);
   closed = λ i j h l. subst (λ (x : ℕ). Related q′ x i j ↔ Chain (Goes m (word p n STAYS v)) i j) e (to i j h l, from i j h l);
 }
   where
@@ -37,9 +34,7 @@ begun m n v {p} {q} {q′} {at} {w} e f d (only, closure) = record {
 
 pub started-none : (m : Machine) (n : ℕ) (p : List ℕ) → Started m n 0 p p
 started-none m n p = record {
-  long = refl;
-  front = λ l h. refl;
-  behind = λ l h. refl;
+  frame = frame-none p;
   woven = record {
     reflexive = λ v i h. absurd (let f : ⊥ = omega arith in f);
     transitive = λ v i j l h. absurd (let f : ⊥ = omega arith in f);
@@ -51,12 +46,10 @@ started-none m n p = record {
 -- one node more
 pub started-step : {m : Machine} {n v : ℕ} {p q q′ : List ℕ} → v < n → Started m n v p q → Begun m n v q q′ → Started m n (v + 1) p q′
 started-step {m} {n} {v} {p} {q} {q′} inside s b = record {
-  long = b .only .long ∙ s .long;
-  front = λ l h. b .only .front l (omega arith) ∙ s .front l h;
-  behind = λ l h. b .only .behind l (omega arith) ∙ s .behind l (omega arith);
+  frame = frame-then (frame-wider (omega arith) (omega arith) (s .frame)) (frame-wider (omega arith) (omega arith) (b .only));
   woven = woven-one n v (b .only) (λ y h e. omega arith) (omega arith) (b .closed) (λ i j h l r g. g) (s .woven);
   sound = λ P R t stage.
-      let now : Stage P R t m n q = stage-kept (s .front) stage in
+      let now : Stage P R t m n q = stage-kept (s .frame .front) stage in
       sound-one n v (b .only) (λ y h e. omega arith) (λ i j l r a. chain-comes (λ c d x y g. stay-comes now v c d inside x y g) l (b .closed i j l r .0 a)) (s .sound P R t stage);
 }
 

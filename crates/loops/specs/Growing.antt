@@ -1,18 +1,18 @@
 -- How the matrices of the nodes grow: what each function adds to them, and what it keeps.
 use Prim.Native.Nat.{ℕ, _+_, _*_, _≤_, _<_}
 use mathlib.Core.Path.{_≡_}
-use mathlib.Core.Logic.{_⊎_, _≢_, _↔_}
+use mathlib.Core.Logic.{_⊎_, _↔_}
 use mathlib.Core.Bool.{Bool, true}
 use mathlib.Core.List.{List}
 use lib.ListN.{length, getD}
 use Rattle.limits.specs.Limits.{documentNodes, positions}
-use Rattle.bits.specs.Sets.{bit, or, size}
+use Rattle.bits.specs.Sets.{bit}
 use Rattle.xpath.specs.Syntax.{XPath}
 use Rattle.xpath.specs.Tree.{Tree}
 use Rattle.layout.specs.Part.{STAYS, LOOPS, PAIRS, loopAt}
 use Rattle.layout.specs.Table.{PARENT}
-use Rattle.layout.specs.Words.{word}
-use Rattle.matrices.specs.Matrices.{Related, Chain, Redrawn, Drawing, pairs}
+use Rattle.layout.specs.Words.{word, Frame}
+use Rattle.matrices.specs.Matrices.{Related, Chain, Redrawn, pairs}
 use Rattle.machine.specs.declared.Machine.{Machine}
 use Rattle.loops.specs.Loops.{Stage}
 use Rattle.loops.specs.Closed.{downs, ups, OnSide, Goes, Detour}
@@ -25,25 +25,9 @@ pub record Ready (n : ℕ) (p : List ℕ) : Type 0 where
   pub parents : (v : ℕ) → 0 < v → v < n → word p n PARENT v < v
 
 -- ── One matrix ──
--- the members of w are added to one word; r is 1 if one of them is new, and else 0
-pub record Joined (at w : ℕ) (p p′ : List ℕ) (r : ℕ) : Type 0 where
-  pub long : length p′ ≡ length p
-  pub here : (j : ℕ) → bit (getD p′ at 0) j ≡ or (bit (getD p at 0) j) (bit w j)
-  pub other : (k : ℕ) → k ≢ at → getD p′ k 0 ≡ getD p k 0
-  pub small : r ≤ 1
-  pub count : r + size positions (getD p at 0) ≤ size positions (getD p′ at 0)
-  pub still : r ≡ 0 → p′ ≡ p
-
 -- what is related already, or by a detour over the matrix that stands elsewhere
 abbrev pub Widened : Machine → List ℕ → ℕ → ℕ → ℕ → ℕ → ℕ → ℕ → Type 0
 Widened m p over at w w′ i j = Related p at i j ⊎ Detour m p over w w′ i j
-
--- the first k rows get the relation A; r of them are larger than before
-pub record Widening (A : ℕ → ℕ → Type 0) (at k : ℕ) (p p′ : List ℕ) (r : ℕ) : Type 0 where
-  pub drawn : Drawing A at k p p′
-  pub small : r ≤ k
-  pub count : r + pairs p at k ≤ pairs p′ at k
-  pub still : r ≡ 0 → p′ ≡ p
 
 -- the matrix becomes the closure of A, by at least r pairs; r is 0 if it has all of A already, and then nothing changes
 pub record Visited (A : ℕ → ℕ → Type 0) (at : ℕ) (p p′ : List ℕ) (r : ℕ) : Type 0 where
@@ -76,9 +60,7 @@ pub record Woven (m : Machine) (n k : ℕ) (p : List ℕ) : Type 0 where
 
 -- they are drawn from the steps that stay, and all other words are as before
 pub record Started (m : Machine) (n k : ℕ) (p p′ : List ℕ) : Type 0 where
-  pub long : length p′ ≡ length p
-  pub front : (l : ℕ) → l < LOOPS * n → getD p′ l 0 ≡ getD p l 0
-  pub behind : (l : ℕ) → loopAt n k ≤ l → getD p′ l 0 ≡ getD p l 0
+  pub frame : Frame (LOOPS * n) (loopAt n k) p p′
   pub woven : Woven m n k p′
   pub sound : (P R : XPath) (t : Tree) → Stage P R t m n p → SoundBelow P R t n k p′
 
@@ -89,9 +71,7 @@ total n p = pairs p (LOOPS * n) (positions * n)
 
 -- at least r pairs are added, each of them sound; r is 0 only if nothing changes
 pub record Grown (m : Machine) (n : ℕ) (p p′ : List ℕ) (r : ℕ) : Type 0 where
-  pub long : length p′ ≡ length p
-  pub front : (k : ℕ) → k < LOOPS * n → getD p′ k 0 ≡ getD p k 0
-  pub behind : (k : ℕ) → PAIRS * n ≤ k → getD p′ k 0 ≡ getD p k 0
+  pub frame : Frame (LOOPS * n) (PAIRS * n) p p′
   pub grow : (v i j : ℕ) → v < n → i < positions → j < positions → Related p (loopAt n v) i j → Related p′ (loopAt n v) i j
   pub woven : Woven m n n p → Woven m n n p′
   pub sound : (P R : XPath) (t : Tree) → Stage P R t m n p → SoundBelow P R t n n p → SoundBelow P R t n n p′

@@ -1,9 +1,7 @@
 -- The loops of a comparison: for each node, which positions come to which there.
-use Prim.Native.Nat.{ℕ, _+_, _*_, _≤_, _<_}
-use mathlib.Core.Path.{_≡_}
+use Prim.Native.Nat.{ℕ, _*_, _<_}
 use mathlib.Core.Logic.{_↔_}
 use mathlib.Core.List.{List}
-use lib.ListN.{length, getD}
 use Rattle.limits.specs.Limits.{positions}
 use Rattle.xpath.specs.Syntax.{XPath}
 use Rattle.xpath.specs.Tree.{Tree, WellFormed}
@@ -12,6 +10,7 @@ use Rattle.matrices.specs.Matrices.{Related}
 use Rattle.machine.specs.declared.Machine.{Machine}
 use Rattle.machine.specs.Meaning.{IsMachine, Drawn}
 use Rattle.layout.specs.Part.{LOOPS, PAIRS, loopAt}
+use Rattle.layout.specs.Words.{Frame}
 
 -- a comparison of two paths on a tree, and the words that stand for them
 pub record Stage (P R : XPath) (t : Tree) (m : Machine) (n : ℕ) (p : List ℕ) : Type 0 where
@@ -25,7 +24,5 @@ Loops P R t n p = (v i j : ℕ) → v < n → i < positions → j < positions �
 
 -- all other words are as before
 pub record Looped (P R : XPath) (t : Tree) (n : ℕ) (p p′ : List ℕ) : Type 0 where
-  pub long : length p′ ≡ length p
-  pub front : (k : ℕ) → k < LOOPS * n → getD p′ k 0 ≡ getD p k 0
-  pub behind : (k : ℕ) → PAIRS * n ≤ k → getD p′ k 0 ≡ getD p k 0
+  pub frame : Frame (LOOPS * n) (PAIRS * n) p p′
   pub loops : Loops P R t n p′

@@ -1,45 +1,28 @@
 // One matrix grows by the detours over another: by a step that leaves, by that matrix, and by a step back.
 use bits::meet;
-use bits::union;
 use limits::Rule;
 use machine::Machine;
 use matrices::close;
 use matrices::followers::followers;
 use matrices::image;
-use matrices::sets::without;
-ghost use mathlib.Core.Path.{_≡_};
-ghost use mathlib.Core.Bool.{true};
-ghost use mathlib.Core.Logic.{_↔_};
-ghost use Prim.Native.Nat.{ℕ, _+_, _≤_, _<_};
+use matrices::rows::add;
+ghost use Prim.Native.Nat.{_+_, _≤_, _<_};
 ghost use lib.ListN.{length};
 ghost use Rattle.limits.specs.Limits.{positions};
-ghost use Rattle.bits.specs.Sets.{bit};
-ghost use Rattle.matrices.specs.Matrices.{Apart};
+ghost use Rattle.matrices.specs.Matrices.{Exactly, Apart};
+ghost use Rattle.matrices.specs.Widening.{Widening};
 ghost use Rattle.loops.specs.Closed.{Detour};
-ghost use Rattle.loops.specs.Growing.{Joined, Widened, Widening, Visited};
+ghost use Rattle.loops.specs.Growing.{Widened, Visited};
 
 // Where `i` comes to by a step of `leave`, by the matrix at `over` and by a step of `back`.
 fn detour(p: &[u16], m: Machine, over: usize, leave: u16, back: u16, i: usize) -> u16
     requires { ⌜ (over + positions ≤ length (now p)) × (i < positions) ⌝ }
-    ensures { λ r. ⌜ ((j : ℕ) → j < positions → (bit r j ≡ true) ↔ Detour m (now (p .entry)) over leave back i j) ⌝ }
+    ensures { λ r. ⌜ Exactly r (Detour m (now (p .entry)) over leave back i) ⌝ }
 {
     let rows = m.rows;
     let left = meet(rows[i], leave);
     let there = image(p, over, left);
     meet(followers(rows, there), back)
-}
-
-// Adds the members of `w` to the word at `at`. Gives 1 if one of them is new, and else 0.
-fn add(p: &mut [u16], at: usize, w: u16) -> usize
-    requires { ⌜ at < length (now p) ⌝ }
-    ensures { λ r. ⌜ Joined at w (now (p .entry)) (now (p .exit)) r ⌝ }
-{
-    let row = p[at];
-    if without(w, row) == 0 {
-        return 0;
-    }
-    p[at] = union(row, w);
-    1
 }
 
 // Adds the detours over the matrix at `over` to the one at `at`. Gives the number of rows that are new.

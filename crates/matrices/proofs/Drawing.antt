@@ -1,29 +1,29 @@
 -- A matrix that is drawn row by row.
-use Prim.Native.Nat.{ℕ, _+_, _≤_, _<_}
+use Prim.Native.Nat.{ℕ, _+_, _-_, _≤_, _<_}
 use mathlib.Core.Path.{_≡_, refl, sym, ap, _∙_, subst}
 use mathlib.Core.Bool.{true, false, false≢true}
 use mathlib.Core.Logic.{_≢_, _⊎_, inl, inr, _↔_}
 use mathlib.Core.List.{List}
+use native.Mathlib.Decide.{decLt}
 use native.Mathlib.Nat.{eq-or-lt-of-le}
 use native.Mathlib.Omega.{arith}
 use lib.ListN.{length, getD, set, length-set}
 use lib.Seq.{getD-set-same, getD-set-other}
 use borrow.Author.Tests.{eqb-true, eq-eqb}
 use Rattle.bits.specs.Sets.{bit, or, is}
+use Rattle.layout.proofs.Frames.{frame-none, frame-then, frame-wider}
 use Rattle.matrices.specs.Matrices.{Related, Image, Redrawn, Apart, Drawing, Reflexive, Through, Composed}
 use Rattle.matrices.proofs.Members.{or-cases, or-left, or-right, union-iff}
 
 pub drawing-none : (A : ℕ → ℕ → Type 0) (at : ℕ) (p : List ℕ) → Drawing A at 0 p p
-drawing-none A at p = record { long = refl; front = λ l h. refl; behind = λ l h. refl; done = λ i j h. absurd (let f : ⊥ = omega arith in f) }
+drawing-none A at p = record { frame = frame-none p; done = λ i j h. absurd (let f : ⊥ = omega arith in f) }
 
 module _ {A : ℕ → ℕ → Type 0} {at k : ℕ} {p q : List ℕ} (d : Drawing A at k p q) where
   -- one row more
   pub drawing-more : {q′ : List ℕ} → length q′ ≡ length q → ((l : ℕ) → l ≢ at + k → getD q′ l 0 ≡ getD q l 0)
       → ((j : ℕ) → j < 16 → Related q′ at k j ↔ A k j) → Drawing A at (k + 1) p q′
   drawing-more {q′} long other row = record {
-    long = long ∙ d .long;
-    front = λ l h. other l (omega arith) ∙ d .front l h;
-    behind = λ l h. other l (omega arith) ∙ d .behind l (omega arith);
+    frame = frame-then (frame-wider (omega arith) (omega arith) (d .frame)) (record { long = long; front = λ l h. other l (omega arith); behind = λ l h. other l (omega arith) });
     done = λ i j h l. go i j l (eq-or-lt-of-le (omega arith));
   }
     where
@@ -34,19 +34,25 @@ module _ {A : ℕ → ℕ → Type 0} {at k : ℕ} {p q : List ℕ} (d : Drawing
   pub drawing-step : (x : ℕ) → at + k < length p → ((j : ℕ) → j < 16 → (bit x j ≡ true) ↔ A k j) → Drawing A at (k + 1) p (set q (at + k) x)
   drawing-step x room row =
       drawing-more (length-set q (at + k) x) (λ l h. getD-set-other q (at + k) l x 0 h)
-      (λ j l. subst (λ (y : ℕ). (bit y j ≡ true) ↔ A k j) (sym (getD-set-same q (at + k) x 0 (omega (arith, d .long)))) (row j l))
+      (λ j l. subst (λ (y : ℕ). (bit y j ≡ true) ↔ A k j) (sym (getD-set-same q (at + k) x 0 (omega (arith, d .frame .long)))) (row j l))
 
   -- a row that is not drawn yet
   pub undrawn : (i : ℕ) → k ≤ i → getD q (at + i) 0 ≡ getD p (at + i) 0
-  undrawn i h = d .behind (at + i) (omega arith)
+  undrawn i h = d .frame .behind (at + i) (omega arith)
 
   -- a word of another matrix
   pub apart-same : (a i : ℕ) → Apart a at → k ≤ 16 → i < 16 → getD q (a + i) 0 ≡ getD p (a + i) 0
-  apart-same a i (inl f) few h = d .front (a + i) (omega arith)
-  apart-same a i (inr b) few h = d .behind (a + i) (omega arith)
+  apart-same a i (inl f) few h = d .frame .front (a + i) (omega arith)
+  apart-same a i (inr b) few h = d .frame .behind (a + i) (omega arith)
 
-pub drawing-only : {A : ℕ → ℕ → Type 0} {at : ℕ} {p q : List ℕ} → Drawing A at 16 p q → Redrawn at p q
-drawing-only d = record { long = d .long; front = d .front; behind = d .behind }
+-- a word that is none of the matrix
+pub redrawn-other : {at : ℕ} {p q : List ℕ} → Redrawn at p q → (l : ℕ) → ((i : ℕ) → i < 16 → l ≢ at + i) → getD q l 0 ≡ getD p l 0
+redrawn-other {at} {p} {q} f l e = go (decLt l at) (decLt l (at + 16))
+  where
+    go : Dec (l < at) → Dec (l < at + 16) → getD q l 0 ≡ getD p l 0
+    go (yes h) d = f .front l h
+    go (no h) (no g) = f .behind l (omega arith)
+    go (no h) (yes g) = absurd (e (l - at) (omega arith) (omega arith))
 
 pub drawing-to : {A : ℕ → ℕ → Type 0} {at k m : ℕ} {p q : List ℕ} → k ≡ m → Drawing A at k p q → Drawing A at m p q
 drawing-to {A} {at} {k} {m} {p} {q} e d = subst (λ (x : ℕ). Drawing A at x p q) e d

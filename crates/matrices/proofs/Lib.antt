@@ -6,3 +6,4 @@ pub mod Drawing
 pub mod Warshall
 pub mod Pairs
 pub mod Emptiness
+pub mod Widening

@@ -6,9 +6,9 @@ use mathlib.Core.List.{List}
 use native.Mathlib.Nat.{eq-or-lt-of-le, le-of-suc-le-suc, not-suc-le-zero}
 use native.Mathlib.Numerals.{add-one}
 use native.Mathlib.Omega.{arith}
+use Rattle.layout.proofs.Frames.{frame-none, frame-then}
 use Rattle.matrices.specs.Matrices.{Related, Chain, Redrawn, Drawing, Reflexive, Through}
 use Rattle.matrices.proofs.Chains.{chain-one, chain-then}
-use Rattle.matrices.proofs.Drawing.{drawing-only}
 
 unfoldable pub Via : (ℕ → ℕ → Type 0) → ℕ → ℕ → ℕ → Type 0
 Via A zero i j = A i j
@@ -69,21 +69,14 @@ pub record Closing (at k : ℕ) (p p′ : List ℕ) : Type 0 where
   pub only : Redrawn at p p′
   pub via : (i j : ℕ) → i < 16 → j < 16 → Related p′ at i j ↔ Via (Related p at) k i j
 
-redrawn-then : {at : ℕ} {p q r : List ℕ} → Redrawn at p q → Redrawn at q r → Redrawn at p r
-redrawn-then f g = record {
-  long = g .long ∙ f .long;
-  front = λ k h. g .front k h ∙ f .front k h;
-  behind = λ k h. g .behind k h ∙ f .behind k h;
-}
-
 pub closing-none : (at : ℕ) (p : List ℕ) → Closing at 0 p p
 unfolding Via
-closing-none at p = record { only = record { long = refl; front = λ k h. refl; behind = λ k h. refl }; via = λ i j h l. (λ a. a, λ a. a) }
+closing-none at p = record { only = frame-none p; via = λ i j h l. (λ a. a, λ a. a) }
 
 pub closing-step : {at k : ℕ} {p q r : List ℕ} → k < 16 → Closing at k p q → Drawing (Through (Related q at) k) at 16 q r → Closing at (k + 1) p r
 unfolding Via
 closing-step {at} {k} {p} {q} {r} few c d = record {
-  only = redrawn-then (c .only) (drawing-only d);
+  only = frame-then (c .only) (d .frame);
   via = λ i j h l. subst (λ (x : ℕ). Related r at i j ↔ Via (Related p at) x i j) (sym (add-one k)) (λ e. to i j h l (d .done i j h l .0 e), λ v. d .done i j h l .1 (from i j h l v));
 }
   where
@@ -100,7 +93,7 @@ pub closing-all : {at k : ℕ} {p q r : List ℕ} → k ≡ 16 → Drawing (Refl
     → Redrawn at p r × ((i j : ℕ) → i < 16 → j < 16 → Related r at i j ↔ Chain (Related p at) i j)
 closing-all {at} {k} {p} {q} {r} e d c =
     let f : Closing at 16 q r = subst (λ (x : ℕ). Closing at x q r) e c in (
-      redrawn-then (drawing-only d) (f .only),
+      frame-then (d .frame) (f .only),
       λ i j h l. (
         λ a. via-chain (Related q at) (Related p at) (d .done) 16 i j h l (omega arith) (f .via i j h l .0 a),
         λ b. f .via i j h l .1 (chain-via (Related q at) (Related p at) (d .done) i j h b),

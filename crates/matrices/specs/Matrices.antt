@@ -4,9 +4,14 @@ use mathlib.Core.Path.{_≡_}
 use mathlib.Core.Logic.{_⊎_, _↔_}
 use mathlib.Core.Bool.{true}
 use mathlib.Core.List.{List}
-use lib.ListN.{length, getD}
+use lib.ListN.{getD}
 use Rattle.limits.specs.Limits.{positions}
 use Rattle.bits.specs.Sets.{bit, size}
+use Rattle.layout.specs.Words.{Frame}
+
+-- the 16 positions that are members of w are those that A holds of
+abbrev pub Exactly : ℕ → (ℕ → Type 0) → Type 0
+Exactly w A = (i : ℕ) → i < positions → (bit w i ≡ true) ↔ A i
 
 -- i is related to j, by the matrix that stands at an offset
 abbrev pub Related : List ℕ → ℕ → ℕ → ℕ → Type 0
@@ -26,10 +31,8 @@ pub data Chain (A : ℕ → ℕ → Type 0) : ℕ → ℕ → Type 0 where
   more : {i j k : ℕ} → j < positions → A i j → Chain A j k → Chain A i k
 
 -- only the 16 words from an offset on may be different
-pub record Redrawn (at : ℕ) (p p′ : List ℕ) : Type 0 where
-  pub long : length p′ ≡ length p
-  pub front : (k : ℕ) → k < at → getD p′ k 0 ≡ getD p k 0
-  pub behind : (k : ℕ) → at + positions ≤ k → getD p′ k 0 ≡ getD p k 0
+abbrev pub Redrawn : ℕ → List ℕ → List ℕ → Type 0
+Redrawn at p p′ = Frame at (at + positions) p p′
 
 -- two matrices have no word in common
 abbrev pub Apart : ℕ → ℕ → Type 0
@@ -42,9 +45,7 @@ pairs p at (suc k) = pairs p at k + size positions (getD p (at + k) 0)
 
 -- the first k rows of a matrix become those of the relation A, and all other words are as before
 pub record Drawing (A : ℕ → ℕ → Type 0) (at k : ℕ) (p p′ : List ℕ) : Type 0 where
-  pub long : length p′ ≡ length p
-  pub front : (l : ℕ) → l < at → getD p′ l 0 ≡ getD p l 0
-  pub behind : (l : ℕ) → at + k ≤ l → getD p′ l 0 ≡ getD p l 0
+  pub frame : Frame at (at + k) p p′
   pub done : (i j : ℕ) → i < k → j < positions → Related p′ at i j ↔ A i j
 
 -- with itself, too

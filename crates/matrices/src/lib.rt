@@ -1,6 +1,7 @@
 // Relations on the 16 positions. Each is a matrix, 16 words of a slice from an offset on: row i is the set of what i is related to.
 mod closure;
 pub mod followers;
+pub mod rows;
 pub mod sets;
 
 use bits::count;
@@ -19,12 +20,12 @@ ghost use Prim.Native.Nat.{ℕ, _+_, _≤_, _<_};
 ghost use lib.ListN.{length};
 ghost use Rattle.limits.specs.Limits.{positions};
 ghost use Rattle.bits.specs.Sets.{bit};
-ghost use Rattle.matrices.specs.Matrices.{Related, Image, Before, Chain, Redrawn, Apart, pairs};
+ghost use Rattle.matrices.specs.Matrices.{Exactly, Related, Image, Before, Chain, Redrawn, Apart, pairs};
 
 // What the members of `w` are related to. Each turn takes one member out, so that few members take few turns.
 pub fn image(p: &[u16], at: usize, w: u16) -> u16
     requires { ⌜ at + positions ≤ length (now p) ⌝ }
-    ensures { λ r. ⌜ ((j : ℕ) → j < positions → (bit r j ≡ true) ↔ Image (now (p .entry)) at w j) ⌝ }
+    ensures { λ r. ⌜ Exactly r (Image (now (p .entry)) at w) ⌝ }
 {
     let mut r = 0;
     let mut rest = w;
@@ -39,7 +40,7 @@ pub fn image(p: &[u16], at: usize, w: u16) -> u16
 // What is related to a member of `w`. Nothing is related to a member of the empty set, which is a frequent one.
 pub fn before(p: &[u16], at: usize, w: u16) -> u16
     requires { ⌜ at + positions ≤ length (now p) ⌝ }
-    ensures { λ r. ⌜ ((i : ℕ) → i < positions → (bit r i ≡ true) ↔ Before (now (p .entry)) at w i) ⌝ }
+    ensures { λ r. ⌜ Exactly r (Before (now (p .entry)) at w) ⌝ }
 {
     if w == 0 {
         return 0;

@@ -8,24 +8,24 @@ use lib.ListN.{length, getD, set}
 use native.Mathlib.Omega.{arith}
 use Rattle.bits.specs.Sets.{bit, and}
 use Rattle.matrices.proofs.Members.{and-both, and-parts}
-use Rattle.matrices.specs.Matrices.{Related, Image, Redrawn, Drawing, Composed}
+use Rattle.matrices.specs.Matrices.{Exactly, Related, Image, Redrawn, Drawing, Composed}
 use Rattle.matrices.proofs.Drawing.{drawing-step}
 use Rattle.powers.specs.Blocks.{Steps, Crossed}
 
 -- one row more: f are the followers of the row at a, g those of them that are steps of w, and x is what they are related to
 pub cross-step : {at i : ℕ} {p q : List ℕ} (rows : List ℕ) (a w b f g x : ℕ) → Drawing (Crossed rows p a w b) at i p q
     → a + 16 ≤ at → b + 16 ≤ at → i < 16 → at + i < length p
-    → ((j : ℕ) → j < 16 → (bit f j ≡ true) ↔ ((k : ℕ) × (k < 16) × (bit (getD q (a + i) 0) k ≡ true) × (bit (getD rows k 0) j ≡ true)))
-    → ((j : ℕ) → bit g j ≡ and (bit f j) (bit w j)) → ((j : ℕ) → j < 16 → (bit x j ≡ true) ↔ Image q b g j)
+    → Exactly f (λ j. (k : ℕ) × (k < 16) × (bit (getD q (a + i) 0) k ≡ true) × (bit (getD rows k 0) j ≡ true))
+    → ((j : ℕ) → bit g j ≡ and (bit f j) (bit w j)) → Exactly x (Image q b g)
     → Drawing (Crossed rows p a w b) at (i + 1) p (set q (at + i) x)
 cross-step {at} {i} {p} {q} rows a w b f g x d ha hb few room next among image =
     drawing-step d x room (λ j h. (λ e. to j (image j h .0 e), λ c. image j h .1 (from j c)))
   where
     first : getD q (a + i) 0 ≡ getD p (a + i) 0
-    first = d .front (a + i) (omega arith)
+    first = d .frame .front (a + i) (omega arith)
 
     second : (l : ℕ) → l < 16 → getD q (b + l) 0 ≡ getD p (b + l) 0
-    second l h = d .front (b + l) (omega arith)
+    second l h = d .frame .front (b + l) (omega arith)
 
     to : (j : ℕ) → Image q b g j → Crossed rows p a w b i j
     to j (l, h, e, r) =

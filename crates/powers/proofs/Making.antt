@@ -12,6 +12,7 @@ use Rattle.matrices.specs.Matrices.{Related, Redrawn, Composed}
 use Rattle.machine.specs.declared.Machine.{Machine}
 use Rattle.layout.specs.Blocks.{blockAt, downAt, upAt, upperAt}
 use Rattle.layout.specs.Part.{loopAt}
+use Rattle.layout.proofs.Frames.{frame-then, frame-wider}
 use Rattle.powers.specs.Blocks.{Fits, Only, Crossed, Block, Edge, Twice}
 use Rattle.powers.proofs.Places.{block-before}
 use Rattle.powers.proofs.Crossing.{composed-kept, crossed-kept}
@@ -35,19 +36,12 @@ Made A c p q = Redrawn c p q × ((i j : ℕ) → i < 16 → j < 16 → Related q
 block-made : {n k y : ℕ} {p q r : List ℕ} (A B C : ℕ → ℕ → Type 0) (x : ℕ) → Fits n k y p → Made A (downAt n k y) p q → Made B (upAt n k y) q r
     → ((i j : ℕ) → i < 16 → B i j ↔ C i j) → Block n k y x A C p (set r (upperAt n k y) x)
 block-made {n} {k} {y} {p} {q} {r} A B C x fits (d, down) (u, up) turn = record {
-  only = record {
-    long = s .long ∙ u .long ∙ d .long;
-    front = λ l h. s .front l h ∙ u .front l (omega arith) ∙ d .front l h;
-    behind = λ l h. s .behind l h ∙ u .behind l (omega arith) ∙ d .behind l (omega arith);
-  };
+  only = frame-then (frame-wider (omega arith) (omega arith) d) (frame-then (frame-wider (omega arith) (omega arith) u) (only-upper n k y r x));
   upper = getD-set-same r (upperAt n k y) x 0 (inside (fits .room));
   down = λ i j l h. subst (λ (w : ℕ). (bit w j ≡ true) ↔ A i j) (sym (other (downAt n k y + i) (omega arith) ∙ u .front (downAt n k y + i) (omega arith))) (down i j l h);
   up = λ i j l h. subst (λ (w : ℕ). (bit w j ≡ true) ↔ C i j) (sym (other (upAt n k y + i) (omega arith))) (Iff·trans (up i j l h) (turn i j l));
 }
   where
-    s : Only n k y r (set r (upperAt n k y) x)
-    s = only-upper n k y r x
-
     inside : blockAt n k y + 64 ≤ length p → upperAt n k y < length r
     inside h = let a = u .long in let b = d .long in omega arith
 

@@ -15,7 +15,7 @@ use Rattle.xpath.proofs.Trees.{down-le, down-split, down-zero}
 use Rattle.positions.specs.Positions.{Comes}
 use Rattle.snippets.proofs.Edges.{pass-down, pass-up, comes-few}
 use Rattle.table.specs.Links.{Points}
-use Rattle.matrices.specs.Matrices.{Related, Before}
+use Rattle.matrices.specs.Matrices.{Exactly, Related, Before}
 use Rattle.layout.specs.Blocks.{downAt, upAt, upperAt}
 use Rattle.layout.specs.Part.{loopAt}
 use Rattle.powers.specs.Powers.{Lifts}
@@ -93,7 +93,7 @@ hops-less {k = k} h = let s = h .some in let e = h .left in let o = pow-pos k in
 module _ {P R : XPath} {t : Tree} {n b x y len : ℕ} {p : List ℕ} (ladder : Ladder P R t n b p) (stretch : Stretch n b y len p) (far : Down t x y len) where
   -- r are the positions that the matrix at an offset relates to a member of S
   abbrev Precede : ℕ → ℕ → ℕ → Type 0
-  Precede at S r = (i : ℕ) → i < 16 → (bit r i ≡ true) ↔ Before p at S i
+  Precede at S r = Exactly r (Before p at S)
 
   lifts-by : {u v : ℕ} (at at′ S r : ℕ) → at ≡ at′ → ((i j : ℕ) → i < 16 → j < 16 → Related p at′ i j ↔ Comes P R t i u j v) → Precede at S r → Lifts P R t u v S r
   lifts-by at at′ S r same f before i l =

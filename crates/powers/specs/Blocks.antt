@@ -13,6 +13,7 @@ use Rattle.matrices.specs.Matrices.{Related, Composed}
 use Rattle.machine.specs.declared.Machine.{Machine}
 use Rattle.layout.specs.Blocks.{blockAt, downAt, upAt, upperAt}
 use Rattle.layout.specs.Part.{loopAt}
+use Rattle.layout.specs.Words.{Frame}
 use Rattle.loops.specs.Loops.{Stage, Loops}
 use Rattle.powers.specs.Powers.{Power, Powers}
 
@@ -24,10 +25,8 @@ pub record Fits (n k y : ℕ) (p : List ℕ) : Type 0 where
   pub room : blockAt n k y + wordsPerDigit ≤ length p
 
 -- only the 64 words of exponent k and node y may be different
-pub record Only (n k y : ℕ) (p p′ : List ℕ) : Type 0 where
-  pub long : length p′ ≡ length p
-  pub front : (l : ℕ) → l < blockAt n k y → getD p′ l 0 ≡ getD p l 0
-  pub behind : (l : ℕ) → blockAt n k y + wordsPerDigit ≤ l → getD p′ l 0 ≡ getD p l 0
+abbrev pub Only : ℕ → ℕ → ℕ → List ℕ → List ℕ → Type 0
+Only n k y p p′ = Frame (blockAt n k y) (blockAt n k y + wordsPerDigit) p p′
 
 -- l follows k, by the rows, and is one of the steps w
 abbrev pub Steps : List ℕ → ℕ → ℕ → ℕ → Type 0

@@ -11,7 +11,7 @@ use Rattle.xpath.specs.Syntax.{XPath}
 use Rattle.xpath.specs.Tree.{Tree, Down}
 use Rattle.positions.specs.Positions.{Comes}
 use Rattle.table.specs.Links.{Points}
-use Rattle.matrices.specs.Matrices.{Related}
+use Rattle.matrices.specs.Matrices.{Exactly, Related}
 use Rattle.layout.specs.Blocks.{BLOCKS, downAt, upAt, upperAt}
 
 module _ (P R : XPath) (t : Tree) (n : ℕ) (p : List ℕ) where
@@ -34,4 +34,4 @@ pub record Powered (P R : XPath) (t : Tree) (n b : ℕ) (p p′ : List ℕ) : Ty
 -- ── Along a stretch of any length below 2^b ──
 -- the positions that at x come to a member of S at y
 abbrev pub Lifts : XPath → XPath → Tree → ℕ → ℕ → ℕ → ℕ → Type 0
-Lifts P R t x y S r = (i : ℕ) → i < positions → (bit r i ≡ true) ↔ ((j : ℕ) × (j < positions) × (bit S j ≡ true) × Comes P R t i x j y)
+Lifts P R t x y S r = Exactly r (λ i. (j : ℕ) × (j < positions) × (bit S j ≡ true) × Comes P R t i x j y)

@@ -14,7 +14,7 @@ pub struct Hop {
 }
 
 // 2^k.
-fn two_to(k: usize) -> usize
+pub fn two_to(k: usize) -> usize
     requires { ⌜ k < nodeDigits ⌝ }
     ensures { λ r. ⌜ r ≡ 2 ^ k ⌝ }
 {

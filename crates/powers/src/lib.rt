@@ -1,6 +1,6 @@
 // The powers of two along the tree: the node 2^k above a node, and which positions come to which between the two.
 pub mod blocks;
-mod hops;
+pub mod hops;
 mod passes;
 
 use hops::first_hop;

@@ -13,6 +13,7 @@ use Rattle.xpath.specs.Meaning.{Holds}
 use Rattle.snippets.specs.Snippets.{Yielded}
 use Rattle.layout.specs.Part.{ANSWER, pairAt}
 use Rattle.layout.specs.Words.{word}
+use Rattle.layout.proofs.Frames.{within-then}
 use Rattle.machine.specs.declared.Machine.{Machine}
 use Rattle.loops.specs.Loops.{Stage, Loops}
 use Rattle.loops.proofs.Sides.{parent-before}
@@ -21,7 +22,7 @@ use Rattle.settling.specs.Pairs.{Settles}
 use Rattle.settling.specs.Growing.{Ready, Framed, Started, Grown, Met, Everywhere, Still, Answering}
 use Rattle.settling.specs.Settled.{Marked, Settled}
 use Rattle.settling.proofs.Settling.{settles-holds}
-use Rattle.settling.proofs.Framing.{framed-then, ready-kept}
+use Rattle.settling.proofs.Framing.{ready-kept}
 use Rattle.settling.proofs.Grows.{grown-then, ended-kept}
 use Rattle.settling.proofs.Seeding.{met-kept}
 use Rattle.settling.proofs.Reading.{related-settles}
@@ -57,10 +58,10 @@ settled {m} {n} {p} {p₁} {p₂} {q} {q′} ready s (g, met) (h, still) a = rec
     all = grown-then g h
 
     framed : Framed n p q
-    framed = framed-then (s .framed) (all .framed)
+    framed = within-then (s .framed) (all .framed)
 
     begun : Ready n p₂
-    begun = ready-kept (framed-then (s .framed) (g .framed)) ready
+    begun = ready-kept (within-then (s .framed) (g .framed)) ready
 
     answers : {P R : XPath} {t : Tree} → Stage P R t m n p → Loops P R t n p → Powers P R t n p 1 → (v : ℕ) → v < n
         → (word q′ n ANSWER v ≡ 1) ↔ Settles P R t (Marked t n p) v 0 (m .second)

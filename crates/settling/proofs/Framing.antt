@@ -1,6 +1,6 @@
 -- Outside of the pairs all words are as before, and so is what they tell.
 use Prim.Native.Nat.{ℕ, _+_, _*_, _≤_, _<_}
-use mathlib.Core.Path.{_≡_, refl, sym, _∙_, subst}
+use mathlib.Core.Path.{_≡_, sym, _∙_, subst}
 use mathlib.Core.Logic.{_⊎_, inl, inr}
 use mathlib.Core.List.{List}
 use native.Mathlib.Omega.{arith}
@@ -13,15 +13,6 @@ use Rattle.loops.proofs.Kept.{word-kept}
 use Rattle.settling.specs.Derived.{Sees, LeadsOver, EndsAt, Derived}
 use Rattle.settling.specs.Growing.{Ready, Framed}
 use Rattle.settling.proofs.Widening.{SameAt, related-same, meets-same}
-
-pub framed-none : (n : ℕ) (p : List ℕ) → Framed n p p
-framed-none n p = record { long = refl; front = λ k h. refl; behind = λ k h. refl }
-
-pub framed-then : {n : ℕ} {p q r : List ℕ} → Framed n p q → Framed n q r → Framed n p r
-framed-then f g = record { long = g .long ∙ f .long; front = λ k h. g .front k h ∙ f .front k h; behind = λ k h. g .behind k h ∙ f .behind k h }
-
-pub framed-back : {n : ℕ} {p q : List ℕ} → Framed n p q → Framed n q p
-framed-back f = record { long = sym (f .long); front = λ k h. sym (f .front k h); behind = λ k h. sym (f .behind k h) }
 
 -- a matrix that stands before the pairs or behind them
 abbrev pub Outside : ℕ → ℕ → Type 0

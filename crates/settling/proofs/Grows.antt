@@ -8,43 +8,44 @@ use native.Mathlib.Omega.{arith}
 use lib.ListN.{getD}
 use Rattle.matrices.specs.Matrices.{Related, Drawing, pairs}
 use Rattle.matrices.proofs.Pairs.{pairs-same, pairs-split}
-use Rattle.layout.specs.Part.{pairAt}
+use Rattle.layout.specs.Part.{PAIRS, REST, pairAt}
+use Rattle.layout.proofs.Frames.{frame-wider, frame-within, within-none, within-then, within-back}
 use Rattle.settling.specs.Derived.{Derived}
 use Rattle.settling.specs.Growing.{Framed, Held, Ended, Grown, total}
 use Rattle.settling.proofs.Widening.{SameAt, related-same}
-use Rattle.settling.proofs.Framing.{framed-none, framed-then, framed-back, ends-kept, derived-kept}
+use Rattle.settling.proofs.Framing.{ends-kept, derived-kept}
 
 pub grown-none : (n : ℕ) (p : List ℕ) → Grown n p p
-grown-none n p = record { framed = framed-none n p; grow = λ v a b h l r e. e; sound = λ last h. h }
+grown-none n p = record { framed = within-none p; grow = λ v a b h l r e. e; sound = λ last h. h }
 
 pub grown-then : {n : ℕ} {p q r : List ℕ} → Grown n p q → Grown n q r → Grown n p r
 grown-then f g = record {
-  framed = framed-then (f .framed) (g .framed);
+  framed = within-then (f .framed) (g .framed);
   grow = λ v a b h l r e. g .grow v a b h l r (f .grow v a b h l r e);
   sound = λ last h. g .sound last (f .sound last h);
 }
 
 -- what ends stays
 pub ended-kept : {n : ℕ} {p q : List ℕ} (last : ℕ) → Grown n p q → Ended last n n p → Ended last n n q
-ended-kept last g h v a b i l r e = g .grow v a b i l r (h v a b i l r (ends-kept (framed-back (g .framed)) last v a b i l r e))
+ended-kept last g h v a b i l r e = g .grow v a b i l r (h v a b i l r (ends-kept (within-back (g .framed)) last v a b i l r e))
 
 -- ── One matrix is drawn ──
 module _ {n v : ℕ} {A : ℕ → ℕ → Type 0} {p q : List ℕ} (inside : v < n) (d : Drawing A (pairAt n v) 16 p q) where
   pub drawn-framed : Framed n p q
-  drawn-framed = record { long = d .long; front = λ k h. d .front k (omega arith); behind = λ k h. d .behind k (omega arith) }
+  drawn-framed = frame-within n PAIRS REST (frame-wider (omega arith) (omega arith) (d .frame))
 
   pub drawn-other : (u : ℕ) → u ≢ v → SameAt p q (pairAt n u)
   drawn-other u other k l = go (decLt u v)
     where
       go : Dec (u < v) → getD p (pairAt n u + k) 0 ≡ getD q (pairAt n u + k) 0
-      go (yes h) = sym (d .front (pairAt n u + k) (omega arith))
-      go (no h) = sym (d .behind (pairAt n u + k) (omega arith))
+      go (yes h) = sym (d .frame .front (pairAt n u + k) (omega arith))
+      go (no h) = sym (d .frame .behind (pairAt n u + k) (omega arith))
 
   -- what this matrix gains all matrices gain
   pub drawn-count : (r : ℕ) → r + pairs p (pairAt n v) 16 ≤ pairs q (pairAt n v) 16 → r + total n p ≤ total n q
   drawn-count r gain =
-      let low = pairs-same p q (32 * n) (16 * v) (λ i l. d .front (32 * n + i) (omega arith)) in
-      let high = pairs-same p q (pairAt n v + 16) (16 * (n - v - 1)) (λ i l. d .behind (pairAt n v + 16 + i) (omega arith)) in
+      let low = pairs-same p q (32 * n) (16 * v) (λ i l. d .frame .front (32 * n + i) (omega arith)) in
+      let high = pairs-same p q (pairAt n v + 16) (16 * (n - v - 1)) (λ i l. d .frame .behind (pairAt n v + 16 + i) (omega arith)) in
       omega (arith, parts p, parts q)
     where
       parts : (s : List ℕ) → total n s ≡ pairs s (32 * n) (16 * v) + (pairs s (pairAt n v) 16 + pairs s (pairAt n v + 16) (16 * (n - v - 1)))

@@ -12,7 +12,7 @@ use Rattle.layout.specs.Table.{PARENT}
 use Rattle.layout.specs.Words.{word}
 use Rattle.matrices.specs.Matrices.{Related}
 use Rattle.matrices.proofs.Pairs.{pairs-le}
-use Rattle.loops.specs.Growing.{Widening}
+use Rattle.matrices.specs.Widening.{Widening}
 use Rattle.settling.specs.Derived.{Over, LeadsOver, Derived}
 use Rattle.settling.specs.Growing.{Ready, Widened, total, Passed, Rises, Falls, Everywhere, Still}
 use Rattle.settling.proofs.Grows.{grown-none, grown-then, drawn-grown, drawn-count}

@@ -15,6 +15,7 @@ use Rattle.layout.specs.Blocks.{downAt, upAt, snippetAt}
 use Rattle.layout.specs.Part.{loopAt, pairAt}
 use Rattle.layout.specs.Table.{LEFT, PARENT}
 use Rattle.layout.specs.Words.{word}
+use Rattle.layout.proofs.Frames.{within-back}
 use Rattle.matrices.specs.Matrices.{Related, Before}
 use Rattle.machine.specs.declared.Machine.{Machine}
 use Rattle.machine.proofs.Walking.{child-inside, parent-word}
@@ -27,7 +28,7 @@ use Rattle.settling.specs.Growing.{Framed, Ended, Held, Met, Everywhere,
 use Rattle.settling.specs.Settled.{Marked}
 use Rattle.settling.proofs.Settling.{settles-before, closed-settles}
 use Rattle.settling.proofs.Widening.{related-same}
-use Rattle.settling.proofs.Framing.{Outside, snippet-outside, framed-same, framed-parent, framed-back, derived-kept}
+use Rattle.settling.proofs.Framing.{Outside, snippet-outside, framed-same, framed-parent, derived-kept}
 
 module _ {P R : XPath} {t : Tree} {m : Machine} {n : ℕ} {p : List ℕ} (stage : Stage P R t m n p) (loops : Loops P R t n p) (powers : Powers P R t n p 1) where
   abbrev C : ℕ → ℕ → ℕ → ℕ → Type 0
@@ -175,6 +176,6 @@ module _ {P R : XPath} {t : Tree} {m : Machine} {n : ℕ} {p : List ℕ} (stage 
     -- the pairs of a node are those that are settled from it
     pub related-settles : Held (m .last) n n q → (v a b : ℕ) → v < n → a < 16 → b < 16 → Related q (pairAt n v) a b ↔ Settles P R t (Marked t n p) v a b
     related-settles held v a b h l r = (
-      λ e. derived-settles (derived-kept (framed-back framed) (m .last) (held v a b h l r e)),
+      λ e. derived-settles (derived-kept (within-back framed) (m .last) (held v a b h l r e)),
       λ s. closed-settles P R t S (stage .formed) L closed (λ x y i j z. (z .side, z .child)) v a b (let e = stage .drawn .size in omega arith) s h l r,
     )

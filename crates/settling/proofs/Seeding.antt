@@ -10,22 +10,21 @@ use Rattle.layout.specs.Blocks.{downAt, upAt, snippetAt}
 use Rattle.layout.specs.Part.{loopAt, pairAt}
 use Rattle.layout.specs.Table.{PARENT}
 use Rattle.layout.specs.Words.{word}
+use Rattle.layout.proofs.Frames.{frame-then, within-then, within-back}
 use Rattle.matrices.specs.Matrices.{Related, Apart, Drawing}
 use Rattle.matrices.proofs.Drawing.{apart-same}
-use Rattle.loops.specs.Growing.{Widening}
+use Rattle.matrices.specs.Widening.{Widening}
 use Rattle.settling.specs.Derived.{Turned, Over, MeetsBy, Sees, Derived}
 use Rattle.settling.specs.Growing.{Ready, Widened, Planted, Grown, Met, Everywhere}
 use Rattle.settling.proofs.Widening.{SameAt, turned-same, over-same, meets-same}
-use Rattle.settling.proofs.Framing.{Outside, framed-then, framed-same, framed-back, framed-parent, sees-kept, sees-outside, snippet-outside}
+use Rattle.settling.proofs.Framing.{Outside, framed-same, framed-parent, sees-kept, sees-outside, snippet-outside}
 use Rattle.settling.proofs.Grows.{grown-then, drawn-grown}
 
 -- ── One matrix, by both orders of a pair ──
 pub planted : {by up down at r s : ℕ} {p q q′ : List ℕ} → Apart by at → Apart up at → Apart down at
     → Widening (Widened p at up by false down) at 16 p q r → Widening (Widened q at down by true up) at 16 q q′ s → Drawing (Planted p at by up down) at 16 p q′
 planted {by} {up} {down} {at} {r} {s} {p} {q} {q′} one two three c e = record {
-  long = e .drawn .long ∙ c .drawn .long;
-  front = λ l h. e .drawn .front l h ∙ c .drawn .front l h;
-  behind = λ l h. e .drawn .behind l h ∙ c .drawn .behind l h;
+  frame = frame-then (c .drawn .frame) (e .drawn .frame);
   done = λ a b l r. (λ x. to a b l r (e .drawn .done a b l r .0 x), λ x. e .drawn .done a b l r .1 (from a b l r x));
 }
   where
@@ -62,7 +61,7 @@ met-from-kept : {n : ℕ} {p q : List ℕ} → Grown n p q → (y v up down : �
 met-from-kept {n} {p} {q} g y v up down h o u met a b l r m = g .grow v a b h l r (met a b l r (meets-same q p (snippetAt n 0 y) l r (same (snippetAt n 0 y) (snippet-outside n y)) (same up o) (same down u) m))
   where
     same : (at : ℕ) → Outside n at → SameAt q p at
-    same = framed-same (framed-back (g .framed))
+    same = framed-same (within-back (g .framed))
 
 module _ {n y v up down : ℕ} {p q : List ℕ} (inside : v < n) (inner : 0 < y) (below : y < n) (sees : Sees n p y v up down)
     (d : Drawing (Planted p (pairAt n v) (snippetAt n 0 y) up down) (pairAt n v) 16 p q) where
@@ -72,7 +71,7 @@ module _ {n y v up down : ℕ} {p q : List ℕ} (inside : v < n) (inner : 0 < y)
   planted-met : MetFrom n q y v up down
   planted-met a b l r m =
       let (o, u) = sees-outside n p y v up down inside sees in
-      let same : (at : ℕ) → Outside n at → SameAt q p at = framed-same (framed-back (planted-grown .framed)) in
+      let same : (at : ℕ) → Outside n at → SameAt q p at = framed-same (within-back (planted-grown .framed)) in
       d .done a b l r .1 (inr (meets-same q p (snippetAt n 0 y) l r (same (snippetAt n 0 y) (snippet-outside n y)) (same up o) (same down u) m))
 
 -- ── Both ends ──
@@ -97,7 +96,7 @@ module _ {n y : ℕ} {p q q′ : List ℕ} (ready : Ready n p) (inner : 0 < y) (
 
       met : (v up down : ℕ) → Sees n q′ y v up down → MetFrom n q′ y v up down
       met v up down (inl (a, b, c)) =
-          let same : v ≡ x = a ∙ framed-parent (framed-then (one .framed) (two .framed)) y below ∙ sym ex in
+          let same : v ≡ x = a ∙ framed-parent (within-then (one .framed) (two .framed)) y below ∙ sym ex in
           met-as n y same (b ∙ ap (loopAt n) same) c
           (met-from-kept two y x (loopAt n x) (downAt n 0 y) above (inl (omega arith)) (inr (omega arith)) (planted-met above inner below (inl (ex, refl, refl)) d))
       met v up down (inr (a, b, c)) = met-as n y a b c (planted-met below inner below (inr (refl, refl, refl)) e)
@@ -121,7 +120,7 @@ met-nothing n p y by e empty v up down a b h l s m = absurd (go (subst (λ z. Me
 
 pub met-kept : {n : ℕ} {p q : List ℕ} → Ready n p → Grown n p q → (y : ℕ) → 0 < y → y < n → Met n p y → Met n q y
 met-kept {n} {p} {q} ready g y inner below met v up down a b l r sees m =
-    let s = sees-kept (framed-back (g .framed)) y v up down below sees in
+    let s = sees-kept (within-back (g .framed)) y v up down below sees in
     let inside = seen s in
     let (o, u) = sees-outside n p y v up down inside s in
     met-from-kept g y v up down inside o u (λ a b l r m. met v up down a b l r s m) a b l r m

@@ -6,12 +6,11 @@ use mathlib.Core.Bool.{Bool, true, false}
 use mathlib.Core.List.{List}
 use native.Mathlib.Omega.{arith}
 use lib.ListN.{getD}
-use Rattle.bits.specs.Sets.{bit, size}
-use Rattle.matrices.specs.Matrices.{Related, Before, Apart, pairs}
-use Rattle.matrices.proofs.Members.{union-iff}
-use Rattle.matrices.proofs.Drawing.{drawing-more, undrawn, apart-same}
-use Rattle.matrices.proofs.Pairs.{pairs-more, pairs-same}
-use Rattle.loops.specs.Growing.{Joined, Widening}
+use Rattle.bits.specs.Sets.{bit}
+use Rattle.matrices.specs.Matrices.{Exactly, Related, Before, Apart}
+use Rattle.matrices.specs.Widening.{Joined, Widening}
+use Rattle.matrices.proofs.Drawing.{apart-same}
+use Rattle.matrices.proofs.Widening.{widening-more}
 use Rattle.settling.specs.Derived.{Turned, Over, MeetsBy}
 use Rattle.settling.specs.Growing.{Widened}
 
@@ -47,16 +46,14 @@ meets-same p q by l r one two three (inr o) = inr (over-same p q l r three two (
 -- ── A row ──
 -- r are the partners of the members of w
 abbrev pub Partners : Bool → List ℕ → ℕ → ℕ → ℕ → Type 0
-Partners back p by w r = (j : ℕ) → j < 16 → (bit r j ≡ true) ↔ ((i : ℕ) × (i < 16) × (bit w i ≡ true) × Turned back p by i j)
+Partners back p by w r = Exactly r (λ j. (i : ℕ) × (i < 16) × (bit w i ≡ true) × Turned back p by i j)
 
 pub partners-of : (b : Bool) {back : Bool} (p : List ℕ) (by w r : ℕ) → back ≡ b → Partners b p by w r → Partners back p by w r
 partners-of b p by w r e h = subst (λ (x : Bool). Partners x p by w r) (sym e) h
 
 -- the partners of what a is related to, and what is related to them
 pub over-row : {A : ℕ → ℕ → Type 0} (p : List ℕ) (from to a there r : ℕ)
-    → ((j : ℕ) → j < 16 → (bit there j ≡ true) ↔ ((i : ℕ) × (i < 16) × (bit (getD p (from + a) 0) i ≡ true) × A i j))
-    → ((b : ℕ) → b < 16 → (bit r b ≡ true) ↔ Before p to there b)
-    → (b : ℕ) → b < 16 → (bit r b ≡ true) ↔ Over A p from to a b
+    → Exactly there (λ j. (i : ℕ) × (i < 16) × (bit (getD p (from + a) 0) i ≡ true) × A i j) → Exactly r (Before p to there) → Exactly r (Over A p from to a)
 over-row {A} p from to a there r partners before b few = (to-over, from-over)
   where
     to-over : bit r b ≡ true → Over A p from to a b
@@ -69,41 +66,8 @@ over-row {A} p from to a there r partners before b few = (to-over, from-over)
     from-over o = before b few .1 (o .second, o .secondFew, partners (o .second) (o .secondFew) .1 (o .first, o .firstFew, o .left, o .pair), o .right)
 
 -- ── The rows of one matrix ──
--- one row more, with what X adds to it
-module _ {X : ℕ → ℕ → Type 0} {at a r s x : ℕ} {p q q′ : List ℕ} where
-  widening-more : ((b : ℕ) → b < 16 → (bit x b ≡ true) ↔ X a b) → Widening (λ a b. Related p at a b ⊎ X a b) at a p q r → Joined (at + a) x q q′ s
-      → Widening (λ a b. Related p at a b ⊎ X a b) at (a + 1) p q′ (r + s)
-  widening-more row c j = record {
-    drawn = drawing-more (c .drawn) (j .long) (j .other) (λ b h. (λ e. to b h (both b .0 e), λ y. both b .1 (from b h y)));
-    small = omega (arith, c .small, j .small);
-    count = count;
-    still = λ z. j .still (omega arith) ∙ c .still (omega arith);
-  }
-    where
-      same : getD q (at + a) 0 ≡ getD p (at + a) 0
-      same = undrawn (c .drawn) a (omega arith)
-
-      both : (b : ℕ) → Related q′ at a b ↔ ((bit (getD q (at + a) 0) b ≡ true) ⊎ (bit x b ≡ true))
-      both = union-iff (getD q (at + a) 0) x (getD q′ (at + a) 0) (j .here)
-
-      to : (b : ℕ) → b < 16 → (bit (getD q (at + a) 0) b ≡ true) ⊎ (bit x b ≡ true) → Related p at a b ⊎ X a b
-      to b h (inl e) = inl (ap (λ (y : ℕ). bit y b) (sym same) ∙ e)
-      to b h (inr e) = inr (row b h .0 e)
-
-      from : (b : ℕ) → b < 16 → Related p at a b ⊎ X a b → (bit (getD q (at + a) 0) b ≡ true) ⊎ (bit x b ≡ true)
-      from b h (inl e) = inl (ap (λ (y : ℕ). bit y b) same ∙ e)
-      from b h (inr d) = inr (row b h .1 d)
-
-      count : r + s + pairs p at (a + 1) ≤ pairs q′ at (a + 1)
-      count =
-          let e = pairs-more p at a in
-          let f = pairs-more q′ at a in
-          let g = pairs-same q q′ at a (λ k h. j .other (at + k) (omega arith)) in
-          let h = ap (size 16) same in
-          omega (arith, c .count, j .count)
-
 module _ (back : Bool) {from by to at a r s x : ℕ} {p q q′ : List ℕ} where
-  pub widen-step : Apart from at → Apart by at → Apart to at → a < 16 → ((b : ℕ) → b < 16 → (bit x b ≡ true) ↔ Over (Turned back q by) q from to a b)
+  pub widen-step : Apart from at → Apart by at → Apart to at → a < 16 → Exactly x (Over (Turned back q by) q from to a)
       → Widening (Widened p at from by back to) at a p q r → Joined (at + a) x q q′ s → Widening (Widened p at from by back to) at (a + 1) p q′ (r + s)
   widen-step one two three few row c j =
       widening-more

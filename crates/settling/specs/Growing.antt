@@ -10,7 +10,7 @@ use Rattle.bits.specs.Sets.{bit, one}
 use Rattle.layout.specs.Blocks.{downAt, upAt, snippetAt}
 use Rattle.layout.specs.Part.{ANSWER, PAIRS, REST, pairAt}
 use Rattle.layout.specs.Table.{PARENT}
-use Rattle.layout.specs.Words.{word}
+use Rattle.layout.specs.Words.{word, Within}
 use Rattle.matrices.specs.Matrices.{Related, pairs}
 use Rattle.settling.specs.Derived.{Turned, Over, MeetsBy, Sees, EndsAt, Derived}
 
@@ -35,10 +35,8 @@ Planted p at by up down a b = Related p at a b ⊎ MeetsBy p by up down a b
 
 -- ── All matrices ──
 -- all other words are as before
-pub record Framed (n : ℕ) (p p′ : List ℕ) : Type 0 where
-  pub long : length p′ ≡ length p
-  pub front : (k : ℕ) → k < PAIRS * n → getD p′ k 0 ≡ getD p k 0
-  pub behind : (k : ℕ) → REST * n ≤ k → getD p′ k 0 ≡ getD p k 0
+abbrev pub Framed : ℕ → List ℕ → List ℕ → Type 0
+Framed n p p′ = Within n PAIRS REST p p′
 
 -- the pairs of the nodes below k are among those that the words tell
 abbrev pub Held : ℕ → ℕ → ℕ → List ℕ → Type 0

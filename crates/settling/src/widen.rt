@@ -1,25 +1,23 @@
 // One matrix grows by the pairs that come to those of another.
-use bits::union;
 use limits::Rule;
 use matrices::before;
 use matrices::image;
-use matrices::sets::without;
+use matrices::rows::add;
 ghost use mathlib.Core.Path.{_≡_};
 ghost use mathlib.Core.Bool.{true};
-ghost use mathlib.Core.Logic.{_↔_};
 ghost use Prim.Native.Nat.{ℕ, _+_, _≤_, _<_};
 ghost use lib.ListN.{length};
 ghost use Rattle.limits.specs.Limits.{positions};
 ghost use Rattle.bits.specs.Sets.{bit};
-ghost use Rattle.matrices.specs.Matrices.{Apart};
-ghost use Rattle.loops.specs.Growing.{Joined, Widening};
+ghost use Rattle.matrices.specs.Matrices.{Exactly, Apart};
+ghost use Rattle.matrices.specs.Widening.{Widening};
 ghost use Rattle.settling.specs.Derived.{Turned, Over};
 ghost use Rattle.settling.specs.Growing.{Widened};
 
 // What the members of `w` are related to by the matrix at `by`, or what is related to them.
 fn partners(p: &[u16], by: usize, back: bool, w: u16) -> u16
     requires { ⌜ by + positions ≤ length (now p) ⌝ }
-    ensures { λ r. ⌜ ((j : ℕ) → j < positions → (bit r j ≡ true) ↔ ((i : ℕ) × (i < positions) × (bit w i ≡ true) × Turned back (now (p .entry)) by i j)) ⌝ }
+    ensures { λ r. ⌜ Exactly r (λ j. (i : ℕ) × (i < positions) × (bit w i ≡ true) × Turned back (now (p .entry)) by i j) ⌝ }
 {
     if back {
         return before(p, by, w);
@@ -30,24 +28,11 @@ fn partners(p: &[u16], by: usize, back: bool, w: u16) -> u16
 // The positions that make a pair with `a`: both come to a pair of the matrix at `by`.
 fn row(p: &[u16], from: usize, by: usize, back: bool, to: usize, a: usize) -> u16
     requires { ⌜ (from + positions ≤ length (now p)) × (by + positions ≤ length (now p)) × (to + positions ≤ length (now p)) × (a < positions) ⌝ }
-    ensures { λ r. ⌜ ((b : ℕ) → b < positions → (bit r b ≡ true) ↔ Over (Turned back (now (p .entry)) by) (now (p .entry)) from to a b) ⌝ }
+    ensures { λ r. ⌜ Exactly r (Over (Turned back (now (p .entry)) by) (now (p .entry)) from to a) ⌝ }
 {
     let w = p[from + a];
     let there = partners(p, by, back, w);
     before(p, to, there)
-}
-
-// Adds the members of `w` to the word at `at`. Gives 1 if one of them is new, and else 0.
-fn add(p: &mut [u16], at: usize, w: u16) -> usize
-    requires { ⌜ at < length (now p) ⌝ }
-    ensures { λ r. ⌜ Joined at w (now (p .entry)) (now (p .exit)) r ⌝ }
-{
-    let row = p[at];
-    if without(w, row) == 0 {
-        return 0;
-    }
-    p[at] = union(row, w);
-    1
 }
 
 // Adds to the matrix at `at` the pairs of which one comes by the matrix at `from`, and the other by the one at `to`, to a pair of the matrix at `by`. Gives the number of rows that are new.

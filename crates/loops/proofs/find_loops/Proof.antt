@@ -25,9 +25,9 @@ round-requires c κs =
     let n = c .before .before .before .before .before .before .before .before .args .n in
     let h = c .before .before .before .before .before .before .before .before .pre in
     let s = c .before .before .before .before .before .start .ensures in
-    let begun : Ready n (c .before .before .before .before .before .start .last .0) = ready-kept (s .long) (s .front) (ready-of (h .0 .3) (h .1)) in
+    let begun : Ready n (c .before .before .before .before .before .start .last .0) = ready-kept (s .frame) (ready-of (h .0 .3) (h .1)) in
     let g = c .before .before .loop .inv .0 .1 in
-    (ready-kept (g .long) (g .front) begun, h .2)
+    (ready-kept (g .frame) begun, h .2)
 
 loop-less : tie.Need-loop-less Inv-loop μ-loop
 loop-less c =
@@ -43,7 +43,7 @@ loop-again c =
     ((_, grown-then (c .before .before .before .before .before .loop .inv .0 .1) (w .grown)), passed-settled w)
 
 same-length : tie.Need-same-length Inv-loop μ-loop
-same-length c = c .before .loop .inv .0 .1 .long ∙ c .before .before .before .before .start .ensures .long
+same-length c = c .before .loop .inv .0 .1 .frame .long ∙ c .before .before .before .before .start .ensures .frame .long
 
 returns : tie.Need-returns Inv-loop μ-loop
 returns c P R t stage =

@@ -2,7 +2,7 @@
 use Prim.Native.Nat.{_≤_, _-_}
 use native.Mathlib.Omega.{arith}
 use Rattle.matrices.specs.Matrices.{Related, Drawing, Composed}
-use Rattle.matrices.proofs.Drawing.{drawing-none, drawing-to, drawing-only, compose-step}
+use Rattle.matrices.proofs.Drawing.{drawing-none, drawing-to, compose-step}
 use Rattle.matrices.proofs.compose.Statement.{statement}
 use Rattle.matrices.proofs.compose.Tie as tie
 
@@ -48,10 +48,10 @@ loop-again c =
     (omega arith, compose-step (c .image .result) (c .before .before .before .before .loop .inv .1) (n .0) (n .1) (omega arith) (omega arith) (c .image .ensures))
 
 same-length : tie.Need-same-length Inv-loop μ-loop
-same-length c = c .before .loop .inv .1 .long
+same-length c = c .before .loop .inv .1 .frame .long
 
 returns : tie.Need-returns Inv-loop μ-loop
-returns c = let d = drawing-to {m = 16} (omega arith) (c .before .loop .inv .1) in (drawing-only d, d .done)
+returns c = let d = drawing-to {m = 16} (omega arith) (c .before .loop .inv .1) in (d .frame, d .done)
 
 pub compose-spec : {M : Type 1} → statement M
 compose-spec =

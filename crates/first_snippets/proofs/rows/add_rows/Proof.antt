@@ -24,7 +24,7 @@ mul-widened : tie.Need-mul-widened Inv-loop μ-loop
 mul-widened c = omega arith
 
 slice-read-widened : tie.Need-slice-read-widened Inv-loop μ-loop
-slice-read-widened c = let l = c .before .before .loop .inv .1 .long in omega arith
+slice-read-widened c = let l = c .before .before .loop .inv .1 .frame .long in omega arith
 
 cast-widened : tie.Need-cast-widened Inv-loop μ-loop
 cast-widened c = omega arith
@@ -39,7 +39,7 @@ mul-p : tie.Need-mul-p Inv-loop μ-loop
 mul-p c = omega arith
 
 slice-write-p : tie.Need-slice-write-p Inv-loop μ-loop
-slice-write-p c = let l = c .before .before .before .loop .inv .1 .long in omega arith
+slice-write-p c = let l = c .before .before .before .loop .inv .1 .frame .long in omega arith
 
 add-i : tie.Need-add-i Inv-loop μ-loop
 add-i c = omega arith
@@ -51,7 +51,7 @@ loop-again : tie.Need-loop-again Inv-loop μ-loop
 loop-again c = let x = c .before .before .before .before .before .args in let l = c .before .before .before .loop .inv in (omega arith, crossed-step (x .rows) (x .set) (x .first) (c .widened .result) (l .1) (omega arith) (c .widened .ensures))
 
 same-length : tie.Need-same-length Inv-loop μ-loop
-same-length c = c .before .loop .inv .1 .long
+same-length c = c .before .loop .inv .1 .frame .long
 
 returns : tie.Need-returns Inv-loop μ-loop
 returns c = drawing-to (omega arith) (c .before .loop .inv .1)

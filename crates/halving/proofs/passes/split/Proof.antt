@@ -57,7 +57,7 @@ add-lower-requires c κs =
     let low = c .before .before .before .before .before .before .block-at2 in
     let high = c .before .before .before .before .before .block-at3 in
     lower-places (x .args .n) (x .args .k) (x .args .y) h (source .result) (low .result) (high .result) _ (source .ensures) (low .ensures) (high .ensures) (x .pre .0) (omega arith)
-    (omega (arith, x .pre .1 .room, c .before .before .before .add-upper .ensures .long))
+    (omega (arith, x .pre .1 .room, c .before .before .before .add-upper .ensures .frame .long))
 
 same-length-2 : tie.Need-same-length-2
 same-length-2 c = search needs

@@ -19,7 +19,7 @@ loop-holds c = (omega arith, omega arith, record { grown = grown-none _ _ _; set
 descend-requires : tie.Need-descend-requires Inv-loop μ-loop
 descend-requires c κs =
     let g = c .before .before .loop .inv .2 .grown in
-    (ready-kept (g .long) (g .front) (c .before .before .before .before .pre .0), omega arith, omega arith)
+    (ready-kept (g .frame) (c .before .before .before .before .pre .0), omega arith, omega arith)
 
 add-r : tie.Need-add-r Inv-loop μ-loop
 add-r c =
@@ -42,7 +42,7 @@ loop-again c =
     )
 
 same-length : tie.Need-same-length Inv-loop μ-loop
-same-length c = c .before .loop .inv .2 .grown .long
+same-length c = c .before .loop .inv .2 .grown .frame .long
 
 returns : tie.Need-returns Inv-loop μ-loop
 returns c = let w = c .before .loop .inv .2 in record { grown = w .grown; settled = λ e u h l. w .settled e u (omega arith) }

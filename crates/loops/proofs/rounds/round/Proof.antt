@@ -12,7 +12,7 @@ upwards-requires c κs = search needs
 downwards-requires : tie.Need-downwards-requires
 downwards-requires c κs =
     let g = c .before .before .before .upwards .ensures .grown in
-    (ready-kept (g .long) (g .front) (c .before .before .before .before .before .before .pre .0), c .before .before .before .before .before .before .pre .1)
+    (ready-kept (g .frame) (c .before .before .before .before .before .before .pre .0), c .before .before .before .before .before .before .pre .1)
 
 add-result : tie.Need-add-result
 add-result c =

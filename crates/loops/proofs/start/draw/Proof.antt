@@ -45,7 +45,7 @@ loop-again : tie.Need-loop-again Inv-loop μ-loop
 loop-again c = (omega arith, drawing-step (c .before .before .loop .inv .1) (c .meet .result) (omega arith) (λ j h. and-iff _ _ _ (c .meet .ensures j)))
 
 same-length : tie.Need-same-length Inv-loop μ-loop
-same-length c = c .before .loop .inv .1 .long
+same-length c = c .before .loop .inv .1 .frame .long
 
 returns : tie.Need-returns Inv-loop μ-loop
 returns c = drawing-to (omega arith) (c .before .loop .inv .1)

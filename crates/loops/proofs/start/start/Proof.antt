@@ -17,7 +17,7 @@ loop-holds : tie.Need-loop-holds Inv-loop μ-loop
 loop-holds c = (omega arith, started-none _ _ _)
 
 begin-requires : tie.Need-begin-requires Inv-loop μ-loop
-begin-requires c κs = let s = c .before .before .loop .inv .1 in (ready-kept (s .long) (s .front) (c .before .before .before .before .pre), omega arith)
+begin-requires c κs = let s = c .before .before .loop .inv .1 in (ready-kept (s .frame) (c .before .before .before .before .pre), omega arith)
 
 add-v : tie.Need-add-v Inv-loop μ-loop
 add-v c = omega arith
@@ -29,7 +29,7 @@ loop-again : tie.Need-loop-again Inv-loop μ-loop
 loop-again c = (omega arith, started-step (omega arith) (c .before .before .before .before .before .loop .inv .1) (c .before .before .begin .ensures))
 
 same-length : tie.Need-same-length Inv-loop μ-loop
-same-length c = c .before .loop .inv .1 .long
+same-length c = c .before .loop .inv .1 .frame .long
 
 returns : tie.Need-returns Inv-loop μ-loop
 returns c = started-to (omega arith) (c .before .loop .inv .1)

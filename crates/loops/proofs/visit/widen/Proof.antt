@@ -1,8 +1,10 @@
 -- `loops::visit::widen` meets its contract.
 use Prim.Native.Nat.{_≤_, _-_}
 use native.Mathlib.Omega.{arith}
-use Rattle.loops.specs.Growing.{Widened, Widening}
-use Rattle.loops.proofs.Detours.{widening-none, widening-step, widening-to}
+use Rattle.matrices.specs.Widening.{Widening}
+use Rattle.matrices.proofs.Widening.{widening-none, widening-to}
+use Rattle.loops.specs.Growing.{Widened}
+use Rattle.loops.proofs.Detours.{widening-step}
 use Rattle.loops.proofs.visit.widen.Statement.{statement}
 use Rattle.loops.proofs.visit.widen.Tie as tie
 

@@ -62,7 +62,7 @@ loop-again c =
     (omega arith, l .1, join-step (c .widened .result) (c .before .before .before .before .before .before .args .k) (l .2) (omega arith) (l .1) (c .widened .ensures))
 
 same-length : tie.Need-same-length Inv-loop μ-loop
-same-length c = c .before .loop .inv .2 .long
+same-length c = c .before .loop .inv .2 .frame .long
 
 returns : tie.Need-returns Inv-loop μ-loop
 returns c = drawing-to (omega arith) (c .before .loop .inv .2)

@@ -51,7 +51,7 @@ loop-again c =
     (omega arith, reflect-step (c .insert .result) (l .1) (omega arith) (c .insert .ensures))
 
 same-length : tie.Need-same-length Inv-loop μ-loop
-same-length c = c .before .loop .inv .1 .long
+same-length c = c .before .loop .inv .1 .frame .long
 
 returns : tie.Need-returns Inv-loop μ-loop
 returns c = drawing-to (omega arith) (c .before .loop .inv .1)

@@ -2,7 +2,7 @@
 use Prim.Native.Nat.{_≤_, _-_}
 use native.Mathlib.Omega.{arith}
 use Rattle.matrices.specs.Matrices.{Drawing}
-use Rattle.matrices.proofs.Drawing.{drawing-none, drawing-to, drawing-only}
+use Rattle.matrices.proofs.Drawing.{drawing-none, drawing-to}
 use Rattle.powers.specs.Blocks.{Crossed}
 use Rattle.powers.proofs.Crossing.{cross-step}
 use Rattle.powers.proofs.blocks.cross.Statement.{statement}
@@ -57,10 +57,10 @@ loop-again c =
     (omega arith, cross-step (x .rows) (x .a) (x .w) (x .b) (c .before .before .before .followers .result) (c .before .before .meet .result) (c .image .result) (u .loop .inv .1) (omega arith) (omega arith) (omega arith) (omega arith) (c .before .before .before .followers .ensures) (c .before .before .meet .ensures) (c .image .ensures))
 
 same-length : tie.Need-same-length Inv-loop μ-loop
-same-length c = c .before .loop .inv .1 .long
+same-length c = c .before .loop .inv .1 .frame .long
 
 returns : tie.Need-returns Inv-loop μ-loop
-returns c = let d = drawing-to {m = 16} (omega arith) (c .before .loop .inv .1) in (drawing-only d, d .done)
+returns c = let d = drawing-to {m = 16} (omega arith) (c .before .loop .inv .1) in (d .frame, d .done)
 
 pub cross-spec : {M : Type 1} → statement M
 cross-spec =

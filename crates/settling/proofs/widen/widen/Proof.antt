@@ -1,8 +1,8 @@
 -- `pairs::widen::widen` meets its contract.
 use Prim.Native.Nat.{_≤_, _-_}
 use native.Mathlib.Omega.{arith}
-use Rattle.loops.specs.Growing.{Widening}
-use Rattle.loops.proofs.Detours.{widening-none, widening-to}
+use Rattle.matrices.specs.Widening.{Widening}
+use Rattle.matrices.proofs.Widening.{widening-none, widening-to}
 use Rattle.settling.specs.Growing.{Widened}
 use Rattle.settling.proofs.Widening.{widen-step}
 use Rattle.settling.proofs.widen.widen.Statement.{statement}

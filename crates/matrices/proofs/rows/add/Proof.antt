@@ -1,9 +1,9 @@
--- `pairs::widen::add` meets its contract.
+-- `matrices::rows::add` meets its contract.
 use native.Mathlib.Omega.{arith}
-use Rattle.loops.proofs.Detours.{joined-none, joined-some}
 use borrow.Author.Needs.{needs}
-use Rattle.settling.proofs.widen.add.Statement.{statement}
-use Rattle.settling.proofs.widen.add.Tie as tie
+use Rattle.matrices.proofs.Widening.{joined-none, joined-some}
+use Rattle.matrices.proofs.rows.add.Statement.{statement}
+use Rattle.matrices.proofs.rows.add.Tie as tie
 
 mul-row : tie.Need-mul-row
 mul-row c = search needs
