@@ -54,6 +54,6 @@ steady-mark r w =
 pub steady-reached : {m : Machine} {n i v : ℕ} {p p′ : List ℕ} → Reached m n i v p p′ → Steady n p p′
 steady-reached h =
     record {
-      held = record { long = h .long; middle = λ k l b. h .front k b };
-      answers = λ k l. h .front k (omega arith);
+      held = record { long = h .spared .long; middle = λ k l b. h .spared .front k b };
+      answers = λ k l. h .spared .front k (omega arith);
     }

@@ -77,7 +77,7 @@ module _ {m : Machine} {n : ℕ} {p : List ℕ} {v f l r u here toLeft toRight b
   leads x j g (fromRight s e h c) = inr (climb x j g e h (inr (s, c)))
   leads x j g (stays s e) = inl (inl (inl (sym e, w .stay j ∙ and-both (bit f j) (bit (w .brackets) j) g (ap (λ (y : ℕ). bit y j) (w .held) ∙ s))))
 
-  pub added-onward : {i₀ i₁ i₂ i₃ i₄ : ℕ} {p₁ p₂ p₃ p₄ : List ℕ} → Added (At v here) n i₀ i₁ p p₁ → Added (At l toLeft) n i₁ i₂ p₁ p₂
-      → Added (At r toRight) n i₂ i₃ p₂ p₃ → Added (At u back) n i₃ i₄ p₃ p₄ → Added (Onward m n p v f) n i₀ i₄ p p₄
+  pub added-onward : {d i₀ i₁ i₂ i₃ i₄ : ℕ} {p₁ p₂ p₃ p₄ : List ℕ} → Added (At v here) n d i₀ i₁ p p₁ → Added (At l toLeft) n d i₁ i₂ p₁ p₂
+      → Added (At r toRight) n d i₂ i₃ p₂ p₃ → Added (At u back) n d i₃ i₄ p₃ p₄ → Added (Onward m n p v f) n d i₀ i₄ p p₄
   unfolding Next
   added-onward a b c d = added-as (λ x j h k. (led x j h, λ o. leads x j (o .0) (o .1))) (added-then (added-then (added-then a b) c) d)

@@ -20,7 +20,7 @@ mark-ranks-requires : tie.Need-mark-ranks-requires
 mark-ranks-requires c κs =
     let x = c .before .before .before .before .before .before .before .before .before .before in let k = c .before .before .before .before .before .before .before .clear-marks .ensures in let f = c .before .before .before .reach .ensures in
     let h = held-then (k .0 .held) (steady-reached f .held) in
-    (held-space h (x .pre .0), held-small h (x .pre .1), λ r l. f .front (cell (x .args .n) MARK r) (omega arith) ∙ k .1 r l)
+    (held-space h (x .pre .0), held-small h (x .pre .1), λ r l. f .spared .front (cell (x .args .n) MARK r) (omega arith) ∙ k .1 r l)
 
 reach-requires-2 : tie.Need-reach-requires-2
 reach-requires-2 c κs = search needs
