@@ -1,6 +1,6 @@
 -- What is seen where ends at some nodes: such additions follow each other, and what is seen stays closed.
 use Prim.Native.Nat.{ℕ, _*_, _≤_, _<_}
-use mathlib.Core.Path.{_≡_, refl, sym, _∙_}
+use mathlib.Core.Path.{_≡_, refl, sym}
 use mathlib.Core.Logic.{_⊎_, inl, inr, ⊎-elim, _↔_}
 use mathlib.Core.List.{List}
 use native.Mathlib.Omega.{arith}

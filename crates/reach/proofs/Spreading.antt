@@ -14,13 +14,10 @@ use Rattle.reach.specs.Work.{Added, At, Climbs, Onward}
 use Rattle.matrices.proofs.Members.{or-cases, or-left, or-right, and-both, and-parts}
 use Rattle.reach.proofs.Adding.{added-then, added-as}
 
--- the steps up are those of a left child and those of a right child
-pub climbs : (m : Machine) (n : ℕ) (p : List ℕ) (v u a b r : ℕ)
-    → ((j : ℕ) → (bit a j ≡ true) ↔ ((bit (m .leftup) j ≡ true) × (word p n LEFT u ≡ v)))
-    → ((j : ℕ) → (bit b j ≡ true) ↔ ((bit (m .rightup) j ≡ true) × (word p n RIGHT u ≡ v)))
-    → ((j : ℕ) → bit r j ≡ or (bit a j) (bit b j))
-    → (j : ℕ) → (bit r j ≡ true) ↔ Climbs m n p v u j
-climbs m n p v u a b r f g union j = (
+-- the members of a union, where those of each set are told
+pub either : {A B : ℕ → Type 0} (a b r : ℕ) → ((j : ℕ) → (bit a j ≡ true) ↔ A j) → ((j : ℕ) → (bit b j ≡ true) ↔ B j)
+    → ((j : ℕ) → bit r j ≡ or (bit a j) (bit b j)) → (j : ℕ) → (bit r j ≡ true) ↔ (A j ⊎ B j)
+either a b r f g union j = (
   λ e. ⊎-map (f j .0) (g j .0) (or-cases (bit a j) (bit b j) (sym (union j) ∙ e)),
   ⊎-elim (λ x. union j ∙ or-left (bit a j) (bit b j) (f j .1 x)) (λ x. union j ∙ or-right (bit a j) (bit b j) (g j .1 x)),
 )

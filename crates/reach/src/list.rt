@@ -1,4 +1,4 @@
-// The work list: its entries are never taken off, since each of them makes one more position seen somewhere, and so 16 for each node are enough.
+// The work list of a walk, forwards and backwards: its entries are never taken off, since each of them makes one more position seen somewhere, and so 16 for each node are enough.
 use bits::union;
 use layout::Part;
 use matrices::sets::without;
