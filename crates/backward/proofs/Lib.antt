@@ -1,7 +1,7 @@
 pub mod Linked
 pub mod Preceding
 pub mod Filling
-pub mod Joining
+pub mod Entries
 pub mod Retracing
 pub mod Spreading
 pub mod Telling

@@ -12,9 +12,10 @@ use Rattle.bits.specs.Sets.{bit}
 use Rattle.layout.specs.Part.{SEEN, NODES, POSITIONS}
 use Rattle.layout.specs.Sweeps.{LEAST, ABOVE}
 use Rattle.layout.specs.Words.{cell, word}
+use Rattle.layout.proofs.Frames.{frame-none, frame-then}
 use Rattle.reach.specs.Work.{Seen, Has, nodeOf, Work}
 use Rattle.reach.proofs.Totals.{total-same}
-use Rattle.backward.specs.Backward.{Once, OfEntry, OfEntries}
+use Rattle.backward.specs.Backward.{OfEntry, OfEntries}
 use Rattle.backward.specs.Sweeps.{Paired, PutIf, put, skip, Noted, Notes}
 
 -- ── One column ──
@@ -61,9 +62,11 @@ pub notes-put : {n c v x : ℕ} {a b : Bool} {p q r : List ℕ} → v < n → Pu
     → Notes n c x (λ u. (u ≡ v) × (a ≡ true)) (λ u. (u ≡ v) × (b ≡ true)) p r
 notes-put {n} {c} {v} l f g =
     record {
-      long = put-long g ∙ put-long f;
-      front = λ k h. put-other g k (omega arith) ∙ put-other f k (omega arith);
-      behind = λ k h. put-other g k (omega arith) ∙ put-other f k (omega arith);
+      frame = record {
+        long = put-long g ∙ put-long f;
+        front = λ k h. put-other g k (omega arith) ∙ put-other f k (omega arith);
+        behind = λ k h. put-other g k (omega arith) ∙ put-other f k (omega arith);
+      };
       first = noted-after (put-noted f) (λ u h. put-other g (cell n c u) (omega arith));
       second = noted-before (λ u h. put-other f (cell n (c + 1) u) (omega arith)) (put-noted g);
     }
@@ -77,18 +80,16 @@ notes-tested s second {n} {c} {x} {v} {a} {b} {p} {q} e f g =
 
 -- ── Notes after notes ──
 notes-none : (n c x : ℕ) (p : List ℕ) {A B : ℕ → Type 0} → ((v : ℕ) → ¬ A v) → ((v : ℕ) → ¬ B v) → Notes n c x A B p p
-notes-none n c x p a b = record { long = refl; front = λ k h. refl; behind = λ k h. refl; first = record { node = λ v l. inr (a v, refl) }; second = record { node = λ v l. inr (b v, refl) } }
+notes-none n c x p a b = record { frame = frame-none p; first = record { node = λ v l. inr (a v, refl) }; second = record { node = λ v l. inr (b v, refl) } }
 
 module _ {n c x : ℕ} {A B C D : ℕ → Type 0} {p q : List ℕ} where
   notes-as : ((v : ℕ) → v < n → A v ↔ C v) → ((v : ℕ) → v < n → B v ↔ D v) → Notes n c x A B p q → Notes n c x C D p q
-  notes-as s t g = record { long = g .long; front = g .front; behind = g .behind; first = noted-as s (g .first); second = noted-as t (g .second) }
+  notes-as s t g = record { frame = g .frame; first = noted-as s (g .first); second = noted-as t (g .second) }
 
   notes-then : {r : List ℕ} → Notes n c x A B p q → Notes n c x C D q r → Notes n c x (λ v. A v ⊎ C v) (λ v. B v ⊎ D v) p r
   notes-then f g =
       record {
-        long = g .long ∙ f .long;
-        front = λ k h. g .front k h ∙ f .front k h;
-        behind = λ k h. g .behind k h ∙ f .behind k h;
+        frame = frame-then (f .frame) (g .frame);
         first = noted-then (f .first) (g .first);
         second = noted-then (f .second) (g .second);
       }
@@ -102,10 +103,10 @@ module _ {n c x : ℕ} {A B : ℕ → Type 0} {p q : List ℕ} (paired : Paired 
   high = mul-le-mul-right n (paired .1)
 
   pub notes-front : (k : ℕ) → k < LEAST * n → getD q k 0 ≡ getD p k 0
-  notes-front k h = let l = low in g .front k (omega arith)
+  notes-front k h = let l = low in g .frame .front k (omega arith)
 
   notes-behind : (k : ℕ) → NODES * n ≤ k → getD q k 0 ≡ getD p k 0
-  notes-behind k h = let l = high in g .behind k (omega arith)
+  notes-behind k h = let l = high in g .frame .behind k (omega arith)
 
   pub notes-seen : (v : ℕ) → v < n → word q n SEEN v ≡ word p n SEEN v
   notes-seen v l = notes-front (cell n SEEN v) (omega arith)
@@ -128,7 +129,7 @@ module _ {n c x : ℕ} {A B : ℕ → Type 0} {p q : List ℕ} (paired : Paired 
   pub notes-work : {len : ℕ} → Work n len p → Work n len q
   notes-work w =
       record {
-        space = record { some = w .space .some; few = w .space .few; room = let r = w .space .room in let e = g .long in omega arith };
+        space = record { some = w .space .some; few = w .space .few; room = let r = w .space .room in let e = g .frame .long in omega arith };
         nodes = λ k l. subst (λ (y : ℕ). y < n) (sym (notes-node k)) (w .nodes k l);
         told = λ k j l h b.
             ap (λ (y : ℕ). bit y j) (notes-seen (nodeOf q n k) (subst (λ (y : ℕ). y < n) (sym (notes-node k)) (w .nodes k l)))
@@ -136,11 +137,9 @@ module _ {n c x : ℕ} {A B : ℕ → Type 0} {p q : List ℕ} (paired : Paired 
         listed = λ u j l h s.
             let (k, r, e, b) = w .listed u j l h (ap (λ (y : ℕ). bit y j) (sym (notes-seen u l)) ∙ s) in
             (k, r, notes-node k ∙ e, has-after k j b);
+        once = λ k l j h r s e a b. w .once k l j h r s (sym (notes-node k) ∙ e ∙ notes-node l) (has-before k j a) (has-before l j b);
         count = let z = w .count in let e = total-same p q n n (λ v l d. notes-seen v l) n (omega arith) (omega arith) in omega arith;
       }
-
-  pub notes-once : {len : ℕ} → Once n len p → Once n len q
-  notes-once o k l j h r s e a b = o k l j h r s (sym (notes-node k) ∙ e ∙ notes-node l) (has-before k j a) (has-before l j b)
 
 -- ── The loop ──
 -- the entries from a up to h are noted

@@ -25,8 +25,9 @@ use Rattle.plain.specs.Ranges.{Ranged, Across}
 use Rattle.plain.proofs.Ranged.{across-some}
 use Rattle.plain.proofs.Steady.{held-then, held-word, held-small}
 use Rattle.plain.proofs.Walks.{stops-same, meets-same}
-use Rattle.backward.specs.Backward.{LinkedBothWays, Listed}
-use Rattle.backward.specs.Sweeps.{rangeOf, Seeded, Extreme, Spared, Blank, Blanked, Risen, Fallen, Ranges}
+use Rattle.reach.specs.Work.{Work, Spared}
+use Rattle.backward.specs.Backward.{LinkedBothWays}
+use Rattle.backward.specs.Sweeps.{rangeOf, Seeded, Extreme, Blank, Blanked, Risen, Fallen, Ranges}
 use Rattle.backward.proofs.Linked.{linked-same}
 use Rattle.backward.proofs.Sweeping.{extreme-as, Sweeping, sweeping-none, sweeping-step, sweeping-all}
 
@@ -37,13 +38,13 @@ Rising m n r len p₀ p = Sweeping (λ a b. a ≤ b) 65_535 (word p₀ n RANK) m
 pub rising-none : {m : Machine} {n : ℕ} {p : List ℕ} → Blank n LEAST 65_535 p → LinkedBothWays n p → Rising m n 0 0 p p
 rising-none b linked = sweeping-none b linked (λ w l d. absurd (omega arith))
 
-pub rising-step : {m : Machine} {n r len len′ : ℕ} {p₀ p p′ : List ℕ} → m .second < 16 → Listed n 0 p₀ → Rising m n r len p₀ p → Seeded m n (λ u. word p n RANK u ≡ r) LEAST r len len′ p p′
+pub rising-step : {m : Machine} {n r len len′ : ℕ} {p₀ p p′ : List ℕ} → m .second < 16 → Work n 0 p₀ → Rising m n r len p₀ p → Seeded m n (λ u. word p n RANK u ≡ r) LEAST r len len′ p p′
     → Rising m n (r + 1) len′ p₀ p′
 rising-step {m} {n} {r} {p₀ = p₀} {p = p} small empty s g =
     sweeping-step small empty s g (λ w l e. sym (rank w l) ∙ e) (omega arith) (λ w u l h d e. let z = rank u h in omega arith) both
   where
     rank : (w : ℕ) → w < n → word p n RANK w ≡ word p₀ n RANK w
-    rank w l = s .added .front (cell n RANK w) (omega arith)
+    rank w l = s .added .spared .front (cell n RANK w) (omega arith)
 
     part : (w : ℕ) → w < n → word p₀ n RANK w < r + 1 → Dec (word p₀ n RANK w < r) → (word p₀ n RANK w < r) ⊎ (word p n RANK w ≡ r)
     part w l h (yes k) = inl k
@@ -62,13 +63,13 @@ Falling m n r len p₀ p = Sweeping (λ a b. b ≤ a) 0 (λ w. suc (word p₀ n 
 pub falling-none : {m : Machine} {n : ℕ} {p : List ℕ} → Small n p → Blank n ABOVE 0 p → LinkedBothWays n p → Falling m n n 0 p p
 falling-none small b linked = sweeping-none b linked (λ w l d. let k = small w l in absurd (omega arith))
 
-pub falling-step : {m : Machine} {n r len len′ : ℕ} {p₀ p p′ : List ℕ} → m .second < 16 → Listed n 0 p₀ → Falling m n r len p₀ p → 0 < r → Seeded m n (λ u. word p n RANK u ≡ r - 1) ABOVE r len len′ p p′
+pub falling-step : {m : Machine} {n r len len′ : ℕ} {p₀ p p′ : List ℕ} → m .second < 16 → Work n 0 p₀ → Falling m n r len p₀ p → 0 < r → Seeded m n (λ u. word p n RANK u ≡ r - 1) ABOVE r len len′ p p′
     → Falling m n (r - 1) len′ p₀ p′
 falling-step {m} {n} {r} {p₀ = p₀} {p = p} small empty s some g =
     sweeping-step small empty s g (λ w l e. let z = rank w l in omega arith) (omega arith) (λ w u l h d e. let z = rank u h in omega arith) both
   where
     rank : (w : ℕ) → w < n → word p n RANK w ≡ word p₀ n RANK w
-    rank w l = s .added .front (cell n RANK w) (omega arith)
+    rank w l = s .added .spared .front (cell n RANK w) (omega arith)
 
     part : (w : ℕ) → w < n → r - 1 ≤ word p₀ n RANK w → Dec (word p₀ n RANK w < r) → (r ≤ word p₀ n RANK w) ⊎ (word p n RANK w ≡ r - 1)
     part w l h (yes k) = let z = rank w l in inr (omega arith)
@@ -105,16 +106,7 @@ module _ {n : ℕ} {p q : List ℕ} (rank : (w : ℕ) → w < n → word q n RAN
             (subst (λ (y : ℕ). Points (Least n q (suc v) y) (word p n NEXT v)) (sym (rank v l)) (points-to (b .next v l)));
       }
 
-pub sweeping-buckets : {Order : ℕ → ℕ → Type 0} {blank : ℕ} {key : ℕ → ℕ} {m : Machine} {n : ℕ} (c : ℕ) {D : ℕ → Type 0} {len : ℕ} {p₀ p : List ℕ} → LEAST ≤ c
-    → Sweeping Order blank key m n c D len p₀ p → Buckets n p₀ → Buckets n p
-sweeping-buckets {n = n} c l s =
-    let low : LEAST * n ≤ c * n = mul-le-mul-right n l in
-    buckets-kept
-    (λ w h. s .added .front (cell n RANK w) (omega arith))
-    (λ w h. s .aside (cell n FIRST w) (omega arith) (omega arith))
-    (λ w h. s .aside (cell n NEXT w) (omega arith) (omega arith))
-
-spared-buckets : {n : ℕ} (c : ℕ) {p q : List ℕ} → LEAST ≤ c → Spared n c p q → Buckets n p → Buckets n q
+pub spared-buckets : {n : ℕ} (c : ℕ) {p q : List ℕ} → LEAST ≤ c → Spared n c p q → Buckets n p → Buckets n q
 spared-buckets {n} c l s =
     let low : LEAST * n ≤ c * n = mul-le-mul-right n l in
     buckets-kept

@@ -2,30 +2,18 @@
 use Prim.Native.Nat.{ℕ, _<_}
 use mathlib.Core.Path.{_≡_, sym, ap, _∙_, subst}
 use mathlib.Core.Bool.{true}
-use mathlib.Core.Logic.{_⊎_, inl, inr, ⊎-elim, ⊎-map, _↔_}
+use mathlib.Core.Logic.{_⊎_, inl, inr, ⊎-elim, _↔_}
 use mathlib.Core.List.{List}
 use lib.ListN.{getD}
-use Rattle.bits.specs.Sets.{bit, or}
+use Rattle.bits.specs.Sets.{bit}
 use Rattle.layout.specs.Part.{STAYS}
 use Rattle.layout.specs.Table.{LEFT, RIGHT, PARENT}
 use Rattle.layout.specs.Words.{word}
 use Rattle.machine.specs.declared.Machine.{Machine}
 use Rattle.machine.specs.Walks.{Leads, left, right, fromLeft, fromRight, stays}
-use Rattle.reach.specs.Work.{At}
-use Rattle.matrices.proofs.Members.{or-cases, or-left, or-right}
-use Rattle.backward.specs.Backward.{LinkedBothWays, Sources, Descends, Joined, Into}
-use Rattle.backward.proofs.Joining.{joined-then, joined-as}
-
--- the steps down are those to a left child and those to a right child
-pub descends : (m : Machine) (n : ℕ) (p : List ℕ) (v u a b r : ℕ)
-    → ((j : ℕ) → (bit a j ≡ true) ↔ ((bit (m .left) j ≡ true) × (word p n LEFT v ≡ u)))
-    → ((j : ℕ) → (bit b j ≡ true) ↔ ((bit (m .right) j ≡ true) × (word p n RIGHT v ≡ u)))
-    → ((j : ℕ) → bit r j ≡ or (bit a j) (bit b j))
-    → (j : ℕ) → (bit r j ≡ true) ↔ Descends m n p v u j
-descends m n p v u a b r f g union j = (
-  λ e. ⊎-map (f j .0) (g j .0) (or-cases (bit a j) (bit b j) (sym (union j) ∙ e)),
-  ⊎-elim (λ x. union j ∙ or-left (bit a j) (bit b j) (f j .1 x)) (λ x. union j ∙ or-right (bit a j) (bit b j) (g j .1 x)),
-)
+use Rattle.reach.specs.Work.{At, Added}
+use Rattle.backward.specs.Backward.{LinkedBothWays, Sources, Descends, Into}
+use Rattle.reach.proofs.Adding.{added-then, added-as}
 
 -- the nodes next to u, and the positions there that come to a position of s at u: by a bracketed test, by a step up from the left child or from the right child, and by a step down from the parent
 pub record Ways (m : Machine) (n : ℕ) (p : List ℕ) (u s l r v here fromL fromR fromUp : ℕ) : Type 0 where
@@ -84,9 +72,7 @@ module _ {m : Machine} {n : ℕ} {p : List ℕ} {u s l r v here fromL fromR from
   leads x i j h k q f t (stays b e) =
       inl (inl (inl (e, w .stay i k .1 (j, q, f, ap (λ (y : ℕ). bit y j) (w .held ∙ ap (λ (y : ℕ). word p n STAYS y) (sym e)) ∙ b, t))))
 
-  pub joined-into : {i₀ i₁ i₂ i₃ i₄ : ℕ} {p₁ p₂ p₃ p₄ : List ℕ} → Joined (At u here) n i₀ i₁ p p₁ → Joined (At l fromL) n i₁ i₂ p₁ p₂
-      → Joined (At r fromR) n i₂ i₃ p₂ p₃ → Joined (At v fromUp) n i₃ i₄ p₃ p₄ → Joined (Into m n p u s) n i₀ i₄ p p₄
+  pub added-leads : {d i₀ i₁ i₂ i₃ i₄ : ℕ} {p₁ p₂ p₃ p₄ : List ℕ} → Added (At u here) n d i₀ i₁ p p₁ → Added (At l fromL) n d i₁ i₂ p₁ p₂
+      → Added (At r fromR) n d i₂ i₃ p₂ p₃ → Added (At v fromUp) n d i₃ i₄ p₃ p₄ → Added (Into m n p u s) n d i₀ i₄ p p₄
   unfolding Next
-  joined-into a b c d =
-      let g = joined-then (joined-then (joined-then a b) c) d in
-      joined-as (λ x i h k y. inr (comes x i h k y)) (λ x i h k (j, q, f, t, y). g .added .seen x i h k .1 (inr (leads x i j h k q f t y))) g
+  added-leads a b c e = added-as (λ x i h k. (comes x i h k, λ (j, q, f, t, y). leads x i j h k q f t y)) (added-then (added-then (added-then a b) c) e)

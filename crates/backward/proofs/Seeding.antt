@@ -18,16 +18,17 @@ use Rattle.machine.specs.declared.Machine.{Machine}
 use Rattle.machine.specs.Walks.{Stops}
 use Rattle.skeletons.specs.Skeletons.{Least, Buckets}
 use Rattle.skeletons.proofs.Grouping.{least-some}
-use Rattle.reach.specs.Work.{Seen, Added}
-use Rattle.backward.specs.Backward.{LinkedBothWays, Listed, OfEntries, New, Closed, Ends, Backed}
+use Rattle.reach.specs.Work.{Seen, Work, Added}
+use Rattle.backward.specs.Backward.{LinkedBothWays, OfEntries, New, Closed, Ends, Backed}
 use Rattle.backward.specs.Sweeps.{Paired, Notes, Seeded}
-use Rattle.backward.proofs.Joining.{entry-new, new-entry}
+use Rattle.reach.proofs.Adding.{added-same}
+use Rattle.backward.proofs.Entries.{entry-new, new-entry}
 use Rattle.backward.proofs.Spreading.{added-linked}
-use Rattle.backward.proofs.Ending.{ends-closed, added-ends-as, added-ends-then}
-use Rattle.backward.proofs.Noting.{noted-as, noted-then, noted-before, notes-front, notes-seen, notes-node, notes-set, notes-work, notes-once}
+use Rattle.backward.proofs.Ending.{ends-closed, ends-as, ends-then}
+use Rattle.backward.proofs.Noting.{noted-as, noted-then, noted-before, notes-front, notes-seen, notes-node, notes-set, notes-work}
 
 -- ── One node ──
-module _ {m : Machine} {n w c x len end : ℕ} {p q r : List ℕ} (list : Listed n len p) (inside : w < n) (small : m .second < 16) (paired : Paired c)
+module _ {m : Machine} {n w c x len end : ℕ} {p q r : List ℕ} (list : Work n len p) (inside : w < n) (small : m .second < 16) (paired : Paired c)
     (g : Backed m n w (m .last) len end p q) (f : Notes n c x (OfEntries q n 0 len end) (OfEntries q n (m .second) len end) q r) where
   after : (v i : ℕ) → v < n → Seen q n v i → Seen r n v i
   after v i l s = ap (λ (y : ℕ). bit y i) (notes-seen paired f v l) ∙ s
@@ -35,29 +36,32 @@ module _ {m : Machine} {n w c x len end : ℕ} {p q r : List ℕ} (list : Listed
   before : (v i : ℕ) → v < n → Seen r n v i → Seen q n v i
   before v i l s = ap (λ (y : ℕ). bit y i) (sym (notes-seen paired f v l)) ∙ s
 
-  one-added : Added (Ends m n p (λ u. u ≡ w)) n len end p r
+  one-added : Added (Ends m n p (λ u. u ≡ w)) n c len end p r
   one-added =
-      let a = g .added in
+      let high : c * n ≤ ABOVE * n = mul-le-mul-right n (paired .1) in
       record {
-        work = notes-work paired f (a .work);
-        long = f .long ∙ a .long;
-        front = λ k h. notes-front paired f k (omega arith) ∙ a .front k h;
-        more = a .more;
-        nodes = λ k h. notes-node paired f k ∙ a .nodes k h;
-        sets = λ k h. notes-set paired f k ∙ a .sets k h;
+        work = notes-work paired f (g .work);
+        spared = record {
+          long = f .frame .long ∙ g .spared .long;
+          front = λ k h. notes-front paired f k (omega arith) ∙ g .spared .front k h;
+          aside = λ k l h. f .frame .front k h ∙ g .spared .aside k l (omega arith);
+        };
+        more = g .more;
+        nodes = λ k h. notes-node paired f k ∙ g .nodes k h;
+        sets = λ k h. notes-set paired f k ∙ g .sets k h;
         seen = λ v i l h. (
-          λ s. ⊎-map (λ y. y) (λ y. (w, inside, refl, y)) (a .seen v i l h .0 (before v i l s)),
+          λ s. ⊎-map (λ y. y) (λ y. (w, inside, refl, y)) (g .seen v i l h .0 (before v i l s)),
           ⊎-elim
-              (λ s. after v i l (a .seen v i l h .1 (inl s)))
-              (λ (u, k, e, s). after v i l (a .seen v i l h .1 (inr (subst (λ (y : ℕ). Stops m n p i v y) e s)))),
+              (λ s. after v i l (g .seen v i l h .1 (inl s)))
+              (λ (u, k, e, s). after v i l (g .seen v i l h .1 (inr (subst (λ (y : ℕ). Stops m n p i v y) e s)))),
         );
       }
 
   -- what the new entries hold is new
   fresh : (i : ℕ) → i < 16 → (v : ℕ) → v < n → OfEntries q n i len end v ↔ New n i p r v
   fresh i h v l = (
-    λ o. let (s, d) = entry-new list (g .added) (g .once) i v l h o in (after v i l s, d),
-    λ (s, d). new-entry list (g .added) i v l h (before v i l s, d),
+    λ o. let (s, d) = entry-new list g i v l h o in (after v i l s, d),
+    λ (s, d). new-entry list g i v l h (before v i l s, d),
   )
 
   pub seeded-one : Seeded m n (λ u. u ≡ w) c x len end p r
@@ -65,27 +69,15 @@ module _ {m : Machine} {n w c x len end : ℕ} {p q r : List ℕ} (list : Listed
       let low : LEAST * n ≤ c * n = mul-le-mul-right n (paired .0) in let high : c * n ≤ ABOVE * n = mul-le-mul-right n (paired .1) in
       record {
         added = one-added;
-        once = notes-once paired f (g .once);
-        aside = λ k l h. f .front k h ∙ g .aside k l (omega arith);
-        first = noted-before (λ v l. g .aside (cell n c v) (omega arith) (omega arith)) (noted-as (fresh 0 (omega arith)) (f .first));
-        second = noted-before (λ v l. g .aside (cell n (c + 1) v) (omega arith) (omega arith)) (noted-as (fresh (m .second) small) (f .second));
+        first = noted-before (λ v l. g .spared .aside (cell n c v) (omega arith) (omega arith)) (noted-as (fresh 0 (omega arith)) (f .first));
+        second = noted-before (λ v l. g .spared .aside (cell n (c + 1) v) (omega arith) (omega arith)) (noted-as (fresh (m .second) small) (f .second));
       }
 
 -- ── Node after node ──
-seeded-none : {m : Machine} {n c x len : ℕ} {E : ℕ → Type 0} {p : List ℕ} → Listed n len p → ((w : ℕ) → w < n → ¬ E w) → Seeded m n E c x len len p p
+seeded-none : {m : Machine} {n c x len : ℕ} {E : ℕ → Type 0} {p : List ℕ} → Work n len p → ((w : ℕ) → w < n → ¬ E w) → Seeded m n E c x len len p p
 seeded-none list none =
     record {
-      added = record {
-        work = list .work;
-        long = refl;
-        front = λ k h. refl;
-        more = omega arith;
-        nodes = λ k h. refl;
-        sets = λ k h. refl;
-        seen = λ v i l h. (inl, ⊎-elim (λ s. s) (λ (w, r, e, s). absurd (none w r e)));
-      };
-      once = list .once;
-      aside = λ k l h. refl;
+      added = added-same list (λ v i l h (w, r, e, s). absurd (none w r e));
       first = record { node = λ v l. inr (λ (s, d). d s, refl) };
       second = record { node = λ v l. inr (λ (s, d). d s, refl) };
     }
@@ -101,14 +93,12 @@ new-then n i p q r f g v l = (⊎-elim (λ (s, d). (g v l s, d)) (λ (s, d). (s,
 
 module _ {m : Machine} {n c x a b : ℕ} {E F : ℕ → Type 0} {p q : List ℕ} where
   seeded-as : ((w : ℕ) → w < n → E w ↔ F w) → Seeded m n E c x a b p q → Seeded m n F c x a b p q
-  seeded-as same g = record { added = added-ends-as same (g .added); once = g .once; aside = g .aside; first = g .first; second = g .second }
+  seeded-as same g = record { added = ends-as same (g .added); first = g .first; second = g .second }
 
   seeded-then : {d : ℕ} {r : List ℕ} → m .second < 16 → Seeded m n E c x a b p q → Seeded m n F c x b d q r → Seeded m n (λ w. E w ⊎ F w) c x a d p r
   seeded-then {d} {r} small f g =
       record {
-        added = added-ends-then (f .added) (g .added);
-        once = g .once;
-        aside = λ k l h. g .aside k l h ∙ f .aside k l h;
+        added = ends-then (f .added) (g .added);
         first = noted-as (both 0 (omega arith)) (noted-then (f .first) (g .first));
         second = noted-as (both (m .second) small) (noted-then (f .second) (g .second));
       }
@@ -138,10 +128,10 @@ module _ {n : ℕ} {p : List ℕ} {v r w : ℕ} (few : n ≤ 4096) where
   node-after (inl l) i = l .from
   node-after (inr (e, none)) i = omega arith
 
-pub seeding-start : {m : Machine} {n r c x len w : ℕ} {p : List ℕ} → Listed n len p → LinkedBothWays n p → Closed m n p → Buckets n p → r < n → w ≡ word p n FIRST r
+pub seeding-start : {m : Machine} {n r c x len w : ℕ} {p : List ℕ} → Work n len p → LinkedBothWays n p → Closed m n p → Buckets n p → r < n → w ≡ word p n FIRST r
     → Seeding m n r c x len w len p p
 seeding-start {m} {n} {r} {w = w} {p = p} list linked closed buckets l e =
-    let few = list .work .space .few in let g = subst (λ (y : ℕ). Points (Least n p 0 r) y) (sym e) (buckets .first r l) in
+    let few = list .space .few in let g = subst (λ (y : ℕ). Points (Least n p 0 r) y) (sym e) (buckets .first r l) in
     record {
       linked = linked;
       closed = closed;
@@ -154,7 +144,7 @@ module _ {m : Machine} {n r c x len w end end′ w′ : ℕ} {p₀ p p′ : List
   next : Points (Least n p₀ (suc w) r) w′
   next =
       let low : LEAST * n ≤ c * n = mul-le-mul-right n (paired .0) in
-      let q : word p′ n NEXT w ≡ word p₀ n NEXT w = g .aside (cell n NEXT w) (omega arith) (omega arith) ∙ b .seeded .aside (cell n NEXT w) (omega arith) (omega arith) in
+      let q : word p′ n NEXT w ≡ word p₀ n NEXT w = g .added .spared .aside (cell n NEXT w) (omega arith) (omega arith) ∙ b .seeded .added .spared .aside (cell n NEXT w) (omega arith) (omega arith) in
       subst (λ (y : ℕ). Points (Least n p₀ (suc w) r) y) (sym (e ∙ q))
       (subst (λ (y : ℕ). Points (Least n p₀ (suc w) y) (word p₀ n NEXT w)) (b .ranked l) (buckets .next w l))
 

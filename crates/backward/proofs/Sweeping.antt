@@ -1,32 +1,30 @@
 -- The loop over the ranks: what is new from the nodes of a rank ends at no node that was taken before.
-use Prim.Native.Nat.{ℕ, suc, _+_, _*_, _≤_, _<_}
-use mathlib.Core.Path.{_≡_, refl, sym, _∙_, subst}
+use Prim.Native.Nat.{ℕ, _+_, _<_}
+use mathlib.Core.Path.{_≡_, sym, _∙_, subst}
 use mathlib.Core.Logic.{_⊎_, inl, inr, ⊎-elim, _↔_}
 use mathlib.Core.List.{List}
 use native.Mathlib.Omega.{arith}
-use lib.ListN.{getD}
-use Rattle.layout.specs.Part.{SEEN}
 use Rattle.layout.specs.Words.{word}
 use Rattle.machine.specs.declared.Machine.{Machine}
 use Rattle.machine.specs.Walks.{Stops}
-use Rattle.reach.specs.Work.{Seen, Added}
+use Rattle.reach.specs.Work.{Seen, Work, Added}
 use Rattle.reach.proofs.Adding.{added-same}
 use Rattle.reach.proofs.Walks.{walk-same}
-use Rattle.backward.specs.Backward.{LinkedBothWays, Once, Listed, New, Closed, Ends}
+use Rattle.backward.specs.Backward.{LinkedBothWays, New, Closed, Ends}
 use Rattle.backward.specs.Sweeps.{Noted, Seeded, Extreme, Blank, Swept}
 use Rattle.backward.proofs.Spreading.{added-linked}
-use Rattle.backward.proofs.Ending.{unseen, closed-none, ends-closed, added-ends-as, added-ends-then}
+use Rattle.backward.proofs.Ending.{unseen, closed-none, ends-closed, ends-as, ends-then}
 
 -- ── One start at one node ──
-module _ {m : Machine} {n a b : ℕ} {D E : ℕ → Type 0} {p₀ p p′ : List ℕ} (Order : ℕ → ℕ → Type 0) (blank : ℕ) (key : ℕ → ℕ) (empty : Listed n 0 p₀)
-    (f : Added (Ends m n p₀ D) n 0 a p₀ p) (g : Added (Ends m n p E) n a b p p′) (i : ℕ) (small : i < 16) (x : ℕ)
+module _ {m : Machine} {n d a b : ℕ} {D E : ℕ → Type 0} {p₀ p p′ : List ℕ} (Order : ℕ → ℕ → Type 0) (blank : ℕ) (key : ℕ → ℕ) (empty : Work n 0 p₀)
+    (f : Added (Ends m n p₀ D) n d 0 a p₀ p) (g : Added (Ends m n p E) n d a b p p′) (i : ℕ) (small : i < 16) (x : ℕ)
     (keyed : (w : ℕ) → w < n → E w → key w ≡ x) (same : Order x x) (ordered : (w u : ℕ) → w < n → u < n → D w → E u → Order (key w) (key u)) where
   -- where a path from v ends, by the words at the start
   back : {v w : ℕ} → v < n → Stops m n p i v w → Stops m n p₀ i v w
-  back l (j, e, s) = (j, e, walk-same (λ k r h. sym (f .front k h)) l s)
+  back l (j, e, s) = (j, e, walk-same (λ k r h. sym (f .spared .front k h)) l s)
 
   forth : {v w : ℕ} → v < n → Stops m n p₀ i v w → Stops m n p i v w
-  forth l (j, e, s) = (j, e, walk-same (λ k r h. f .front k h) l s)
+  forth l (j, e, s) = (j, e, walk-same (λ k r h. f .spared .front k h) l s)
 
   -- it was seen before
   was : {v w : ℕ} → v < n → w < n → D w → Stops m n p₀ i v w → Seen p n v i
@@ -86,9 +84,7 @@ extreme-as Order blank n key x same (inr ((w, l, d, e), first)) = inr ((w, l, sa
 pub record Sweeping (Order : ℕ → ℕ → Type 0) (blank : ℕ) (key : ℕ → ℕ) (m : Machine) (n c : ℕ) (D : ℕ → Type 0) (len : ℕ) (p₀ p : List ℕ) : Type 0 where
   pub linked : LinkedBothWays n p
   pub closed : Closed m n p
-  pub added : Added (Ends m n p₀ D) n 0 len p₀ p
-  pub once : Once n len p
-  pub aside : (k : ℕ) → suc SEEN * n ≤ k → k < c * n → getD p k 0 ≡ getD p₀ k 0
+  pub added : Added (Ends m n p₀ D) n c 0 len p₀ p
   pub first : (v : ℕ) → v < n → Extreme Order blank n key (λ w. D w × Stops m n p₀ 0 v w) (word p n c v)
   pub second : (v : ℕ) → v < n → Extreme Order blank n key (λ w. D w × Stops m n p₀ (m .second) v w) (word p n (c + 1) v)
 
@@ -97,24 +93,20 @@ module _ {Order : ℕ → ℕ → Type 0} {blank : ℕ} {key : ℕ → ℕ} {m :
   sweeping-none b linked none =
       record {
         linked = linked;
-        closed = closed-none (b .listed);
-        added = added-same (b .listed .work) (λ v i l h (w, r, d, s). absurd (none w r d));
-        once = b .listed .once;
-        aside = λ k l h. refl;
+        closed = closed-none (b .work);
+        added = added-same (b .work) (λ v i l h (w, r, d, s). absurd (none w r d));
         first = λ v l. inl (b .first v l, λ w r (d, s). none w r d);
         second = λ v l. inl (b .second v l, λ w r (d, s). none w r d);
       }
 
-  pub sweeping-step : {E F : ℕ → Type 0} {x len len′ : ℕ} {p₀ p p′ : List ℕ} → m .second < 16 → Listed n 0 p₀ → Sweeping Order blank key m n c D len p₀ p → Seeded m n E c x len len′ p p′
+  pub sweeping-step : {E F : ℕ → Type 0} {x len len′ : ℕ} {p₀ p p′ : List ℕ} → m .second < 16 → Work n 0 p₀ → Sweeping Order blank key m n c D len p₀ p → Seeded m n E c x len len′ p p′
       → ((w : ℕ) → w < n → E w → key w ≡ x) → Order x x → ((w u : ℕ) → w < n → u < n → D w → E u → Order (key w) (key u)) → ((w : ℕ) → w < n → (D w ⊎ E w) ↔ F w)
       → Sweeping Order blank key m n c F len′ p₀ p′
   sweeping-step {E} {F} {x} {p₀ = p₀} {p = p} {p′ = p′} small empty s g keyed same ordered both =
       record {
         linked = added-linked (g .added) (s .linked);
         closed = ends-closed (s .closed) (g .added);
-        added = added-ends-as both (added-ends-then (s .added) (g .added));
-        once = g .once;
-        aside = λ k l h. g .aside k l h ∙ s .aside k l h;
+        added = ends-as both (ends-then (s .added) (g .added));
         first = λ v l. extreme-as Order blank n key (word p′ n c v) (also v 0) (extreme-step Order blank key empty (s .added) (g .added) 0 (omega arith) x keyed same ordered c (g .first) (s .first) v l);
         second = λ v l. extreme-as Order blank n key (word p′ n (c + 1) v) (also v (m .second)) (extreme-step Order blank key empty (s .added) (g .added) (m .second) small x keyed same ordered (c + 1) (g .second) (s .second) v l);
       }
@@ -125,7 +117,7 @@ module _ {Order : ℕ → ℕ → Type 0} {blank : ℕ} {key : ℕ → ℕ} {m :
   pub sweeping-all : {len : ℕ} {p₀ p : List ℕ} → Sweeping Order blank key m n c D len p₀ p → ((w : ℕ) → w < n → D w) → Swept Order blank key m n c p₀ p
   sweeping-all {p₀ = p₀} {p = p} s all =
       record {
-        spared = record { long = s .added .long; front = s .added .front; aside = s .aside };
+        spared = s .added .spared;
         first = λ v l. extreme-as Order blank n key (word p n c v) (λ w r. (λ (d, t). t, λ t. (all w r, t))) (s .first v l);
         second = λ v l. extreme-as Order blank n key (word p n (c + 1) v) (λ w r. (λ (d, t). t, λ t. (all w r, t))) (s .second v l);
       }

@@ -1,18 +1,18 @@
 -- The work list backwards: it begins where walks end, and goes from a position at a node to those that come to it by one step.
-use Prim.Native.Nat.{ℕ, suc, _+_, _*_, _≤_, _<_}
+use Prim.Native.Nat.{ℕ, _≤_, _<_}
 use mathlib.Core.Path.{_≡_}
 use mathlib.Core.Logic.{_⊎_}
 use mathlib.Core.Bool.{true}
 use mathlib.Core.List.{List}
-use lib.ListN.{length, getD}
+use lib.ListN.{getD}
 use Rattle.limits.specs.Limits.{positions}
 use Rattle.bits.specs.Sets.{bit}
-use Rattle.layout.specs.Part.{SEEN, NODES, POSITIONS}
+use Rattle.layout.specs.Part.{NODES, POSITIONS}
 use Rattle.layout.specs.Table.{LEFT, RIGHT, PARENT}
 use Rattle.layout.specs.Words.{word}
 use Rattle.machine.specs.declared.Machine.{Machine}
 use Rattle.machine.specs.Walks.{Leads, Walk, Stops}
-use Rattle.reach.specs.Work.{Seen, Has, nodeOf, Work, Added}
+use Rattle.reach.specs.Work.{Seen, Has, nodeOf, Added}
 use Rattle.plain.specs.Ranges.{Some}
 
 -- ── The links ──
@@ -23,7 +23,6 @@ pub record LinkedBothWays (n : ℕ) (p : List ℕ) : Type 0 where
   -- and of a right child
   pub right : (v u : ℕ) → v < n → u < n → word p n RIGHT v ≡ u → word p n PARENT u ≡ v
 
--- ── Columns ──
 -- ── Sets of positions ──
 -- two sets have a member in common
 abbrev pub Common : ℕ → ℕ → Type 0
@@ -38,17 +37,6 @@ abbrev pub Sources : List ℕ → ℕ → ℕ → ℕ → Type 0
 Sources rows s steps i = (j : ℕ) × (j < positions) × (bit s j ≡ true) × (bit steps j ≡ true) × (bit (getD rows i 0) j ≡ true)
 
 -- ── The list ──
--- no position of a node is in two of the len entries
-abbrev pub Once : ℕ → ℕ → List ℕ → Type 0
-Once n len p = (k l j : ℕ) → k < len → l < len → j < positions → nodeOf p n k ≡ nodeOf p n l → Has p n k j → Has p n l j → k ≡ l
-
--- the list has len entries
-pub record Listed (n len : ℕ) (p : List ℕ) : Type 0 where
-  -- they hold just what is seen
-  pub work : Work n len p
-  -- and each position of a node once
-  pub once : Once n len p
-
 -- entry k is of node v and has position i
 abbrev pub OfEntry : List ℕ → ℕ → ℕ → ℕ → ℕ → Type 0
 OfEntry p n i k v = (v ≡ nodeOf p n k) × Has p n k i
@@ -57,17 +45,9 @@ OfEntry p n i k v = (v ≡ nodeOf p n k) × Has p n k i
 abbrev pub OfEntries : List ℕ → ℕ → ℕ → ℕ → ℕ → ℕ → Type 0
 OfEntries p n i a b v = (k : ℕ) × (a ≤ k) × (k < b) × OfEntry p n i k v
 
--- position i is seen at v now and was not before
+-- position i is seen at v now and was not before: just that is what the new entries hold (`entry-new` and `new-entry`)
 abbrev pub New : ℕ → ℕ → List ℕ → List ℕ → ℕ → Type 0
 New n i p p′ v = Seen p′ n v i × (¬ Seen p n v i)
-
--- the positions j at nodes u that R holds of were added to a list of len entries, which has len′ now: so what the entries from len on hold is just what is new (`entry-new` and `new-entry`)
-pub record Joined (R : ℕ → ℕ → Type 0) (n len len′ : ℕ) (p p′ : List ℕ) : Type 0 where
-  pub added : Added R n len len′ p p′
-  -- each position of a node is in one entry only
-  pub once : Once n len′ p′
-  -- the columns between SEEN and the list are as they were
-  pub aside : (k : ℕ) → suc SEEN * n ≤ k → k < NODES * n → getD p′ k 0 ≡ getD p k 0
 
 module _ (m : Machine) (n : ℕ) (p : List ℕ) where
   -- step j leads from v down to its child u
@@ -96,4 +76,4 @@ module _ (m : Machine) (n : ℕ) (p : List ℕ) where
 
 -- what walks to a position of the set at w is seen too now, and no more
 abbrev pub Backed : Machine → ℕ → ℕ → ℕ → ℕ → ℕ → List ℕ → List ℕ → Type 0
-Backed m n w set len len′ p p′ = Joined (Towards m n p w set) n len len′ p p′
+Backed m n w set len len′ p p′ = Added (Towards m n p w set) n NODES len len′ p p′

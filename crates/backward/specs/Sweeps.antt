@@ -4,18 +4,16 @@ use mathlib.Core.Path.{_≡_}
 use mathlib.Core.Logic.{_⊎_}
 use mathlib.Core.Bool.{Bool, true, false}
 use mathlib.Core.List.{List, [], _∷_}
-use lib.ListN.{length, getD}
-use Rattle.layout.specs.Part.{SEEN}
 use Rattle.layout.specs.Table.{RANK}
-use Rattle.layout.specs.Words.{cell, word, Wrote, NONE}
+use Rattle.layout.specs.Words.{cell, word, Wrote, Frame, NONE}
 use Rattle.machine.specs.declared.Machine.{Machine}
 use Rattle.machine.specs.Walks.{Stops}
-use Rattle.reach.specs.Work.{Added}
+use Rattle.reach.specs.Work.{Work, Spared, Added}
 use Rattle.plain.specs.Ends.{Held}
 use Rattle.plain.specs.Ranges.{Some, Ranged}
 use Rattle.plain.specs.declared.ranges.Range.{Range}
 use Rattle.layout.specs.Sweeps.{LEAST, ABOVE}
-use Rattle.backward.specs.Backward.{Once, Listed, New, Ends}
+use Rattle.backward.specs.Backward.{New, Ends}
 
 -- c is the first of such two columns
 abbrev pub Paired : ℕ → Type 0
@@ -42,21 +40,16 @@ pub record Notes (n c x : ℕ) (A B : ℕ → Type 0) (p p′ : List ℕ) : Type
   -- and for those of B in the next
   pub second : Noted n (c + 1) x B p p′
   -- all before the two columns and behind them is as it was
-  pub long : length p′ ≡ length p
-  pub front : (k : ℕ) → k < c * n → getD p′ k 0 ≡ getD p k 0
-  pub behind : (k : ℕ) → c * n + (n + n) ≤ k → getD p′ k 0 ≡ getD p k 0
+  pub frame : Frame (c * n) (c * n + (n + n)) p p′
 
 -- ── Seeds ──
 -- backwards from the nodes that E holds of
 pub record Seeded (m : Machine) (n : ℕ) (E : ℕ → Type 0) (c x len len′ : ℕ) (p p′ : List ℕ) : Type 0 where
   -- what ends at such a node is seen too now
-  pub added : Added (Ends m n p E) n len len′ p p′
-  pub once : Once n len′ p′
+  pub added : Added (Ends m n p E) n c len len′ p p′
   -- x is noted in column c where that is new for the first path's start, and in the next column for the second's
   pub first : Noted n c x (New n 0 p p′) p p′
   pub second : Noted n (c + 1) x (New n (m .second) p p′) p p′
-  -- the columns between SEEN and c are as they were
-  pub aside : (k : ℕ) → suc SEEN * n ≤ k → k < c * n → getD p′ k 0 ≡ getD p k 0
 
 -- ── Sweeps ──
 -- x is the blank, and D holds of no node; or x is the key of a node that D holds of, and comes first in the order of all such keys
@@ -64,15 +57,9 @@ abbrev pub Extreme : (ℕ → ℕ → Type 0) → ℕ → ℕ → (ℕ → ℕ) 
 Extreme Order blank n key D x =
     ((x ≡ blank) × ((w : ℕ) → w < n → ¬ D w)) ⊎ (Some n D (λ w. key w ≡ x) × ((w : ℕ) → w < n → D w → Order x (key w)))
 
--- the columns before c are as they were, but SEEN
-pub record Spared (n c : ℕ) (p p′ : List ℕ) : Type 0 where
-  pub long : length p′ ≡ length p
-  pub front : (k : ℕ) → k < SEEN * n → getD p′ k 0 ≡ getD p k 0
-  pub aside : (k : ℕ) → suc SEEN * n ≤ k → k < c * n → getD p′ k 0 ≡ getD p k 0
-
 -- nothing is seen, and the blank stands in column c and in the next
 pub record Blank (n c blank : ℕ) (p : List ℕ) : Type 0 where
-  pub listed : Listed n 0 p
+  pub work : Work n 0 p
   -- for the first path and for the second
   pub first : (v : ℕ) → v < n → word p n c v ≡ blank
   pub second : (v : ℕ) → v < n → word p n (c + 1) v ≡ blank

@@ -7,15 +7,15 @@ use machine::Machine;
 use plain::answer;
 ghost use Prim.Native.Nat.{ℕ, _<_};
 ghost use Rattle.plain.specs.Plain.{Answered};
-ghost use Rattle.reach.specs.Work.{Seen};
-ghost use Rattle.layout.specs.Part.{Space};
-ghost use Rattle.backward.specs.Backward.{LinkedBothWays, Listed, Closed, Joined, Ends};
+ghost use Rattle.reach.specs.Work.{Seen, Work, Added};
+ghost use Rattle.layout.specs.Part.{NODES, Space};
+ghost use Rattle.backward.specs.Backward.{LinkedBothWays, Closed, Ends};
 ghost use Rattle.backward.specs.Constants.{IsHit, HitAt};
 
 // What ends at node `w`, if that is a hit.
 fn spread_hit(p: &mut [u16], n: usize, m: Machine, w: usize, len: usize) -> usize
-    requires { ⌜ Listed n len (now p) × LinkedBothWays n (now p) × Closed m n (now p) × (w < n) ⌝ }
-    ensures { λ r. ⌜ Joined (Ends m n (now (p .entry)) (HitAt (now (p .entry)) n w)) n len r (now (p .entry)) (now (p .exit)) ⌝ }
+    requires { ⌜ Work n len (now p) × LinkedBothWays n (now p) × Closed m n (now p) × (w < n) ⌝ }
+    ensures { λ r. ⌜ Added (Ends m n (now (p .entry)) (HitAt (now (p .entry)) n w)) n NODES len r (now (p .entry)) (now (p .exit)) ⌝ }
 {
     if get(p, n, Part::HIT, w) == 1 {
         return spread(p, n, m, w, m.last, len);
@@ -25,8 +25,8 @@ fn spread_hit(p: &mut [u16], n: usize, m: Machine, w: usize, len: usize) -> usiz
 
 // What ends at a hit.
 pub fn spread_hits(p: &mut [u16], n: usize, m: Machine)
-    requires { ⌜ Listed n 0 (now p) × LinkedBothWays n (now p) ⌝ }
-    ensures { λ _. ⌜ ((len : ℕ) × Joined (Ends m n (now (p .entry)) (IsHit (now (p .entry)) n)) n 0 len (now (p .entry)) (now (p .exit))) ⌝ }
+    requires { ⌜ Work n 0 (now p) × LinkedBothWays n (now p) ⌝ }
+    ensures { λ _. ⌜ ((len : ℕ) × Added (Ends m n (now (p .entry)) (IsHit (now (p .entry)) n)) n NODES 0 len (now (p .entry)) (now (p .exit))) ⌝ }
 {
     let mut len = 0;
     let mut w = 0;

@@ -1,6 +1,5 @@
 // The snippet evaluation's way to constants and to the signs other than =: backwards from the ends, so that each position is visited once at each node.
 mod constants;
-pub mod list;
 mod notes;
 mod order;
 mod predecessors;

@@ -9,13 +9,14 @@ ghost use Prim.Native.Nat.{_<_};
 ghost use Rattle.limits.specs.Limits.{positions, wordValues};
 ghost use Rattle.layout.specs.Table.{RANK};
 ghost use Rattle.layout.specs.Words.{word};
-ghost use Rattle.backward.specs.Backward.{LinkedBothWays, Listed, Closed};
+ghost use Rattle.reach.specs.Work.{Work};
+ghost use Rattle.backward.specs.Backward.{LinkedBothWays, Closed};
 ghost use Rattle.skeletons.specs.Skeletons.{Buckets};
 ghost use Rattle.backward.specs.Sweeps.{Paired, Seeded};
 
 // What ends at node `w`.
 fn seed(p: &mut [u16], n: usize, m: Machine, w: usize, len: usize, c: usize, x: usize) -> usize
-    requires { ⌜ Listed n len (now p) × LinkedBothWays n (now p) × Closed m n (now p) × (w < n) × (m .second < positions) × Paired c × (x < wordValues) ⌝ }
+    requires { ⌜ Work n len (now p) × LinkedBothWays n (now p) × Closed m n (now p) × (w < n) × (m .second < positions) × Paired c × (x < wordValues) ⌝ }
     ensures { λ r. ⌜ Seeded m n (λ u. u ≡ w) c x len r (now (p .entry)) (now (p .exit)) ⌝ }
 {
     let end = spread(p, n, m, w, m.last, len);
@@ -33,7 +34,7 @@ pub fn seed_rank(
     c: usize,
     x: usize,
 ) -> usize
-    requires { ⌜ Listed n len (now p) × LinkedBothWays n (now p) × Closed m n (now p) × Buckets n (now p) × (r < n) × (m .second < positions) × Paired c × (x < wordValues) ⌝ }
+    requires { ⌜ Work n len (now p) × LinkedBothWays n (now p) × Closed m n (now p) × Buckets n (now p) × (r < n) × (m .second < positions) × Paired c × (x < wordValues) ⌝ }
     ensures { λ e. ⌜ Seeded m n (λ u. word (now (p .entry)) n RANK u ≡ r) c x len e (now (p .entry)) (now (p .exit)) ⌝ }
 {
     let mut end = len;

@@ -1,15 +1,16 @@
 // The backward walk from some positions at a node.
-use crate::list::join;
 use crate::retrace::retrace;
 use machine::Machine;
-ghost use Rattle.backward.specs.Backward.{LinkedBothWays, Listed, Closed, Backed};
+use reach::list::add;
+ghost use Rattle.reach.specs.Work.{Work};
+ghost use Rattle.backward.specs.Backward.{LinkedBothWays, Closed, Backed};
 
 // All that walks to a position of `set` at node `w` is seen. What was seen before is closed, so only the new entries are gone through. Gives the number of entries.
 pub fn spread(p: &mut [u16], n: usize, m: Machine, w: usize, set: u16, len: usize) -> usize
-    requires { ⌜ Listed n len (now p) × LinkedBothWays n (now p) × Closed m n (now p) ⌝ }
+    requires { ⌜ Work n len (now p) × LinkedBothWays n (now p) × Closed m n (now p) ⌝ }
     ensures { λ r. ⌜ Backed m n w set len r (now (p .entry)) (now (p .exit)) ⌝ }
 {
-    let mut end = join(p, n, w, set, len);
+    let mut end = add(p, n, w, set, len);
     let mut h = len;
     while h < end {
         end = retrace(p, n, m, h, end);

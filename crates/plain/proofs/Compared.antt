@@ -69,7 +69,7 @@ module _ {m : Machine} {n v : ℕ} (fits : m .last < 65536) where
     rank h w l = held-word h RANK w (omega arith) (omega arith) l
 
     mark : (r : ℕ) → r < n → word p₄ n MARK r ≡ word p₃ n MARK r
-    mark r l = s .front (cell n MARK r) (omega arith)
+    mark r l = s .spared .front (cell n MARK r) (omega arith)
 
     pub equal-told : {t : Bool} → (t ≡ true) ↔ ((u : ℕ) × (u < n) × Ended n (m .last) p₄ u × (word p₄ n MARK (word p₄ n RANK u) ≡ 1))
         → (t ≡ true) ↔ Meets m n p eq v

@@ -1,4 +1,4 @@
--- The loops over the marks.
+-- The loop that marks.
 use Prim.Native.Nat.{ℕ, _+_, _≤_, _<_}
 use mathlib.Core.Path.{_≡_, refl, sym, ap, _∙_, subst}
 use mathlib.Core.Logic.{inl, inr}
@@ -14,24 +14,6 @@ use Rattle.plain.specs.Marks.{Clear, MarkedAt, Marked}
 use Rattle.plain.proofs.Ended.{ended-same}
 use Rattle.plain.proofs.Steady.{steady-none, steady-then, steady-mark, held-word}
 
--- ── Clearing ──
--- the marks below i are 0
-pub record Clearing (n i : ℕ) (p₀ p : List ℕ) : Type 0 where
-  pub steady : Steady n p₀ p
-  pub clear : (r : ℕ) → r < i → word p n MARK r ≡ 0
-
-pub clearing-none : (n : ℕ) (p : List ℕ) → Clearing n 0 p p
-clearing-none n p = record { steady = steady-none n p; clear = λ r l. absurd (omega arith) }
-
-pub clearing-step : {n i : ℕ} {p₀ p p′ : List ℕ} → i < n → Clearing n i p₀ p → Wrote ((cell n MARK i, 0) ∷ []) p p′ → Clearing n (i + 1) p₀ p′
-clearing-step {n} {i} {p₀} {p} {p′} b g w =
-    record { steady = steady-then (g .steady) (steady-mark b w); clear = λ r l. go r l (ℕ-discrete r i) }
-  where
-    go : (r : ℕ) → r < i + 1 → Dec (r ≡ i) → word p′ n MARK r ≡ 0
-    go r l (yes e) = ap (λ (x : ℕ). word p′ n MARK x) e ∙ w .here .0
-    go r l (no f) = w .other (cell n MARK r) (omega arith, tt) ∙ g .clear r (omega arith)
-
--- ── Marking ──
 -- the marked ranks are those of the nodes below i where the walk ends
 pub record Marking (n last i : ℕ) (p₀ p : List ℕ) : Type 0 where
   pub steady : Steady n p₀ p

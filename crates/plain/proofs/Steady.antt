@@ -6,7 +6,7 @@ use native.Mathlib.Nat.{mul-le-mul-right}
 use native.Mathlib.Omega.{arith}
 use Rattle.layout.specs.Part.{ANSWER, MARK, SEEN, Space}
 use Rattle.layout.specs.Table.{LEFT, RANK}
-use Rattle.layout.specs.Words.{cell, word, Wrote}
+use Rattle.layout.specs.Words.{cell, word, Wrote, Filled}
 use Rattle.machine.specs.declared.Machine.{Machine}
 use Rattle.reach.specs.Reached.{Reached}
 use Rattle.plain.specs.Plain.{Small}
@@ -51,9 +51,16 @@ steady-mark r w =
       answers = λ k l. w .other k (omega arith, tt);
     }
 
+pub steady-filled : {n x : ℕ} {p p′ : List ℕ} → Filled n MARK x n p p′ → Steady n p p′
+steady-filled f =
+    record {
+      held = record { long = f .within .long; middle = λ k l b. f .within .behind k l };
+      answers = λ k l. f .within .front k (omega arith);
+    }
+
 pub steady-reached : {m : Machine} {n i v : ℕ} {p p′ : List ℕ} → Reached m n i v p p′ → Steady n p p′
 steady-reached h =
     record {
-      held = record { long = h .long; middle = λ k l b. h .front k b };
-      answers = λ k l. h .front k (omega arith);
+      held = record { long = h .spared .long; middle = λ k l b. h .spared .front k b };
+      answers = λ k l. h .spared .front k (omega arith);
     }

@@ -2,6 +2,7 @@
 use crate::ends::ends_at;
 use layout::Part;
 use layout::Table;
+use layout::words::fill;
 use layout::words::get;
 use layout::words::put;
 use machine::Machine;
@@ -19,18 +20,6 @@ ghost use Rattle.machine.specs.Walks.{Meets};
 ghost use Rattle.plain.specs.Plain.{Small};
 ghost use Rattle.plain.specs.Ends.{Ended, Steady};
 ghost use Rattle.plain.specs.Marks.{Clear, MarkedAt, Marked};
-
-// No rank is marked.
-fn clear_marks(p: &mut [u16], n: usize)
-    requires { ⌜ Space n (now p) ⌝ }
-    ensures { λ _. ⌜ Steady n (now (p .entry)) (now (p .exit)) × Clear n (now (p .exit)) ⌝ }
-{
-    let mut r = 0;
-    while r < n {
-        put(p, n, Part::MARK, r, 0);
-        r += 1;
-    }
-}
 
 // The rank of node `w` is marked if the walk ends there.
 fn mark_rank(p: &mut [u16], n: usize, last: u16, w: usize)
@@ -87,7 +76,7 @@ pub fn equal_at(p: &mut [u16], n: usize, m: Machine, v: usize) -> bool
     requires { ⌜ Space n (now p) × Small n (now p) × (m .second < positions) × (v < n) ⌝ }
     ensures { λ r. ⌜ Steady n (now (p .entry)) (now (p .exit)) × ((r ≡ true) ↔ Meets m n (now (p .entry)) eq v) ⌝ }
 {
-    clear_marks(p, n);
+    fill(p, n, Part::MARK, 0);
     reach(p, n, m, 0, v);
     mark_ranks(p, n, m.last);
     reach(p, n, m, m.second, v);

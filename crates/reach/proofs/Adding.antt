@@ -4,29 +4,40 @@ use mathlib.Core.Path.{refl, _∙_}
 use mathlib.Core.Logic.{_⊎_, inl, inr, ⊎-elim, ⊎-map, _↔_}
 use mathlib.Core.List.{List}
 use native.Mathlib.Omega.{arith}
-use Rattle.reach.specs.Work.{Seen, Work, Added}
+use Rattle.layout.specs.Part.{Space}
+use Rattle.reach.specs.Work.{Seen, Work, Spared, Added}
+
+-- ── What stays as it was ──
+pub spared-none : (n d : ℕ) (p : List ℕ) → Spared n d p p
+spared-none n d p = record { long = refl; front = λ k h. refl; aside = λ k l h. refl }
+
+pub spared-then : {n d : ℕ} {p q r : List ℕ} → Spared n d p q → Spared n d q r → Spared n d p r
+spared-then f g = record { long = g .long ∙ f .long; front = λ k h. g .front k h ∙ f .front k h; aside = λ k l h. g .aside k l h ∙ f .aside k l h }
+
+pub spared-space : {n d : ℕ} {p q : List ℕ} → Spared n d p q → Space n p → Space n q
+spared-space f s = let e = f .long in let r = s .room in record { some = s .some; few = s .few; room = omega arith }
+
+-- ── Additions ──
 
 -- what is seen already
-pub added-same : {R : ℕ → ℕ → Type 0} {n len : ℕ} {p : List ℕ} → Work n len p → ((u j : ℕ) → u < n → j < 16 → R u j → Seen p n u j) → Added R n len len p p
-added-same work known =
+pub added-same : {R : ℕ → ℕ → Type 0} {n d len : ℕ} {p : List ℕ} → Work n len p → ((u j : ℕ) → u < n → j < 16 → R u j → Seen p n u j) → Added R n d len len p p
+added-same {n} {d} {p = p} work known =
     record {
       work = work;
-      long = refl;
-      front = λ k h. refl;
+      spared = spared-none n d p;
       more = omega arith;
       nodes = λ k h. refl;
       sets = λ k h. refl;
       seen = λ u j h l. (inl, ⊎-elim (λ s. s) (known u j h l));
     }
 
-module _ {R S : ℕ → ℕ → Type 0} {n a b : ℕ} {p q : List ℕ} where
-  pub added-then : {c : ℕ} {r : List ℕ} → Added R n a b p q → Added S n b c q r → Added (λ u j. R u j ⊎ S u j) n a c p r
+module _ {R S : ℕ → ℕ → Type 0} {n d a b : ℕ} {p q : List ℕ} where
+  pub added-then : {c : ℕ} {r : List ℕ} → Added R n d a b p q → Added S n d b c q r → Added (λ u j. R u j ⊎ S u j) n d a c p r
   added-then f g =
       let x = f .more in let y = g .more in
       record {
         work = g .work;
-        long = g .long ∙ f .long;
-        front = λ k h. g .front k h ∙ f .front k h;
+        spared = spared-then (f .spared) (g .spared);
         more = omega arith;
         nodes = λ k h. g .nodes k (omega arith) ∙ f .nodes k h;
         sets = λ k h. g .sets k (omega arith) ∙ f .sets k h;
@@ -37,15 +48,18 @@ module _ {R S : ℕ → ℕ → Type 0} {n a b : ℕ} {p q : List ℕ} where
             );
       }
 
-  -- the same positions, said otherwise
-  pub added-as : ((u j : ℕ) → u < n → j < 16 → R u j ↔ S u j) → Added R n a b p q → Added S n a b p q
-  added-as same f =
+  -- the same positions, said otherwise: those of R were seen or are in S, and those of S are seen
+  pub added-into : ((u j : ℕ) → u < n → j < 16 → R u j → Seen p n u j ⊎ S u j) → ((u j : ℕ) → u < n → j < 16 → S u j → Seen q n u j)
+      → Added R n d a b p q → Added S n d a b p q
+  added-into to from g =
       record {
-        work = f .work;
-        long = f .long;
-        front = f .front;
-        more = f .more;
-        nodes = f .nodes;
-        sets = f .sets;
-        seen = λ u j h l. let x = f .seen u j h l in let y = same u j h l in (λ s. ⊎-map (λ s. s) (y .0) (x .0 s), λ s. x .1 (⊎-map (λ s. s) (y .1) s));
+        work = g .work;
+        spared = g .spared;
+        more = g .more;
+        nodes = g .nodes;
+        sets = g .sets;
+        seen = λ u j h l. (λ s. ⊎-elim inl (to u j h l) (g .seen u j h l .0 s), ⊎-elim (λ s. g .seen u j h l .1 (inl s)) (from u j h l));
       }
+
+  pub added-as : ((u j : ℕ) → u < n → j < 16 → R u j ↔ S u j) → Added R n d a b p q → Added S n d a b p q
+  added-as same g = added-into (λ u j h l r. inr (same u j h l .0 r)) (λ u j h l s. g .seen u j h l .1 (inr (same u j h l .1 s))) g

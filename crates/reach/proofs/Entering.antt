@@ -1,7 +1,7 @@
 -- One set added at one node: where nothing of it is new, all stays as it is; and else the new positions get an entry.
 use Prim.Native.Nat.{ℕ, _+_, _*_, _≤_, _<_}
 use mathlib.Core.Path.{_≡_, refl, sym, ap, _∙_, subst}
-use mathlib.Core.Bool.{Bool, true, false, not}
+use mathlib.Core.Bool.{Bool, true, false, not, false≢true}
 use mathlib.Core.Logic.{_≢_, _⊎_, inl, inr, ⊎-elim, ⊎-map}
 use mathlib.Core.List.{List}
 use native.Mathlib.Decide.{ℕ-discrete}
@@ -12,15 +12,15 @@ use Rattle.bits.specs.Sets.{bit, or, and, size}
 use Rattle.bits.proofs.SetLaws.{bit-none, size-le}
 use Rattle.layout.specs.Part.{SEEN, NODES, POSITIONS}
 use Rattle.layout.specs.Words.{cell, word, Wrote}
-use Rattle.reach.specs.Work.{Seen, Has, nodeOf, total, Work, Added, At, entered}
+use Rattle.reach.specs.Work.{Seen, Has, nodeOf, total, Work, Spared, Added, At, entered}
 use Rattle.matrices.proofs.Members.{or-cases, or-left, or-right, and-both, and-parts, lowest, size-less}
 use Rattle.reach.proofs.Totals.{total-room, total-more}
-use Rattle.reach.proofs.Adding.{added-same}
+use Rattle.reach.proofs.Adding.{spared-space, added-same}
 
 -- nothing of w is new
-pub added-known : {n len : ℕ} {p : List ℕ} → Work n len p → (u w new : ℕ) → ((j : ℕ) → bit new j ≡ and (bit w j) (not (bit (word p n SEEN u) j))) → new ≡ 0
-    → Added (At u w) n len len p p
-added-known {n} {p} work u w new without none =
+pub added-known : {n d len : ℕ} {p : List ℕ} → Work n len p → (u w new : ℕ) → ((j : ℕ) → bit new j ≡ and (bit w j) (not (bit (word p n SEEN u) j))) → new ≡ 0
+    → Added (At u w) n d len len p p
+added-known {n} {p = p} work u w new without none =
     added-same work (λ x j h l (e, b). ap (λ (v : ℕ). bit (word p n SEEN v) j) e ∙ go (bit w j) (bit (word p n SEEN u) j) b (sym (without j) ∙ ap (λ (v : ℕ). bit v j) none ∙ bit-none j))
   where
     go : (a b : Bool) → a ≡ true → and a (not b) ≡ false → b ≡ true
@@ -118,25 +118,47 @@ module _ {n u w all new len : ℕ} {p : List ℕ} (work : Work n len p) (inside 
         (k, omega arith, old-node k r ∙ e, ap (λ (v : ℕ). bit v j) (old-set k r) ∙ b)
     entered-listed x j h l (inr (e, b)) = (len, omega arith, wrote .here .1 .0 ∙ sym e, ap (λ (v : ℕ). bit v j) (wrote .here .0) ∙ b)
 
+    -- what an entry has was seen, so the new entry has none of it
+    apart : (k j : ℕ) → k < len → j < 16 → nodeOf p′ n k ≡ nodeOf p′ n len → Has p′ n k j → ¬ Has p′ n len j
+    apart k j l h e a b =
+        let x = work .told k j l h (ap (λ (y : ℕ). bit y j) (sym (old-set k l)) ∙ a) in
+        let q : nodeOf p n k ≡ u = sym (old-node k l) ∙ e ∙ wrote .here .1 .0 in
+        let (i, o) = new-parts f j (ap (λ (y : ℕ). bit y j) (sym (wrote .here .0)) ∙ b) in
+        false≢true (sym o ∙ subst (λ (y : ℕ). Seen p n y j) q x)
+
+    entered-once : (k l j : ℕ) → k < len + 1 → l < len + 1 → j < 16 → nodeOf p′ n k ≡ nodeOf p′ n l → Has p′ n k j → Has p′ n l j → Dec (k ≡ len) → Dec (l ≡ len) → k ≡ l
+    entered-once k l j h i s e a b (yes x) (yes y) = x ∙ sym y
+    entered-once k l j h i s e a b (yes x) (no y) =
+        absurd (apart l j (omega arith) s (sym e ∙ ap (nodeOf p′ n) x) b (subst (λ (z : ℕ). Has p′ n z j) x a))
+    entered-once k l j h i s e a b (no x) (yes y) =
+        absurd (apart k j (omega arith) s (e ∙ ap (nodeOf p′ n) y) a (subst (λ (z : ℕ). Has p′ n z j) y b))
+    entered-once k l j h i s e a b (no x) (no y) =
+        let c : k < len = omega arith in let d : l < len = omega arith in
+        work .once k l j c d s (sym (old-node k c) ∙ e ∙ old-node l d) (ap (λ (y : ℕ). bit y j) (sym (old-set k c)) ∙ a) (ap (λ (y : ℕ). bit y j) (sym (old-set l d)) ∙ b)
+
     entered-count : len + 1 ≤ total p′ n n
     entered-count =
         let s = larger f in let e = ap (size 16) (wrote .here .1 .1 .0) in let c = work .count in
         let t = total-more p p′ n u other-seen n (omega arith) inside (omega arith) in
         omega arith
 
-    pub added-new : Added (At u w) n len (len + 1) p p′
+    entered-spared : Spared n NODES p p′
+    entered-spared =
+        let r = enter-room in
+        record { long = wrote .long; front = λ k h. wrote .other k (omega arith); aside = λ k l h. wrote .other k (omega arith, (omega arith, (omega arith, tt))) }
+
+    pub added-new : Added (At u w) n NODES len (len + 1) p p′
     added-new =
-        let r = enter-room in let e = wrote .long in
         record {
           work = record {
-            space = record { some = work .space .some; few = work .space .few; room = let q = work .space .room in omega arith };
+            space = spared-space entered-spared (work .space);
             nodes = λ k h. entered-nodes k h (ℕ-discrete k len);
             told = λ k j h l s. entered-told k j h l s (ℕ-discrete k len);
             listed = λ x j h l s. entered-listed x j h l (seen-cases x j h s);
+            once = λ k l j h i s e a b. entered-once k l j h i s e a b (ℕ-discrete k len) (ℕ-discrete l len);
             count = entered-count;
           };
-          long = e;
-          front = λ k h. wrote .other k (omega arith);
+          spared = entered-spared;
           more = omega arith;
           nodes = old-node;
           sets = old-set;

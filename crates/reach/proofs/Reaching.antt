@@ -1,39 +1,40 @@
 -- The loop over the work list: what is seen was walked to, and behind the entries that are done nothing is missed.
-use Prim.Native.Nat.{ℕ, _+_, _*_, _≤_, _<_}
+use Prim.Native.Nat.{ℕ, _+_, _≤_, _<_}
 use mathlib.Core.Path.{_≡_, refl, sym, ap, _∙_, subst, subst₂}
 use mathlib.Core.Bool.{true, false≢true}
 use mathlib.Core.Logic.{inl, inr, ⊎-elim, _↔_}
 use mathlib.Core.List.{List}
 use native.Mathlib.Decide.{ℕ-discrete}
 use native.Mathlib.Omega.{arith}
-use lib.ListN.{length, getD}
+use lib.ListN.{getD}
 use Rattle.bits.specs.Sets.{bit, or, is}
 use Rattle.machine.specs.declared.Machine.{Machine}
-use Rattle.layout.specs.Part.{SEEN}
+use Rattle.layout.specs.Part.{SEEN, NODES}
+use Rattle.layout.specs.Words.{word}
 use Rattle.machine.specs.Walks.{Leads, Walk, here, on}
 use Rattle.machine.proofs.Walking.{walk-inside}
 use Rattle.reach.specs.Reached.{Reached}
-use Rattle.reach.specs.Work.{Seen, Has, nodeOf, Work, Added, At, Cleared, Onward, After}
+use Rattle.reach.specs.Work.{Seen, Has, nodeOf, Work, Spared, Added, At, Onward, After}
 use Rattle.matrices.proofs.Members.{single-in, single-out}
 use Rattle.reach.proofs.Walks.{leads-same, walk-on, walk-same}
-use Rattle.reach.proofs.Adding.{added-as}
+use Rattle.reach.proofs.Adding.{spared-none, spared-then, added-as}
 use Rattle.reach.proofs.Clearing.{cleared-unseen}
 
 -- ── One entry ──
-pub added-after : {m : Machine} {n len len′ : ℕ} {p p′ : List ℕ} (h f : ℕ)
+pub added-after : {m : Machine} {n d len len′ : ℕ} {p p′ : List ℕ} (h f : ℕ)
     → ((j : ℕ) → j < 16 → (bit f j ≡ true) ↔ ((i : ℕ) × (i < 16) × Has p n h i × (bit (getD (m .rows) i 0) j ≡ true)))
-    → Added (Onward m n p (nodeOf p n h) f) n len len′ p p′ → Added (After m n p h) n len len′ p p′
+    → Added (Onward m n p (nodeOf p n h) f) n d len len′ p p′ → Added (After m n p h) n d len len′ p p′
 added-after h f follow = added-as (λ u j l k. (λ (b, s). let (i, r, a, e) = follow j k .0 b in (i, r, a, e, s), λ (i, r, a, e, s). (follow j k .1 (i, r, a, e), s)))
 
 -- an entry stays, and what comes after it too
-after-old : {R : ℕ → ℕ → Type 0} {m : Machine} {n len len′ : ℕ} {p p′ : List ℕ} → Work n len p → Added R n len len′ p p′
+after-old : {R : ℕ → ℕ → Type 0} {m : Machine} {n d len len′ : ℕ} {p p′ : List ℕ} → Work n len p → Added R n d len len′ p p′
     → (k u j : ℕ) → k < len → After m n p′ k u j → After m n p k u j
-after-old {m} {n} {p′} work g k u j l (i, r, a, e, s) = (
+after-old {m} {n} {p′ = p′} work g k u j l (i, r, a, e, s) = (
   i,
   r,
   ap (λ (x : ℕ). bit x i) (sym (g .sets k l)) ∙ a,
   e,
-  leads-same (λ x l h. sym (g .front x h)) (work .nodes k l) (subst (λ (x : ℕ). Leads m n p′ x j u) (g .nodes k l) s),
+  leads-same (λ x l h. sym (g .spared .front x h)) (work .nodes k l) (subst (λ (x : ℕ). Leads m n p′ x j u) (g .nodes k l) s),
 )
 
 -- ── The loop ──
@@ -43,23 +44,21 @@ pub record Working (m : Machine) (n i v h len : ℕ) (p₀ p : List ℕ) : Type 
   pub node : v < n
   pub inside : h ≤ len
   pub work : Work n len p
-  pub long : length p ≡ length p₀
-  pub front : (k : ℕ) → k < SEEN * n → getD p k 0 ≡ getD p₀ k 0
+  pub spared : Spared n NODES p₀ p
   pub sound : (u j : ℕ) → u < n → j < 16 → Seen p n u j → Walk m n p₀ i v j u
   pub start : Seen p n v i
   pub closed : (k u j : ℕ) → k < h → u < n → j < 16 → After m n p k u j → Seen p n u j
 
-pub working-start : {m : Machine} {n i v len : ℕ} {p₀ p₁ p : List ℕ} → i < 16 → v < n → Cleared n n p₀ p₁ → (w : ℕ) → ((k : ℕ) → bit w k ≡ or (is k i) (bit 0 k))
-    → Added (At v w) n 0 len p₁ p → Working m n i v 0 len p p
-working-start {m} {n} {i} {v} {p} small node clear w single g =
+pub working-start : {m : Machine} {n i v len : ℕ} {p₁ p : List ℕ} → i < 16 → v < n → ((u : ℕ) → u < n → word p₁ n SEEN u ≡ 0) → (w : ℕ) → ((k : ℕ) → bit w k ≡ or (is k i) (bit 0 k))
+    → Added (At v w) n NODES 0 len p₁ p → Working m n i v 0 len p p
+working-start {m} {n} {i} {v} {p₁ = p₁} {p = p} small node empty w single g =
     record {
       small = small;
       node = node;
       inside = omega arith;
       work = g .work;
-      long = refl;
-      front = λ k h. refl;
-      sound = λ u j h l s. ⊎-elim (λ t. absurd (cleared-unseen clear u j h t)) (λ (e, b). go u j e b (ℕ-discrete j i)) (g .seen u j h l .0 s);
+      spared = spared-none n NODES p;
+      sound = λ u j h l s. ⊎-elim (λ t. absurd (cleared-unseen n p₁ empty u j h t)) (λ (e, b). go u j e b (ℕ-discrete j i)) (g .seen u j h l .0 s);
       start = g .seen v i node small .1 (inr (refl, single-in i w single));
       closed = λ k u j h. absurd (omega arith);
     }
@@ -68,7 +67,7 @@ working-start {m} {n} {i} {v} {p} small node clear w single g =
     go u j e b (yes q) = subst₂ (λ (x y : ℕ). Walk m n p i v x y) (sym q) (sym e) here
     go u j e b (no d) = absurd (false≢true (sym (single-out i w single j d) ∙ b))
 
-pub working-step : {m : Machine} {n i v h len len′ : ℕ} {p₀ p p′ : List ℕ} → Working m n i v h len p₀ p → h < len → Added (After m n p h) n len len′ p p′
+pub working-step : {m : Machine} {n i v h len len′ : ℕ} {p₀ p p′ : List ℕ} → Working m n i v h len p₀ p → h < len → Added (After m n p h) n NODES len len′ p p′
     → Working m n i v (h + 1) len′ p₀ p′
 working-step {m} {n} {i} {v} {h} {len} {p₀} {p} {p′} w l g =
     record {
@@ -76,8 +75,7 @@ working-step {m} {n} {i} {v} {h} {len} {p₀} {p} {p′} w l g =
       node = w .node;
       inside = let e = g .more in omega arith;
       work = g .work;
-      long = g .long ∙ w .long;
-      front = λ k r. g .front k r ∙ w .front k r;
+      spared = spared-then (w .spared) (g .spared);
       sound = λ u j r k s. ⊎-elim (w .sound u j r k) (λ a. come u j k a) (g .seen u j r k .0 s);
       start = g .seen v i (w .node) (w .small) .1 (inl (w .start));
       closed = λ k u j r q t a. close k u j r q t (after-old (w .work) g k u j (let e = w .inside in omega arith) a) (ℕ-discrete k h);
@@ -86,7 +84,7 @@ working-step {m} {n} {i} {v} {h} {len} {p₀} {p} {p′} w l g =
     come : (u j : ℕ) → j < 16 → After m n p h u j → Walk m n p₀ i v j u
     come u j k (i′, r, a, e, s) =
         let b = w .work .nodes h l in
-        walk-on (w .sound (nodeOf p n h) i′ b r (w .work .told h i′ l r a)) k e (leads-same (λ x p q. sym (w .front x q)) b s)
+        walk-on (w .sound (nodeOf p n h) i′ b r (w .work .told h i′ l r a)) k e (leads-same (λ x p q. sym (w .spared .front x q)) b s)
 
     close : (k u j : ℕ) → k < h + 1 → u < n → j < 16 → After m n p k u j → Dec (k ≡ h) → Seen p′ n u j
     close k u j r q t a (yes e) = g .seen u j q t .1 (inr (subst (λ (x : ℕ). After m n p x u j) e a))
@@ -100,16 +98,15 @@ module _ {m : Machine} {n i v h len : ℕ} {p₀ p : List ℕ} (w : Working m n 
   walked {j} (on {j = j′} {u = u′} r e t rest) l b s =
       let (k, q, z, a) = w .work .listed _ j l b s in let c = walk-inside l (on r e t here) in
       walked rest c r
-      (w .closed k u′ j′ (omega arith) c r (j, b, a, e, subst (λ (y : ℕ). Leads m n p y j′ u′) (sym z) (leads-same (λ x p q. w .front x q) l t)))
+      (w .closed k u′ j′ (omega arith) c r (j, b, a, e, subst (λ (y : ℕ). Leads m n p y j′ u′) (sym z) (leads-same (λ x p q. w .spared .front x q) l t)))
 
-  -- the columns before SEEN are those of a list p₁ before the loop
-  pub working-all : {p₁ : List ℕ} → length p₀ ≡ length p₁ → ((k : ℕ) → k < SEEN * n → getD p₀ k 0 ≡ getD p₁ k 0) → Reached m n i v p₁ p
-  working-all long front =
+  -- the columns but SEEN are those of a list p₁ before the loop
+  pub working-all : {p₁ : List ℕ} → Spared n NODES p₁ p₀ → Reached m n i v p₁ p
+  working-all g =
       record {
-        long = w .long ∙ long;
-        front = λ k l. w .front k l ∙ front k l;
+        spared = spared-then g (w .spared);
         seen = λ j x b l. (
-          λ s. walk-same (λ k p q. sym (front k q)) (w .node) (w .sound x j l b s),
-          λ t. walked (walk-same (λ k p q. front k q) (w .node) t) (w .node) (w .small) (w .start),
+          λ s. walk-same (λ k p q. sym (g .front k q)) (w .node) (w .sound x j l b s),
+          λ t. walked (walk-same (λ k p q. g .front k q) (w .node) t) (w .node) (w .small) (w .start),
         );
       }

@@ -14,13 +14,10 @@ use Rattle.reach.specs.Work.{Added, At, Climbs, Onward}
 use Rattle.matrices.proofs.Members.{or-cases, or-left, or-right, and-both, and-parts}
 use Rattle.reach.proofs.Adding.{added-then, added-as}
 
--- the steps up are those of a left child and those of a right child
-pub climbs : (m : Machine) (n : ℕ) (p : List ℕ) (v u a b r : ℕ)
-    → ((j : ℕ) → (bit a j ≡ true) ↔ ((bit (m .leftup) j ≡ true) × (word p n LEFT u ≡ v)))
-    → ((j : ℕ) → (bit b j ≡ true) ↔ ((bit (m .rightup) j ≡ true) × (word p n RIGHT u ≡ v)))
-    → ((j : ℕ) → bit r j ≡ or (bit a j) (bit b j))
-    → (j : ℕ) → (bit r j ≡ true) ↔ Climbs m n p v u j
-climbs m n p v u a b r f g union j = (
+-- the members of a union, where those of each set are told
+pub either : {A B : ℕ → Type 0} (a b r : ℕ) → ((j : ℕ) → (bit a j ≡ true) ↔ A j) → ((j : ℕ) → (bit b j ≡ true) ↔ B j)
+    → ((j : ℕ) → bit r j ≡ or (bit a j) (bit b j)) → (j : ℕ) → (bit r j ≡ true) ↔ (A j ⊎ B j)
+either a b r f g union j = (
   λ e. ⊎-map (f j .0) (g j .0) (or-cases (bit a j) (bit b j) (sym (union j) ∙ e)),
   ⊎-elim (λ x. union j ∙ or-left (bit a j) (bit b j) (f j .1 x)) (λ x. union j ∙ or-right (bit a j) (bit b j) (g j .1 x)),
 )
@@ -77,7 +74,7 @@ module _ {m : Machine} {n : ℕ} {p : List ℕ} {v f l r u here toLeft toRight b
   leads x j g (fromRight s e h c) = inr (climb x j g e h (inr (s, c)))
   leads x j g (stays s e) = inl (inl (inl (sym e, w .stay j ∙ and-both (bit f j) (bit (w .brackets) j) g (ap (λ (y : ℕ). bit y j) (w .held) ∙ s))))
 
-  pub added-onward : {i₀ i₁ i₂ i₃ i₄ : ℕ} {p₁ p₂ p₃ p₄ : List ℕ} → Added (At v here) n i₀ i₁ p p₁ → Added (At l toLeft) n i₁ i₂ p₁ p₂
-      → Added (At r toRight) n i₂ i₃ p₂ p₃ → Added (At u back) n i₃ i₄ p₃ p₄ → Added (Onward m n p v f) n i₀ i₄ p p₄
+  pub added-onward : {d i₀ i₁ i₂ i₃ i₄ : ℕ} {p₁ p₂ p₃ p₄ : List ℕ} → Added (At v here) n d i₀ i₁ p p₁ → Added (At l toLeft) n d i₁ i₂ p₁ p₂
+      → Added (At r toRight) n d i₂ i₃ p₂ p₃ → Added (At u back) n d i₃ i₄ p₃ p₄ → Added (Onward m n p v f) n d i₀ i₄ p p₄
   unfolding Next
   added-onward a b c d = added-as (λ x j h k. (led x j h, λ o. leads x j (o .0) (o .1))) (added-then (added-then (added-then a b) c) d)

@@ -39,16 +39,22 @@ pub record Work (n len : ℕ) (p : List ℕ) : Type 0 where
   pub told : (k j : ℕ) → k < len → j < positions → Has p n k j → Seen p n (nodeOf p n k) j
   -- what is seen at a node is in an entry of it
   pub listed : (u j : ℕ) → u < n → j < positions → Seen p n u j → (k : ℕ) × (k < len) × (nodeOf p n k ≡ u) × Has p n k j
+  -- no position of a node is in two entries
+  pub once : (k l j : ℕ) → k < len → l < len → j < positions → nodeOf p n k ≡ nodeOf p n l → Has p n k j → Has p n l j → k ≡ l
   -- there are no more entries than positions that are seen: so 16 for each node are enough
   pub count : len ≤ total p n n
 
--- the positions j at nodes u that R holds of were added to a list of len entries, which has len′ now
-pub record Added (R : ℕ → ℕ → Type 0) (n len len′ : ℕ) (p p′ : List ℕ) : Type 0 where
-  pub work : Work n len′ p′
-  -- the columns before SEEN are as they were
+-- the columns before d are as they were, but SEEN
+pub record Spared (n d : ℕ) (p p′ : List ℕ) : Type 0 where
   pub long : length p′ ≡ length p
   pub front : (k : ℕ) → k < SEEN * n → getD p′ k 0 ≡ getD p k 0
-  -- so are the entries that were there
+  pub aside : (k : ℕ) → suc SEEN * n ≤ k → k < d * n → getD p′ k 0 ≡ getD p k 0
+
+-- the positions j at nodes u that R holds of were added to a list of len entries, which has len′ now
+pub record Added (R : ℕ → ℕ → Type 0) (n d len len′ : ℕ) (p p′ : List ℕ) : Type 0 where
+  pub work : Work n len′ p′
+  pub spared : Spared n d p p′
+  -- the entries that were there are as they were too
   pub more : len ≤ len′
   pub nodes : (k : ℕ) → k < len → nodeOf p′ n k ≡ nodeOf p n k
   pub sets : (k : ℕ) → k < len → word p′ n POSITIONS k ≡ word p n POSITIONS k
@@ -62,13 +68,6 @@ entered n u seen new len = (cell n POSITIONS len, new) ∷ (cell n NODES len, u)
 -- the positions of a set at one node
 abbrev pub At : ℕ → ℕ → ℕ → ℕ → Type 0
 At u w x j = (x ≡ u) × (bit w j ≡ true)
-
--- nothing is seen at the nodes below v, and the columns before SEEN are as they were
-pub record Cleared (n v : ℕ) (p p′ : List ℕ) : Type 0 where
-  pub inside : v ≤ n
-  pub long : length p′ ≡ length p
-  pub front : (k : ℕ) → k < SEEN * n → getD p′ k 0 ≡ getD p k 0
-  pub empty : (u : ℕ) → u < v → word p′ n SEEN u ≡ 0
 
 module _ (m : Machine) (n : ℕ) (p : List ℕ) where
   -- step j leads from v up to its parent u

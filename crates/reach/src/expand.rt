@@ -12,7 +12,7 @@ ghost use mathlib.Core.Bool.{true};
 ghost use mathlib.Core.Logic.{_↔_};
 ghost use Prim.Native.Nat.{ℕ, _<_};
 ghost use Rattle.bits.specs.Sets.{bit};
-ghost use Rattle.layout.specs.Part.{Space};
+ghost use Rattle.layout.specs.Part.{NODES, Space};
 ghost use Rattle.layout.specs.Table.{COLUMNS, Room};
 ghost use Rattle.layout.specs.Words.{word};
 ghost use Rattle.reach.specs.Work.{Work, Added, Climbs, Onward, After};
@@ -44,7 +44,7 @@ fn upward(p: &[u16], n: usize, m: Machine, v: usize, u: usize) -> u16
 // The positions of `f` from node `v`, each where its step leads.
 fn spread(p: &mut [u16], n: usize, m: Machine, v: usize, f: u16, len: usize) -> usize
     requires { ⌜ Work n len (now p) × (v < n) ⌝ }
-    ensures { λ r. ⌜ Added (Onward m n (now (p .entry)) v f) n len r (now (p .entry)) (now (p .exit)) ⌝ }
+    ensures { λ r. ⌜ Added (Onward m n (now (p .entry)) v f) n NODES len r (now (p .entry)) (now (p .exit)) ⌝ }
 {
     let left = get(p, n, Table::LEFT, v);
     let right = get(p, n, Table::RIGHT, v);
@@ -60,7 +60,7 @@ fn spread(p: &mut [u16], n: usize, m: Machine, v: usize, f: u16, len: usize) -> 
 // What comes after entry `h`, added to the list.
 pub fn expand(p: &mut [u16], n: usize, m: Machine, h: usize, len: usize) -> usize
     requires { ⌜ Work n len (now p) × (h < len) ⌝ }
-    ensures { λ r. ⌜ Added (After m n (now (p .entry)) h) n len r (now (p .entry)) (now (p .exit)) ⌝ }
+    ensures { λ r. ⌜ Added (After m n (now (p .entry)) h) n NODES len r (now (p .entry)) (now (p .exit)) ⌝ }
 {
     let v = p[Part::NODES * n + h] as usize;
     let w = p[Part::POSITIONS * n + h];

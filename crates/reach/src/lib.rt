@@ -4,8 +4,9 @@ pub mod list;
 
 use bits::insert;
 use expand::expand;
+use layout::Part;
+use layout::words::fill;
 use list::add;
-use list::clear;
 use machine::Machine;
 ghost use Prim.Native.Nat.{_<_};
 ghost use Rattle.limits.specs.Limits.{positions};
@@ -17,7 +18,7 @@ pub fn reach(p: &mut [u16], n: usize, m: Machine, i: usize, v: usize)
     requires { ⌜ Space n (now p) × (i < positions) × (v < n) ⌝ }
     ensures { λ _. ⌜ Reached m n i v (now (p .entry)) (now (p .exit)) ⌝ }
 {
-    clear(p, n);
+    fill(p, n, Part::SEEN, 0);
     let w = insert(0, i as u16);
     let mut len = add(p, n, v, w, 0);
     let mut h = 0;

@@ -1,25 +1,12 @@
-// The work list: its entries are never taken off, since each of them makes one more position seen somewhere, and so 16 for each node are enough.
+// The work list of a walk, forwards and backwards: its entries are never taken off, since each of them makes one more position seen somewhere, and so 16 for each node are enough.
 use bits::union;
 use layout::Part;
-use layout::words::put;
 use matrices::sets::without;
 ghost use Prim.Native.Nat.{_*_, _<_};
 ghost use Rattle.limits.specs.Limits.{positions};
-ghost use Rattle.layout.specs.Part.{Space};
+ghost use Rattle.layout.specs.Part.{NODES, Space};
 ghost use Rattle.layout.specs.Words.{Wrote};
-ghost use Rattle.reach.specs.Work.{Work, Added, At, Cleared, entered};
-
-// Nothing is seen anywhere.
-pub fn clear(p: &mut [u16], n: usize)
-    requires { ⌜ Space n (now p) ⌝ }
-    ensures { λ _. ⌜ Cleared n n (now (p .entry)) (now (p .exit)) ⌝ }
-{
-    let mut u = 0;
-    while u < n {
-        put(p, n, Part::SEEN, u, 0);
-        u += 1;
-    }
-}
+ghost use Rattle.reach.specs.Work.{Work, Added, At, entered};
 
 // Entry `len`: node `u` and the positions that are new there. `seen` are all that are seen there now.
 pub fn enter(p: &mut [u16], n: usize, u: usize, seen: u16, new: u16, len: usize)
@@ -34,7 +21,7 @@ pub fn enter(p: &mut [u16], n: usize, u: usize, seen: u16, new: u16, len: usize)
 // The positions of `w` come to node `u`, if that is a node. Gives the number of entries.
 pub fn add(p: &mut [u16], n: usize, u: usize, w: u16, len: usize) -> usize
     requires { ⌜ Work n len (now p) ⌝ }
-    ensures { λ r. ⌜ Added (At u w) n len r (now (p .entry)) (now (p .exit)) ⌝ }
+    ensures { λ r. ⌜ Added (At u w) n NODES len r (now (p .entry)) (now (p .exit)) ⌝ }
 {
     if n <= u {
         return len;

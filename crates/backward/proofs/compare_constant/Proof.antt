@@ -1,6 +1,8 @@
 -- `backward::compare_constant` meets its contract.
+use Rattle.layout.specs.Part.{SEEN}
+use Rattle.reach.proofs.Adding.{spared-space}
+use Rattle.reach.proofs.Clearing.{cleared-spared, work-none}
 use Rattle.backward.proofs.Linked.{linked-same}
-use Rattle.backward.proofs.Filling.{filled-cleared, listed-none}
 use Rattle.backward.proofs.Hitting.{hits-answered}
 use borrow.Author.Needs.{needs}
 use Rattle.backward.proofs.compare_constant.Statement.{statement}
@@ -12,7 +14,7 @@ fill-requires c κs = search needs
 spread-hits-requires : tie.Need-spread-hits-requires
 spread-hits-requires c κs =
     let f = c .before .before .before in let x = f .before .before .before .pre in let g = f .fill .ensures in
-    (listed-none (x .0) (filled-cleared g), linked-same (λ k l h. g .within .front k h) (x .1))
+    (work-none _ _ (g .filled) (spared-space (cleared-spared {d = SEEN} g) (x .0)), linked-same (λ k l h. g .within .front k h) (x .1))
 
 answer-seen-requires : tie.Need-answer-seen-requires
 answer-seen-requires c κs = search needs
@@ -23,7 +25,7 @@ same-length c = search needs
 returns : tie.Need-returns
 returns c =
     let a = c .before .before in let s = a .before .before .before .before in let f = s .before .before .before .before in
-    hits-answered (listed-none (f .before .before .before .pre .0) (filled-cleared (f .fill .ensures))) (f .fill .ensures) (s .spread-hits .ensures .1) (a .answer-seen .ensures)
+    hits-answered (f .fill .ensures) (s .spread-hits .ensures .1) (a .answer-seen .ensures)
 
 pub compare-constant-spec : {M : Type 1} → statement M
 compare-constant-spec =

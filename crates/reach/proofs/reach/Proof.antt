@@ -2,8 +2,10 @@
 use Prim.Native.Nat.{_*_, _-_}
 use mathlib.Core.Path.{_∙_}
 use native.Mathlib.Omega.{arith}
+use Rattle.layout.specs.Part.{NODES}
 use Rattle.reach.proofs.Totals.{work-room}
-use Rattle.reach.proofs.Clearing.{work-none}
+use Rattle.reach.proofs.Adding.{spared-then, spared-space}
+use Rattle.reach.proofs.Clearing.{cleared-spared, work-none}
 use Rattle.reach.proofs.Reaching.{Working, working-start, working-step, working-all}
 use Rattle.reach.proofs.reach.Statement.{statement}
 use Rattle.reach.proofs.reach.Tie as tie
@@ -14,8 +16,8 @@ Inv-loop p₀ n m i v w len₀ h₀ p len h = Working m n i v h len p₀ p
 abbrev μ-loop : tie.MeasureT-loop
 μ-loop p₀ n m i v w len₀ h₀ p len h = 16 * n - h
 
-clear-requires : tie.Need-clear-requires Inv-loop μ-loop
-clear-requires c κs = c .before .before .pre .0
+fill-requires : tie.Need-fill-requires Inv-loop μ-loop
+fill-requires c κs = let r = c .before .before .pre .0 .room in (omega arith, omega arith, omega arith)
 
 cast-insert : tie.Need-cast-insert Inv-loop μ-loop
 cast-insert c = let l = c .before .before .before .before .before .pre .1 in omega arith
@@ -24,12 +26,14 @@ insert-requires : tie.Need-insert-requires Inv-loop μ-loop
 insert-requires c κs = c .before .before .before .before .before .pre .1
 
 add-requires : tie.Need-add-requires Inv-loop μ-loop
-add-requires c κs = work-none (c .before .before .before .before .clear .ensures) (c .before .before .before .before .before .before .before .pre .0)
+add-requires c κs =
+    let f = c .before .before .before .before .fill .ensures in
+    work-none _ _ (f .filled) (spared-space (cleared-spared {d = NODES} f) (c .before .before .before .before .before .before .before .pre .0))
 
 loop-holds : tie.Need-loop-holds Inv-loop μ-loop
 loop-holds c =
     let a = c .before .before in let i = a .before .before in let d = i .before .before .before in let x = d .before .before .before .pre in
-    working-start (x .1) (x .2) (d .clear .ensures) (i .insert .result) (i .insert .ensures) (a .add .ensures)
+    working-start (x .1) (x .2) (d .fill .ensures .filled) (i .insert .result) (i .insert .ensures) (a .add .ensures)
 
 expand-requires : tie.Need-expand-requires Inv-loop μ-loop
 expand-requires c κs = (c .before .before .loop .inv .work, c .before .loop-test .taken)
@@ -50,12 +54,12 @@ loop-again c = working-step (c .before .before .before .before .before .loop .in
 same-length : tie.Need-same-length Inv-loop μ-loop
 same-length c =
     let a = c .before .before .before .before in let d = a .before .before .before .before .before in
-    c .before .loop .inv .long ∙ a .add .ensures .long ∙ d .clear .ensures .long
+    c .before .loop .inv .spared .long ∙ a .add .ensures .spared .long ∙ d .fill .ensures .within .long
 
 returns : tie.Need-returns Inv-loop μ-loop
 returns c =
-    let a = c .before .before .before .before in let d = a .before .before .before .before .before in let g = a .add .ensures in let e = d .clear .ensures in
-    working-all (c .before .loop .inv) (c .loop-test .left) (g .long ∙ e .long) (λ k l. g .front k l ∙ e .front k l)
+    let a = c .before .before .before .before in let d = a .before .before .before .before .before in
+    working-all (c .before .loop .inv) (c .loop-test .left) (spared-then (cleared-spared (d .fill .ensures)) (a .add .ensures .spared))
 
 pub reach-spec : {M : Type 1} → statement M
 reach-spec =
@@ -63,7 +67,7 @@ reach-spec =
     (tie.spec
     Inv-loop
     μ-loop
-    clear-requires
+    fill-requires
     cast-insert
     insert-requires
     add-requires

@@ -41,11 +41,11 @@ loop-again : tie.Need-loop-again Inv-loop μ-loop
 loop-again c =
     let h = c .before .before .before .has in let s = c .before .before .before .before .before .get in
     let b = c .before .before .before .before .before .before .before .before in let l = c .before .before .before .before .before .before .before .loop-test .taken in let x = b .before .before .args in
-    let e : h .result ≡ bit (word (x .p .now) (x .n) SEEN (b .loop .v)) 0 = h .ensures ∙ ap (λ (y : ℕ). bit y 0) (s .ensures .0 ∙ b .loop .inv .behind (cell (x .n) SEEN (b .loop .v)) (omega arith)) in
+    let e : h .result ≡ bit (word (x .p .now) (x .n) SEEN (b .loop .v)) 0 = h .ensures ∙ ap (λ (y : ℕ). bit y 0) (s .ensures .0 ∙ b .loop .inv .kept .behind (cell (x .n) SEEN (b .loop .v)) (omega arith)) in
     telling-step (h .result) (b .loop .inv) l (λ q. sym e ∙ q, λ q. e ∙ q) (c .before .before .answer .ensures)
 
 same-length : tie.Need-same-length Inv-loop μ-loop
-same-length c = c .before .loop .inv .long
+same-length c = c .before .loop .inv .kept .long
 
 returns : tie.Need-returns Inv-loop μ-loop
 returns c = telling-all (c .before .loop .inv) (c .loop-test .left)

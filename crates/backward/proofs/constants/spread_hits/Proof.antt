@@ -1,7 +1,6 @@
 -- `backward::constants::spread_hits` meets its contract.
 use Prim.Native.Nat.{_-_}
 use native.Mathlib.Omega.{arith}
-use Rattle.backward.proofs.Joining.{joined-listed}
 use Rattle.backward.proofs.Hitting.{Hitting, hitting-none, hitting-step, hitting-all}
 use Rattle.backward.proofs.constants.spread_hits.Statement.{statement}
 use Rattle.backward.proofs.constants.spread_hits.Tie as tie
@@ -16,7 +15,7 @@ loop-holds : tie.Need-loop-holds Inv-loop μ-loop
 loop-holds c = hitting-none (c .before .pre .0) (c .before .pre .1)
 
 spread-hit-requires : tie.Need-spread-hit-requires Inv-loop μ-loop
-spread-hit-requires c κs = let h = c .before .before .loop .inv in (joined-listed (h .joined), h .linked, h .closed, c .before .loop-test .taken)
+spread-hit-requires c κs = let h = c .before .before .loop .inv in (h .added .work, h .linked, h .closed, c .before .loop-test .taken)
 
 add-w : tie.Need-add-w Inv-loop μ-loop
 add-w c = let l = c .before .before .before .before .loop-test .taken in omega arith
@@ -28,7 +27,7 @@ loop-again : tie.Need-loop-again Inv-loop μ-loop
 loop-again c = hitting-step (c .before .before .before .before .before .loop .inv) (c .before .before .before .before .loop-test .taken) (c .before .before .spread-hit .ensures)
 
 same-length : tie.Need-same-length Inv-loop μ-loop
-same-length c = c .before .loop .inv .joined .added .long
+same-length c = c .before .loop .inv .added .spared .long
 
 returns : tie.Need-returns Inv-loop μ-loop
 returns c = let b = c .before .loop in (b .len, hitting-all (b .inv) (c .loop-test .left))

@@ -29,7 +29,7 @@ loop-again c =
     (c .before .before .note-entry .ensures)
 
 same-length : tie.Need-same-length Inv-loop μ-loop
-same-length c = c .before .loop .inv .notes .long
+same-length c = c .before .loop .inv .notes .frame .long
 
 returns : tie.Need-returns Inv-loop μ-loop
 returns c = noting-all (c .before .loop .inv) (c .loop-test .left)

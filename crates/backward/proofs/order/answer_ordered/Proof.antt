@@ -49,7 +49,7 @@ loop-again c =
     (subst₂ (λ y z. (o .ordered .result ≡ true) ↔ Across (x .o) y z) (f .range-at .ensures .0 ∙ same 0) (s .range-at2 .ensures .0 ∙ same 1) (o .ordered .ensures)) (c .before .before .answer .ensures)
 
 same-length : tie.Need-same-length Inv-loop μ-loop
-same-length c = c .before .loop .inv .long
+same-length c = c .before .loop .inv .kept .long
 
 returns : tie.Need-returns Inv-loop μ-loop
 returns c = telling-all (c .before .loop .inv) (c .loop-test .left)

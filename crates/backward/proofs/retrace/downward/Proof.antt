@@ -1,6 +1,6 @@
 -- `backward::retrace::downward` meets its contract.
 use native.Mathlib.Omega.{arith}
-use Rattle.backward.proofs.Retracing.{descends}
+use Rattle.reach.proofs.Spreading.{either}
 use borrow.Author.Needs.{needs}
 use Rattle.backward.proofs.retrace.downward.Statement.{statement}
 use Rattle.backward.proofs.retrace.downward.Tie as tie
@@ -19,8 +19,8 @@ union-requires c κs = search needs
 
 returns-2 : tie.Need-returns-2
 returns-2 c h =
-    let l = c .before .before .if-linked in let r = c .before .if-linked2 in let x = c .before .before .before .before .before .args in
-    descends (x .m) (x .n) (x .p .now) (x .v) (x .u) (l .result) (r .result) (c .union .result) (l .ensures) (r .ensures) (c .union .ensures)
+    let l = c .before .before .if-linked in let r = c .before .if-linked2 in
+    either (l .result) (r .result) (c .union .result) (l .ensures) (r .ensures) (c .union .ensures)
 
 pub downward-spec : {M : Type 1} → statement M
 downward-spec =

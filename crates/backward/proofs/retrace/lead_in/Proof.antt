@@ -1,5 +1,5 @@
 -- `backward::retrace::lead_in` meets its contract.
-use Rattle.backward.proofs.Retracing.{Ways, joined-into}
+use Rattle.backward.proofs.Retracing.{Ways, added-leads}
 use borrow.Author.Needs.{needs}
 use Rattle.backward.proofs.retrace.lead_in.Statement.{statement}
 use Rattle.backward.proofs.retrace.lead_in.Tie as tie
@@ -25,26 +25,26 @@ downward-requires c κs = search needs
 sources-requires : tie.Need-sources-requires
 sources-requires c κs = search needs
 
-join-requires : tie.Need-join-requires
-join-requires c κs = search needs
+add-requires : tie.Need-add-requires
+add-requires c κs = search needs
 
 sources-requires-2 : tie.Need-sources-requires-2
 sources-requires-2 c κs = search needs
 
-join-requires-2 : tie.Need-join-requires-2
-join-requires-2 c κs = search needs
+add-requires-2 : tie.Need-add-requires-2
+add-requires-2 c κs = search needs
 
 sources-requires-3 : tie.Need-sources-requires-3
 sources-requires-3 c κs = search needs
 
-join-requires-3 : tie.Need-join-requires-3
-join-requires-3 c κs = search needs
+add-requires-3 : tie.Need-add-requires-3
+add-requires-3 c κs = search needs
 
 sources-requires-4 : tie.Need-sources-requires-4
 sources-requires-4 c κs = search needs
 
-join-requires-4 : tie.Need-join-requires-4
-join-requires-4 c κs = search needs
+add-requires-4 : tie.Need-add-requires-4
+add-requires-4 c κs = search needs
 
 same-length : tie.Need-same-length
 same-length c = search needs
@@ -67,7 +67,7 @@ returns c =
       byRight = d₃ .before .sources3 .ensures;
       byParent = d₄ .before .sources4 .ensures;
     } in
-    joined-into (x .pre .1) (x .pre .2) w (d₁ .join .ensures) (d₂ .join2 .ensures) (d₃ .join3 .ensures) (d₄ .join4 .ensures)
+    added-leads (x .pre .1) (x .pre .2) w (d₁ .add .ensures) (d₂ .add2 .ensures) (d₃ .add3 .ensures) (d₄ .add4 .ensures)
 
 pub lead-in-spec : {M : Type 1} → statement M
 lead-in-spec =
@@ -80,12 +80,12 @@ lead-in-spec =
     cast-stays
     downward-requires
     sources-requires
-    join-requires
+    add-requires
     sources-requires-2
-    join-requires-2
+    add-requires-2
     sources-requires-3
-    join-requires-3
+    add-requires-3
     sources-requires-4
-    join-requires-4
+    add-requires-4
     same-length
     returns)

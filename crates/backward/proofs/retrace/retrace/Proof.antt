@@ -9,7 +9,7 @@ use Rattle.backward.proofs.retrace.retrace.Statement.{statement}
 use Rattle.backward.proofs.retrace.retrace.Tie as tie
 
 room : (c : tie.Start) → c .args .h < 16 * c .args .n
-room c = let r = work-room (c .pre .0 .work) in let l = c .pre .2 in omega arith
+room c = let r = work-room (c .pre .0) in let l = c .pre .2 in omega arith
 
 mul-u : tie.Need-mul-u
 mul-u c = search needs
@@ -21,7 +21,7 @@ mul-u-2 : tie.Need-mul-u-2
 mul-u-2 c = let r = room (c .before) in omega arith
 
 slice-read-u : tie.Need-slice-read-u
-slice-read-u c = let r = room (c .before .before) in let s = c .before .before .pre .0 .work .space .room in omega arith
+slice-read-u c = let r = room (c .before .before) in let s = c .before .before .pre .0 .space .room in omega arith
 
 cast-u : tie.Need-cast-u
 cast-u c = let x = c .before .before .args in omega (arith, c .slice-known2 .given (cell (x .n) NODES (x .h)))
@@ -36,10 +36,10 @@ mul-s-2 : tie.Need-mul-s-2
 mul-s-2 c = let r = room (c .before .before) in omega arith
 
 slice-read-s : tie.Need-slice-read-s
-slice-read-s c = let r = room (c .before .before .before) in let s = c .before .before .before .pre .0 .work .space .room in omega arith
+slice-read-s c = let r = room (c .before .before .before) in let s = c .before .before .before .pre .0 .space .room in omega arith
 
 lead-in-requires : tie.Need-lead-in-requires
-lead-in-requires c κs = let x = c .before .before .before .before in (x .pre .0, x .pre .1, x .pre .0 .work .nodes (x .args .h) (x .pre .2))
+lead-in-requires c κs = let x = c .before .before .before .before in (x .pre .0, x .pre .1, x .pre .0 .nodes (x .args .h) (x .pre .2))
 
 same-length : tie.Need-same-length
 same-length c = search needs

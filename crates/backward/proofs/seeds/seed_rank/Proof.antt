@@ -12,7 +12,7 @@ abbrev μ-loop : tie.MeasureT-loop
 μ-loop p₀ n m r len c x end₀ w₀ p end w = n - w
 
 get-requires : tie.Need-get-requires Inv-loop μ-loop
-get-requires c κs = let x = c .before .before .pre in let r = x .0 .work .space .room in (omega arith, x .4, omega arith)
+get-requires c κs = let x = c .before .before .pre in let r = x .0 .space .room in (omega arith, x .4, omega arith)
 
 loop-holds : tie.Need-loop-holds Inv-loop μ-loop
 loop-holds c = let x = c .before .before .before .pre in seeding-start (x .0) (x .1) (x .2) (x .3) (x .4) (c .get .ensures .0)
@@ -20,7 +20,7 @@ loop-holds c = let x = c .before .before .before .pre in seeding-start (x .0) (x
 seed-requires : tie.Need-seed-requires Inv-loop μ-loop
 seed-requires c κs =
     let b = c .before .before .loop .inv in let x = c .before .before .before .before .before .before .pre in
-    (record { work = b .seeded .added .work; once = b .seeded .once }, b .linked, b .closed, c .before .loop-test .taken, x .5, x .6, x .7)
+    (b .seeded .added .work, b .linked, b .closed, c .before .loop-test .taken, x .5, x .6, x .7)
 
 get-requires-2 : tie.Need-get-requires-2 Inv-loop μ-loop
 get-requires-2 c κs = let r = c .before .before .before .seed .ensures .added .work .space .room in (omega arith, c .before .before .before .before .before .loop-test .taken, omega arith)
@@ -37,7 +37,7 @@ loop-again c =
     seeding-step (x .5) (x .6) (x .3) (b .loop .inv) (t .loop-test .taken) (s .seed .ensures) (c .get2 .ensures .0)
 
 same-length : tie.Need-same-length Inv-loop μ-loop
-same-length c = c .before .loop .inv .seeded .added .long
+same-length c = c .before .loop .inv .seeded .added .spared .long
 
 returns : tie.Need-returns Inv-loop μ-loop
 returns c = seeding-all (c .before .loop .inv) (c .loop-test .left)

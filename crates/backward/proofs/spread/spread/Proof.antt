@@ -3,7 +3,6 @@ use Prim.Native.Nat.{_*_, _-_}
 use mathlib.Core.Path.{_∙_}
 use native.Mathlib.Omega.{arith}
 use Rattle.reach.proofs.Totals.{work-room}
-use Rattle.backward.proofs.Joining.{joined-listed}
 use Rattle.backward.proofs.Spreading.{Backing, backing-start, backing-step, backing-all}
 use Rattle.backward.proofs.spread.spread.Statement.{statement}
 use Rattle.backward.proofs.spread.spread.Tie as tie
@@ -14,34 +13,34 @@ Inv-loop p₁ n m w set len end₀ h₀ p end h = Backing m n w set end₀ h end
 abbrev μ-loop : tie.MeasureT-loop
 μ-loop p₁ n m w set len end₀ h₀ p end h = 16 * n - h
 
-join-requires : tie.Need-join-requires Inv-loop μ-loop
-join-requires c κs = c .before .before .pre .0
+add-requires : tie.Need-add-requires Inv-loop μ-loop
+add-requires c κs = c .before .before .pre .0
 
 loop-holds : tie.Need-loop-holds Inv-loop μ-loop
-loop-holds c = let x = c .before .before .before .before .before .pre in backing-start (x .0) (x .1) (x .2) (c .before .before .join .ensures)
+loop-holds c = let x = c .before .before .before .before .before .pre in backing-start (x .0) (x .1) (x .2) (c .before .before .add .ensures)
 
 retrace-requires : tie.Need-retrace-requires Inv-loop μ-loop
-retrace-requires c κs = let b = c .before .before .loop .inv in (joined-listed (b .grown), b .linked, c .before .loop-test .taken)
+retrace-requires c κs = let b = c .before .before .loop .inv in (b .grown .work, b .linked, c .before .loop-test .taken)
 
 add-h : tie.Need-add-h Inv-loop μ-loop
 add-h c =
-    let g = c .before .before .before .before .before .loop .inv .grown .added .work in let r = work-room g in let f = g .space .few in let l = c .before .before .before .before .loop-test .taken in
+    let g = c .before .before .before .before .before .loop .inv .grown .work in let r = work-room g in let f = g .space .few in let l = c .before .before .before .before .loop-test .taken in
     omega arith
 
 loop-less : tie.Need-loop-less Inv-loop μ-loop
 loop-less c =
-    let r = work-room (c .before .before .before .before .before .loop .inv .grown .added .work) in let l = c .before .before .before .before .loop-test .taken in
+    let r = work-room (c .before .before .before .before .before .loop .inv .grown .work) in let l = c .before .before .before .before .loop-test .taken in
     omega arith
 
 loop-again : tie.Need-loop-again Inv-loop μ-loop
 loop-again c = backing-step (c .before .before .before .before .before .loop .inv) (c .before .before .before .before .loop-test .taken) (c .before .before .retrace .ensures)
 
 same-length : tie.Need-same-length Inv-loop μ-loop
-same-length c = c .before .loop .inv .grown .added .long ∙ c .before .before .before .before .join .ensures .added .long
+same-length c = c .before .loop .inv .grown .spared .long ∙ c .before .before .before .before .add .ensures .spared .long
 
 returns : tie.Need-returns Inv-loop μ-loop
 returns c =
-    backing-all (c .before .before .before .before .join .ensures) (c .before .loop .inv) (c .loop-test .left)
+    backing-all (c .before .before .before .before .add .ensures) (c .before .loop .inv) (c .loop-test .left)
 
 pub spread-spec : {M : Type 1} → statement M
 spread-spec =
@@ -49,7 +48,7 @@ spread-spec =
     (tie.spec
     Inv-loop
     μ-loop
-    join-requires
+    add-requires
     loop-holds
     retrace-requires
     add-h

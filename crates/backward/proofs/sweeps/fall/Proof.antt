@@ -2,7 +2,7 @@
 use Prim.Native.Nat.{_≤_}
 use native.Mathlib.Omega.{arith}
 use Rattle.layout.specs.Sweeps.{ABOVE}
-use Rattle.backward.proofs.Ranking.{Falling, falling-none, falling-step, falling-all, sweeping-buckets}
+use Rattle.backward.proofs.Ranking.{Falling, falling-none, falling-step, falling-all, spared-buckets}
 use Rattle.backward.proofs.sweeps.fall.Statement.{statement}
 use Rattle.backward.proofs.sweeps.fall.Tie as tie
 
@@ -21,7 +21,7 @@ sub-seed-rank c = let l = c .before .loop-test .taken in omega arith
 seed-rank-requires : tie.Need-seed-rank-requires Inv-loop μ-loop
 seed-rank-requires c κs =
     let b = c .before .before .loop .inv in let s = b .1 in let i = b .0 in let x = c .before .before .before .before .pre in let few = s .added .work .space .few in let l = c .before .loop-test .taken in
-    (record { work = s .added .work; once = s .once }, s .linked, s .closed, sweeping-buckets ABOVE (omega arith) s (x .2), omega arith, x .4, (omega arith, omega arith), omega arith)
+    (s .added .work, s .linked, s .closed, spared-buckets ABOVE (omega arith) (s .added .spared) (x .2), omega arith, x .4, (omega arith, omega arith), omega arith)
 
 sub-r : tie.Need-sub-r Inv-loop μ-loop
 sub-r c = let l = c .before .before .before .before .loop-test .taken in omega arith
@@ -32,10 +32,10 @@ loop-less c = let l = c .before .before .before .before .loop-test .taken in ome
 loop-again : tie.Need-loop-again Inv-loop μ-loop
 loop-again c =
     let b = c .before .before .before .before .before in let i = b .loop .inv .0 in let x = b .before .before .pre in let l = c .before .before .before .before .loop-test .taken in
-    (omega arith, falling-step (x .4) (x .0 .listed) (b .loop .inv .1) (omega arith) (c .before .before .seed-rank .ensures))
+    (omega arith, falling-step (x .4) (x .0 .work) (b .loop .inv .1) (omega arith) (c .before .before .seed-rank .ensures))
 
 same-length : tie.Need-same-length Inv-loop μ-loop
-same-length c = c .before .loop .inv .1 .added .long
+same-length c = c .before .loop .inv .1 .added .spared .long
 
 returns : tie.Need-returns Inv-loop μ-loop
 returns c = let l = c .loop-test .left in falling-all (c .before .loop .inv .1) (omega arith)

@@ -2,7 +2,7 @@
 use Prim.Native.Nat.{_-_}
 use native.Mathlib.Omega.{arith}
 use Rattle.layout.specs.Sweeps.{LEAST}
-use Rattle.backward.proofs.Ranking.{Rising, rising-none, rising-step, rising-all, sweeping-buckets}
+use Rattle.backward.proofs.Ranking.{Rising, rising-none, rising-step, rising-all, spared-buckets}
 use Rattle.backward.proofs.sweeps.rise.Statement.{statement}
 use Rattle.backward.proofs.sweeps.rise.Tie as tie
 
@@ -18,7 +18,7 @@ loop-holds c = rising-none (c .before .pre .0) (c .before .pre .1)
 seed-rank-requires : tie.Need-seed-rank-requires Inv-loop μ-loop
 seed-rank-requires c κs =
     let s = c .before .before .loop .inv in let x = c .before .before .before .before .pre in let few = s .added .work .space .few in let l = c .before .loop-test .taken in
-    (record { work = s .added .work; once = s .once }, s .linked, s .closed, sweeping-buckets LEAST (omega arith) s (x .2), l, x .4, (omega arith, omega arith), omega arith)
+    (s .added .work, s .linked, s .closed, spared-buckets LEAST (omega arith) (s .added .spared) (x .2), l, x .4, (omega arith, omega arith), omega arith)
 
 add-r : tie.Need-add-r Inv-loop μ-loop
 add-r c = let l = c .before .before .before .before .loop-test .taken in omega arith
@@ -27,10 +27,10 @@ loop-less : tie.Need-loop-less Inv-loop μ-loop
 loop-less c = let l = c .before .before .before .before .loop-test .taken in omega arith
 
 loop-again : tie.Need-loop-again Inv-loop μ-loop
-loop-again c = let b = c .before .before .before .before .before in let x = b .before .before .pre in rising-step (x .4) (x .0 .listed) (b .loop .inv) (c .before .before .seed-rank .ensures)
+loop-again c = let b = c .before .before .before .before .before in let x = b .before .before .pre in rising-step (x .4) (x .0 .work) (b .loop .inv) (c .before .before .seed-rank .ensures)
 
 same-length : tie.Need-same-length Inv-loop μ-loop
-same-length c = c .before .loop .inv .added .long
+same-length c = c .before .loop .inv .added .spared .long
 
 returns : tie.Need-returns Inv-loop μ-loop
 returns c = rising-all (c .before .before .before .pre .3) (c .before .loop .inv) (c .loop-test .left)
