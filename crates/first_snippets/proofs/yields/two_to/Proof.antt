@@ -1,4 +1,4 @@
--- `groups::yields::two_to` meets its contract.
+-- `first_snippets::yields::two_to` meets its contract.
 use Prim.Native.Nat.{_^_}
 use mathlib.Core.Path.{_∙_}
 use lib.Dec.{lit<}

@@ -1,4 +1,4 @@
--- `pairs::widen::add` meets its contract.
+-- `settling::widen::add` meets its contract.
 use native.Mathlib.Omega.{arith}
 use Rattle.loops.proofs.Detours.{joined-none, joined-some}
 use borrow.Author.Needs.{needs}
