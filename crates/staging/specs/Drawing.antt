@@ -1,4 +1,4 @@
--- What is copied to the front of a comparison's part before it is lent. Column c of the part is column 16 + c of the scratch.
+-- What is copied to the front of a comparison's part before it is lent. Column c of the part is column COLUMNS + c of the scratch.
 use Prim.Native.Nat.{ℕ, _+_, _*_, _≤_, _<_}
 use mathlib.Core.Path.{_≡_}
 use mathlib.Core.Logic.{_↔_}
@@ -18,12 +18,12 @@ use Rattle.test_bits.specs.Columns.{held}
 
 -- the links and the ranks stand in the part too
 pub record Copied (n : ℕ) (t t′ : List ℕ) : Type 0 where
-  pub within : Within n 18 22 t t′
+  pub within : Within n (COLUMNS + LEFT) (COLUMNS + RANK + 1) t t′
   pub copied : (c v : ℕ) → LEFT ≤ c → c ≤ RANK → v < n → word t′ n (COLUMNS + c) v ≡ word t n c v
 
 -- the positions in a set whose test, by its number, holds
 pub record Stayed (n brackets : ℕ) (numbers : List ℕ) (t t′ : List ℕ) : Type 0 where
-  pub within : Within n 22 23 t t′
+  pub within : Within n (COLUMNS + STAYS) (COLUMNS + STAYS + 1) t t′
   pub done : (v j : ℕ) → v < n → j < positions → bit (word t′ n (COLUMNS + STAYS) v) j ≡ and (bit brackets j) (held t n (getD numbers j 0) v)
 
 -- where the value is in the relation o to the constant c

@@ -1,4 +1,4 @@
--- Test bits: each node has four words, in which bit k says whether test k of the rule holds there.
+-- Test bits: each node has a bit for each test of the rule; bit k says whether test k holds there.
 use Prim.Native.Nat.{ℕ, _+_, _*_, _/_, _%_, _≤_, _<_}
 use mathlib.Core.Path.{_≡_}
 use mathlib.Core.Logic.{_≢_, _↔_}
@@ -10,6 +10,10 @@ use Rattle.bits.specs.Sets.{bit}
 use Rattle.layout.specs.Words.{word}
 use Rattle.layout.specs.Table.{TESTS}
 
+-- the words that the tests of a rule take at each node
+abbrev pub testWords : ℕ
+testWords = ruleTests / wordBits
+
 -- bit k of node v
 abbrev pub held : List ℕ → ℕ → ℕ → ℕ → Bool
 held t n k v = bit (word t n (TESTS + k / wordBits) v) (k % wordBits)
@@ -20,7 +24,7 @@ pub record Settled (n k : ℕ) (A : ℕ → Type 0) (t t′ : List ℕ) : Type 0
   pub done : (v : ℕ) → v < n → (held t′ n k v ≡ true) ↔ A v
   pub others : (i v : ℕ) → i < ruleTests → i ≢ k → v < n → held t′ n i v ≡ held t n i v
   pub front : (i : ℕ) → i < TESTS * n → getD t′ i 0 ≡ getD t i 0
-  pub behind : (i : ℕ) → (TESTS + 4) * n ≤ i → getD t′ i 0 ≡ getD t i 0
+  pub behind : (i : ℕ) → (TESTS + testWords) * n ≤ i → getD t′ i 0 ≡ getD t i 0
 
 -- bit k of node v is b, and all else is as before
 pub record Noted (n k v : ℕ) (b : Bool) (t t′ : List ℕ) : Type 0 where
@@ -28,4 +32,4 @@ pub record Noted (n k v : ℕ) (b : Bool) (t t′ : List ℕ) : Type 0 where
   pub here : held t′ n k v ≡ b
   pub others : (i u : ℕ) → i < ruleTests → u < n → ¬ ((i ≡ k) × (u ≡ v)) → held t′ n i u ≡ held t n i u
   pub front : (i : ℕ) → i < TESTS * n → getD t′ i 0 ≡ getD t i 0
-  pub behind : (i : ℕ) → (TESTS + 4) * n ≤ i → getD t′ i 0 ≡ getD t i 0
+  pub behind : (i : ℕ) → (TESTS + testWords) * n ≤ i → getD t′ i 0 ≡ getD t i 0

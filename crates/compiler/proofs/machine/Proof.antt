@@ -1,4 +1,4 @@
--- `machines::machine` meets its contract.
+-- `compiler::machine` meets its contract.
 use mathlib.Core.Path.{refl}
 use Rattle.compiler.proofs.Machines.{known-inside, known-middle, machine-told}
 use borrow.Author.Needs.{needs}

@@ -1,4 +1,4 @@
--- `machines::machine_of` meets its contract.
+-- `compiler::machine_of` meets its contract.
 use Rattle.compiler.proofs.Machines.{two-known, two-machined}
 use borrow.Author.Needs.{needs}
 use Rattle.compiler.proofs.machine_of.Statement.{statement}

@@ -1,4 +1,4 @@
--- `machines::machine_of_one` meets its contract.
+-- `compiler::machine_of_one` meets its contract.
 use Rattle.compiler.proofs.Machines.{one-known, one-machined}
 use borrow.Author.Needs.{needs}
 use Rattle.compiler.proofs.machine_of_one.Statement.{statement}

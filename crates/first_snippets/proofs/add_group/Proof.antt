@@ -1,4 +1,4 @@
--- `groups::add_group` meets its contract.
+-- `first_snippets::add_group` meets its contract.
 use native.Mathlib.Omega.{arith}
 use Rattle.first_snippets.proofs.Rest.{rest-within, stage-shape, given-rest, sizes-front}
 use Rattle.first_snippets.proofs.Adding.{given-marked, group-added}

@@ -1,4 +1,4 @@
--- `groups::add_groups` meets its contract.
+-- `first_snippets::add_groups` meets its contract.
 use Rattle.first_snippets.proofs.Lists.{ranged-listing, ranged-base, ranged-all}
 use borrow.Author.Needs.{needs}
 use Rattle.first_snippets.proofs.add_groups.Statement.{statement}

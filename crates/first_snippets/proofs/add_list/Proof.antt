@@ -1,4 +1,4 @@
--- `groups::add_list` meets its contract.
+-- `first_snippets::add_list` meets its contract.
 use Prim.Native.Nat.{_-_, _≤_, _<_}
 use mathlib.Core.Path.{_≡_, sym, _∙_, subst}
 use native.Mathlib.Omega.{arith}

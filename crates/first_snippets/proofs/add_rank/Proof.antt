@@ -1,4 +1,4 @@
--- `groups::add_rank` meets its contract.
+-- `first_snippets::add_rank` meets its contract.
 use Rattle.first_snippets.proofs.Adding.{grounds-of, rank-added, rank-alone}
 use borrow.Author.Needs.{needs}
 use Rattle.first_snippets.proofs.add_rank.Statement.{statement}

@@ -1,4 +1,4 @@
--- `groups::is_shared` meets its contract.
+-- `first_snippets::is_shared` meets its contract.
 use mathlib.Core.Path.{sym, _∙_}
 use mathlib.Core.Bool.{false≢true}
 use native.Mathlib.Omega.{arith}

@@ -1,4 +1,4 @@
--- `fields::between` meets its contract.
+-- `lexer::between` meets its contract.
 use borrow.Author.Tests.{le-leb, lt-leb}
 use Rattle.lexer.proofs.between.Statement.{statement}
 use Rattle.lexer.proofs.between.Tie as tie

@@ -1,4 +1,4 @@
--- `fields::fits` meets its contract.
+-- `lexer::fits` meets its contract.
 use borrow.Author.Tests.{eq-eqb, ne-eqb}
 use mathlib.Core.Path.{sym, ap, _∙_}
 use Rattle.lexer.specs.Reading.{inClass}

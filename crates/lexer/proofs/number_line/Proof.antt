@@ -1,4 +1,4 @@
--- `fields::number_line` meets its contract.
+-- `lexer::number_line` meets its contract.
 use mathlib.Core.Path.{_≡_, subst}
 use Rattle.lexer.specs.Reading.{Spans, Ended, numeralLine}
 use Rattle.lexer.proofs.Keys.{key-spans, no-key, behind-numbered}

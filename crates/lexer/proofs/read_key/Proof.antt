@@ -1,4 +1,4 @@
--- `fields::read_key` meets its contract.
+-- `lexer::read_key` meets its contract.
 use Prim.Native.Nat.{ℕ, _+_, _-_, _≤_, _<_}
 use mathlib.Core.Path.{_≡_}
 use lib.ListN.{getD}

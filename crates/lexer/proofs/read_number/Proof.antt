@@ -1,4 +1,4 @@
--- `fields::read_number` meets its contract.
+-- `lexer::read_number` meets its contract.
 use native.Mathlib.Omega.{arith}
 use mathlib.Core.Path.{sym, _∙_, subst}
 use Rattle.lexer.specs.declared.Class.the-variants.{Digit}

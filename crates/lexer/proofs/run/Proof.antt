@@ -1,4 +1,4 @@
--- `fields::run` meets its contract.
+-- `lexer::run` meets its contract.
 use borrow.Author.Tests.{not-true, not-false}
 use Prim.Native.Nat.{_+_, _-_}
 use mathlib.Core.Path.{_≡_, sym, _∙_, subst}

@@ -1,4 +1,4 @@
--- `fields::run_line` meets its contract.
+-- `lexer::run_line` meets its contract.
 use mathlib.Core.Path.{_≡_, ap, _∙_, subst}
 use mathlib.Core.List.{_++_}
 use Rattle.lexer.specs.Reading.{Spans, Ended, Run}

@@ -1,4 +1,4 @@
--- `fields::value` meets its contract.
+-- `lexer::value` meets its contract.
 use Prim.Native.Nat.{_+_, _-_, _^_, _≤_, _<_}
 use mathlib.Core.Path.{_≡_, refl, sym, _∙_, subst}
 use mathlib.Core.List.{map}

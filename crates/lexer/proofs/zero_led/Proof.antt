@@ -1,4 +1,4 @@
--- `fields::zero_led` meets its contract.
+-- `lexer::zero_led` meets its contract.
 use borrow.Author.Tests.{lt-ltb, le-ltb}
 use borrow.Author.Needs.{needs}
 use Rattle.lexer.proofs.zero_led.Statement.{statement}

@@ -1,4 +1,4 @@
--- `parts::parted` meets its contract.
+-- `rule_parts::parted` meets its contract.
 use native.Mathlib.Omega.{arith}
 use Rattle.rule_parts.proofs.Sides as sides
 use borrow.Author.Needs.{needs}

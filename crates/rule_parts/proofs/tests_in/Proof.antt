@@ -1,4 +1,4 @@
--- `parts::tests_in` meets its contract.
+-- `rule_parts::tests_in` meets its contract.
 use Prim.Native.Nat.{_-_}
 use native.Mathlib.Omega.{arith}
 use mathlib.Core.Path.{sym, ap, _∙_}

@@ -1,4 +1,4 @@
--- `pairs::settle` meets its contract.
+-- `settling::settle` meets its contract.
 use Rattle.settling.proofs.Framing.{ready-kept}
 use Rattle.settling.proofs.Finding.{ready-of, second-few, settled}
 use borrow.Author.Needs.{needs}

@@ -1,4 +1,4 @@
--- `drawing::draw` meets its contract.
+-- `staging::draw` meets its contract.
 use Prim.Native.Nat.{_+_, _-_, _*_}
 use native.Mathlib.Omega.{arith}
 use Rattle.staging.proofs.Drawn.{Drawn, drawn-none, drawn-step}

@@ -1,4 +1,4 @@
--- `drawing::draw_hits` meets its contract.
+-- `staging::draw_hits` meets its contract.
 use Prim.Native.Nat.{_-_}
 use lib.Seq.{slice}
 use native.Mathlib.Omega.{arith}

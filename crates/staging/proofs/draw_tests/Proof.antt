@@ -1,4 +1,4 @@
--- `drawing::draw_tests` meets its contract.
+-- `staging::draw_tests` meets its contract.
 use Prim.Native.Nat.{_-_}
 use native.Mathlib.Omega.{arith}
 use Rattle.staging.proofs.Drawn.{Drawn, drawn-none, drawn-step}

@@ -1,4 +1,4 @@
--- `drawing::hit` meets its contract.
+-- `staging::hit` meets its contract.
 use Rattle.document_spec.specs.Binary.{stringOf}
 use Rattle.staging.proofs.Operators.{counted-yes, counted-no}
 use borrow.Author.Needs.{needs}

@@ -1,4 +1,4 @@
--- `drawing::tests_at` meets its contract.
+-- `staging::tests_at` meets its contract.
 use Prim.Native.Nat.{ℕ, _+_, _-_, _≤_}
 use mathlib.Core.Path.{sym, ap, ap₂, _∙_, subst}
 use mathlib.Core.Logic.{⊎-elim}

@@ -1,4 +1,4 @@
--- `links::build` meets its contract.
+-- `table::build` meets its contract.
 use Prim.Native.Nat.{_-_}
 use mathlib.Core.Path.{_∙_}
 use native.Mathlib.Omega.{arith}

@@ -1,4 +1,4 @@
--- `links::enter` meets its contract.
+-- `table::enter` meets its contract.
 use native.Mathlib.Omega.{arith}
 use Rattle.layout.proofs.Cells.{wrote-then}
 use borrow.Author.Needs.{needs}

@@ -1,4 +1,4 @@
--- `links::place` meets its contract.
+-- `table::place` meets its contract.
 use native.Mathlib.Omega.{arith}
 use Rattle.layout.proofs.Cells.{wrote-then}
 use borrow.Author.Needs.{needs}

@@ -1,4 +1,4 @@
--- `links::step` meets its contract.
+-- `table::step` meets its contract.
 use Prim.Native.Nat.{_-_}
 use mathlib.Core.Path.{refl, sym}
 use mathlib.Core.Bool.{true, false}

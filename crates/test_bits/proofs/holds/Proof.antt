@@ -1,4 +1,4 @@
--- `columns::holds` meets its contract.
+-- `test_bits::holds` meets its contract.
 use Prim.Native.Nat.{_%_}
 use mathlib.Core.Path.{ap, _∙_}
 use native.Mathlib.Omega.{arith}

@@ -1,4 +1,4 @@
--- `numbering::list_test`, `list_inside` and `list_path` meet their contracts. What is left of the rule falls from call to call.
+-- `test_numbers::list_test`, `list_inside` and `list_path` meet their contracts. What is left of the rule falls from call to call.
 use Prim.Native.Nat.{ℕ, _+_, _-_, _*_, _<_}
 use native.Mathlib.Omega.{arith}
 use mathlib.Core.Path.{subst, _∙_}

@@ -1,4 +1,4 @@
--- `numbering::number` meets its contract. What is left of the rule falls from call to call.
+-- `test_numbers::number` meets its contract. What is left of the rule falls from call to call.
 use Prim.Native.Nat.{ℕ, _-_, _<_}
 use native.Mathlib.Omega.{arith}
 use mathlib.Core.Path.{_∙_}

@@ -1,4 +1,4 @@
--- `numbering::bracket_tests` meets its contract.
+-- `test_numbers::bracket_tests` meets its contract.
 use native.Mathlib.Omega.{arith}
 use Rattle.test_numbers.proofs.Bracketing.{first-room, second-room, compared, two-told}
 use borrow.Author.Needs.{needs}

@@ -1,4 +1,4 @@
--- `numbering::bracket_tests_of_one` meets its contract.
+-- `test_numbers::bracket_tests_of_one` meets its contract.
 use native.Mathlib.Omega.{arith}
 use Rattle.test_numbers.proofs.Bracketing.{one-room, one-told}
 use borrow.Author.Needs.{needs}

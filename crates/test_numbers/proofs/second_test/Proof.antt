@@ -1,4 +1,4 @@
--- `numbering::second_test` meets its contract.
+-- `test_numbers::second_test` meets its contract.
 use native.Mathlib.Omega.{arith}
 use Rattle.test_numbers.proofs.Bracketing.{ended, count-told, either}
 use borrow.Author.Needs.{needs}

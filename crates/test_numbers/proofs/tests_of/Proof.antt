@@ -1,4 +1,4 @@
--- `numbering::tests_of` meets its contract.
+-- `test_numbers::tests_of` meets its contract.
 use Rattle.test_numbers.proofs.Listing.{rule-room, rule-listed}
 use borrow.Author.Needs.{needs}
 use Rattle.test_numbers.proofs.tests_of.Statement.{statement}

@@ -1,4 +1,4 @@
--- `answers::check_document` meets its contract.
+-- `verdicts::check_document` meets its contract.
 use mathlib.Core.Path.{sym, subst}
 use Rattle.document_spec.specs.Verdict.{Checked}
 use Rattle.verdicts.proofs.Verdicts.{checked-by}

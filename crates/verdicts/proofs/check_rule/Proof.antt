@@ -1,4 +1,4 @@
--- `answers::check_rule` meets its contract.
+-- `verdicts::check_rule` meets its contract.
 use mathlib.Core.Path.{sym, subst}
 use Rattle.rule_spec.specs.Verdict.{Checked}
 use Rattle.verdicts.proofs.RuleVerdicts.{rule-checked-by}

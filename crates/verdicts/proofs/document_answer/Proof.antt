@@ -1,4 +1,4 @@
--- `answers::document_answer` meets its contract.
+-- `verdicts::document_answer` meets its contract.
 use mathlib.Core.Path.{sym, ap}
 use Rattle.verdicts.specs.Answers.{answerOf}
 use borrow.Author.Needs.{needs}

@@ -1,4 +1,4 @@
--- `answers::rule_answer` meets its contract.
+-- `verdicts::rule_answer` meets its contract.
 use mathlib.Core.Path.{sym, ap}
 use Rattle.verdicts.specs.Answers.{ruleAnswerOf}
 use borrow.Author.Needs.{needs}

@@ -1,4 +1,4 @@
--- `machines::rows::row_set` meets its contract.
+-- `compiler::rows::row_set` meets its contract.
 use mathlib.Core.Path.{_≡_, sym, _∙_}
 use mathlib.Core.Logic.{⊎-elim}
 use Rattle.rule_spec.proofs.Bytes.{clash}

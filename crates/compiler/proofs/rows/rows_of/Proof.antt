@@ -1,4 +1,4 @@
--- `machines::rows::rows_of` meets its contract.
+-- `compiler::rows::rows_of` meets its contract.
 use mathlib.Core.Path.{refl}
 use Prim.Native.Nat.{_≤_, _-_}
 use native.Mathlib.Omega.{arith}

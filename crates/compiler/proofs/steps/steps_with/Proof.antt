@@ -1,4 +1,4 @@
--- `machines::steps::steps_with` meets its contract.
+-- `compiler::steps::steps_with` meets its contract.
 use mathlib.Core.Logic.{⊎-elim}
 use Prim.Native.Nat.{_≤_, _-_, _+_}
 use native.Mathlib.Omega.{arith}

@@ -1,4 +1,4 @@
--- `machines::steps::up_to` meets its contract.
+-- `compiler::steps::up_to` meets its contract.
 use mathlib.Core.Path.{refl}
 use Prim.Native.Nat.{_≤_, _-_, _+_}
 use native.Mathlib.Omega.{arith}

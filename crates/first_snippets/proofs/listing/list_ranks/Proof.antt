@@ -1,4 +1,4 @@
--- `groups::listing::list_ranks` meets its contract.
+-- `first_snippets::listing::list_ranks` meets its contract.
 use Prim.Native.Nat.{_-_}
 use mathlib.Core.Path.{_≡_, subst}
 use native.Mathlib.Omega.{arith}

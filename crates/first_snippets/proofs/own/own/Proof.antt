@@ -1,4 +1,4 @@
--- `groups::own::own` meets its contract.
+-- `first_snippets::own::own` meets its contract.
 use mathlib.Core.Path.{sym, _∙_}
 use Rattle.first_snippets.proofs.Owning.{own-here, own-none}
 use borrow.Author.Needs.{needs}

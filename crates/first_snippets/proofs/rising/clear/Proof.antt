@@ -1,4 +1,4 @@
--- `groups::rising::clear` meets its contract.
+-- `first_snippets::rising::clear` meets its contract.
 use Prim.Native.Nat.{_-_}
 use mathlib.Core.Path.{_≡_, subst}
 use native.Mathlib.Omega.{arith}

@@ -1,4 +1,4 @@
--- `groups::rising::clear_from` meets its contract.
+-- `first_snippets::rising::clear_from` meets its contract.
 use native.Mathlib.Omega.{arith}
 use Rattle.first_snippets.proofs.Ascending.{cleared-step, cleared-block}
 use borrow.Author.Needs.{needs}

@@ -1,4 +1,4 @@
--- `groups::rising::gathered` meets its contract.
+-- `first_snippets::rising::gathered` meets its contract.
 use Rattle.first_snippets.proofs.Ascending.{gathered-found}
 use borrow.Author.Needs.{needs}
 use Rattle.first_snippets.proofs.rising.gathered.Statement.{statement}

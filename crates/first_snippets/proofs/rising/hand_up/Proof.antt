@@ -1,4 +1,4 @@
--- `groups::rising::hand_up` meets its contract.
+-- `first_snippets::rising::hand_up` meets its contract.
 use mathlib.Core.Path.{sym, _∙_}
 use native.Mathlib.Omega.{arith}
 use Rattle.first_snippets.proofs.Rest.{sizes-front}

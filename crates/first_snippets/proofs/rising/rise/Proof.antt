@@ -1,4 +1,4 @@
--- `groups::rising::rise` meets its contract.
+-- `first_snippets::rising::rise` meets its contract.
 use Prim.Native.Nat.{suc, _-_, _≤_}
 use mathlib.Core.Path.{_≡_, _∙_, subst}
 use native.Mathlib.Omega.{arith}

@@ -1,4 +1,4 @@
--- `groups::rising::rise_at` meets its contract.
+-- `first_snippets::rising::rise_at` meets its contract.
 use mathlib.Core.Path.{sym, _∙_}
 use mathlib.Core.Bool.{false≢true}
 use Rattle.first_snippets.proofs.Ascending.{placed-rest, in-rest, rises-skip, rises-step}

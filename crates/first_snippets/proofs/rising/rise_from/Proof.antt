@@ -1,4 +1,4 @@
--- `groups::rising::rise_from` meets its contract.
+-- `first_snippets::rising::rise_from` meets its contract.
 use Rattle.first_snippets.proofs.Ascending.{rises-block}
 use borrow.Author.Needs.{needs}
 use Rattle.first_snippets.proofs.rising.rise_from.Statement.{statement}

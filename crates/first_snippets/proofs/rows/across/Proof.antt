@@ -1,4 +1,4 @@
--- `groups::rows::across` meets its contract.
+-- `first_snippets::rows::across` meets its contract.
 use mathlib.Core.Path.{sym, _∙_}
 use Rattle.first_snippets.proofs.Crossing.{across-first, across-second}
 use borrow.Author.Needs.{needs}

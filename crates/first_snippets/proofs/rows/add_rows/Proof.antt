@@ -1,4 +1,4 @@
--- `groups::rows::add_rows` meets its contract.
+-- `first_snippets::rows::add_rows` meets its contract.
 use Prim.Native.Nat.{_≤_, _-_}
 use native.Mathlib.Omega.{arith}
 use Rattle.matrices.specs.Matrices.{Drawing}

@@ -1,4 +1,4 @@
--- `groups::rows::widened` meets its contract.
+-- `first_snippets::rows::widened` meets its contract.
 use mathlib.Core.Path.{sym, _∙_}
 use Rattle.first_snippets.proofs.Crossing.{widened, not-widened}
 use borrow.Author.Needs.{needs}

@@ -1,4 +1,4 @@
--- `groups::sinking::beside` meets its contract.
+-- `first_snippets::sinking::beside` meets its contract.
 use mathlib.Core.Path.{sym, _∙_}
 use mathlib.Core.Logic.{inl, inr}
 use borrow.Author.Needs.{needs}

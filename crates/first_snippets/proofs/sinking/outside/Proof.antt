@@ -1,4 +1,4 @@
--- `groups::sinking::outside` meets its contract.
+-- `first_snippets::sinking::outside` meets its contract.
 use Rattle.first_snippets.proofs.Descending.{outside-found}
 use borrow.Author.Needs.{needs}
 use Rattle.first_snippets.proofs.sinking.outside.Statement.{statement}

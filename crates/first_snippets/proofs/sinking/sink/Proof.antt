@@ -1,4 +1,4 @@
--- `groups::sinking::sink` meets its contract.
+-- `first_snippets::sinking::sink` meets its contract.
 use Prim.Native.Nat.{_-_, _≤_}
 use mathlib.Core.Path.{_≡_, subst}
 use native.Mathlib.Omega.{arith}

@@ -1,4 +1,4 @@
--- `groups::sinking::sink_at` meets its contract.
+-- `first_snippets::sinking::sink_at` meets its contract.
 use mathlib.Core.Path.{refl, sym, _∙_}
 use mathlib.Core.Bool.{false≢true}
 use native.Mathlib.Omega.{arith}

@@ -1,4 +1,4 @@
--- `groups::sinking::sink_by` meets its contract.
+-- `first_snippets::sinking::sink_by` meets its contract.
 use native.Mathlib.Omega.{arith}
 use Rattle.first_snippets.proofs.Rest.{sizes-front, stretch-kept}
 use Rattle.first_snippets.proofs.Ascending.{placed-node, placed-stretch}

@@ -1,4 +1,4 @@
--- `groups::sinking::sink_from` meets its contract.
+-- `first_snippets::sinking::sink_from` meets its contract.
 use native.Mathlib.Omega.{arith}
 use Rattle.first_snippets.proofs.Descending.{sank-step, sank-block}
 use borrow.Author.Needs.{needs}

@@ -1,4 +1,4 @@
--- `groups::yields::add_edge` meets its contract.
+-- `first_snippets::yields::add_edge` meets its contract.
 use native.Mathlib.Omega.{arith}
 use Rattle.powers.proofs.Stretching.{stretch-short}
 use Rattle.first_snippets.proofs.Rest.{stretch-kept}

@@ -1,4 +1,4 @@
--- `fields::blocks::pass` meets its contract.
+-- `lexer::blocks::pass` meets its contract.
 use mathlib.Core.Path.{sym, subst}
 use native.Mathlib.Omega.{arith}
 use Rattle.lexer.specs.Reading.{Passed}

@@ -1,4 +1,4 @@
--- `fields::blocks::text_block` meets its contract.
+-- `lexer::blocks::text_block` meets its contract.
 use borrow.Author.Tests.{not-false}
 use mathlib.Core.Path.{_≡_, sym, _∙_, subst}
 use mathlib.Core.Logic.{⊎-elim}

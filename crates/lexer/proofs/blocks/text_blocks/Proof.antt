@@ -1,4 +1,4 @@
--- `fields::blocks::text_blocks` meets its contract.
+-- `lexer::blocks::text_blocks` meets its contract.
 use borrow.Author.Tests.{not-false}
 use Prim.Native.Nat.{_+_, _-_}
 use lib.ListN.{length}

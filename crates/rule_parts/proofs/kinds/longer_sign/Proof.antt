@@ -1,4 +1,4 @@
--- `parts::kinds::longer_sign` meets its contract.
+-- `rule_parts::kinds::longer_sign` meets its contract.
 use mathlib.Core.Path.{sym, ap}
 use Rattle.rule_parts.specs.Kinds.{longer}
 use Rattle.rule_parts.proofs.Told.{longer-rest}

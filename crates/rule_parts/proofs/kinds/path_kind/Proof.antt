@@ -1,4 +1,4 @@
--- `parts::kinds::path_kind` meets its contract.
+-- `rule_parts::kinds::path_kind` meets its contract.
 use native.Mathlib.Omega.{arith}
 use mathlib.Core.Path.{sym, ap, _∙_}
 use Rattle.rule_parts.proofs.Told.{pathBy, path-by, path-rest}

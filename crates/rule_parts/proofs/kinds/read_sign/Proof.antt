@@ -1,4 +1,4 @@
--- `parts::kinds::read_sign` meets its contract.
+-- `rule_parts::kinds::read_sign` meets its contract.
 use Prim.Native.Nat.{_+_}
 use native.Mathlib.Omega.{arith}
 use mathlib.Core.Path.{ap, _∙_, subst}

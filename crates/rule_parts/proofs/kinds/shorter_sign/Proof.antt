@@ -1,4 +1,4 @@
--- `parts::kinds::shorter_sign` meets its contract.
+-- `rule_parts::kinds::shorter_sign` meets its contract.
 use mathlib.Core.Path.{sym, ap}
 use Rattle.rule_parts.specs.Kinds.{shorter}
 use Rattle.rule_parts.proofs.Told.{shorter-rest}

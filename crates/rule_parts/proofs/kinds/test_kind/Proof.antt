@@ -1,4 +1,4 @@
--- `parts::kinds::test_kind` meets its contract.
+-- `rule_parts::kinds::test_kind` meets its contract.
 use native.Mathlib.Omega.{arith}
 use mathlib.Core.Path.{sym, ap, _∙_}
 use Rattle.rule_parts.proofs.Told.{testBy, test-by, test-rest}

@@ -1,4 +1,4 @@
--- `pairs::answers::answer` meets its contract.
+-- `settling::answers::answer` meets its contract.
 use Prim.Native.Nat.{_≤_, _-_}
 use native.Mathlib.Omega.{arith}
 use Rattle.settling.specs.Growing.{Answering}

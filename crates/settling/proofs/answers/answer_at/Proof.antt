@@ -1,4 +1,4 @@
--- `pairs::answers::answer_at` meets its contract.
+-- `settling::answers::answer_at` meets its contract.
 use Prim.Native.Nat.{ℕ}
 use mathlib.Core.Path.{ap, _∙_}
 use native.Mathlib.Omega.{arith}

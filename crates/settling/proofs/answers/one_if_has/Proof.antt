@@ -1,4 +1,4 @@
--- `pairs::answers::one_if_has` meets its contract.
+-- `settling::answers::one_if_has` meets its contract.
 use mathlib.Core.Path.{sym, ap, _∙_}
 use native.Mathlib.Omega.{arith}
 use Rattle.bits.specs.Sets.{one}

@@ -1,4 +1,4 @@
--- `pairs::rounds::downwards` meets its contract.
+-- `settling::rounds::downwards` meets its contract.
 use Prim.Native.Nat.{_<_, _-_}
 use native.Mathlib.Omega.{arith}
 use Rattle.settling.specs.Growing.{Passed, Falls, Everywhere}

@@ -1,4 +1,4 @@
--- `pairs::rounds::fall` meets its contract.
+-- `settling::rounds::fall` meets its contract.
 use mathlib.Core.Logic.{inl, inr}
 use native.Mathlib.Omega.{arith}
 use Rattle.settling.proofs.Passing.{fallen}

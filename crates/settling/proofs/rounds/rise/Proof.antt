@@ -1,4 +1,4 @@
--- `pairs::rounds::rise` meets its contract.
+-- `settling::rounds::rise` meets its contract.
 use mathlib.Core.Logic.{inr}
 use native.Mathlib.Omega.{arith}
 use Rattle.settling.proofs.Passing.{risen}

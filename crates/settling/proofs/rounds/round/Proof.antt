@@ -1,4 +1,4 @@
--- `pairs::rounds::round` meets its contract.
+-- `settling::rounds::round` meets its contract.
 use native.Mathlib.Omega.{arith}
 use Rattle.settling.proofs.Framing.{ready-kept}
 use Rattle.settling.proofs.Passing.{passed-small, both}

@@ -1,4 +1,4 @@
--- `pairs::rounds::spread` meets its contract.
+-- `settling::rounds::spread` meets its contract.
 use Prim.Native.Nat.{_+_, _*_, _-_}
 use mathlib.Core.Path.{_≡_}
 use native.Mathlib.Omega.{arith}

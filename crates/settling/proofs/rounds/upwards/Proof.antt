@@ -1,4 +1,4 @@
--- `pairs::rounds::upwards` meets its contract.
+-- `settling::rounds::upwards` meets its contract.
 use Prim.Native.Nat.{ℕ, _≤_, _<_}
 use native.Mathlib.Omega.{arith}
 use Rattle.settling.specs.Growing.{Passed, Rises}

@@ -1,4 +1,4 @@
--- `pairs::seeds::plant` meets its contract.
+-- `settling::seeds::plant` meets its contract.
 use Rattle.settling.proofs.Seeding.{planted}
 use borrow.Author.Needs.{needs}
 use Rattle.settling.proofs.seeds.plant.Statement.{statement}

@@ -1,4 +1,4 @@
--- `pairs::seeds::plant_ends` meets its contract.
+-- `settling::seeds::plant_ends` meets its contract.
 use mathlib.Core.Logic.{inl, inr}
 use native.Mathlib.Omega.{arith}
 use Rattle.settling.proofs.Seeding.{seeded}

@@ -1,4 +1,4 @@
--- `pairs::seeds::seed` meets its contract.
+-- `settling::seeds::seed` meets its contract.
 use Prim.Native.Nat.{_-_, _<_}
 use native.Mathlib.Omega.{arith}
 use Rattle.settling.specs.Growing.{Grown, Met, Everywhere}

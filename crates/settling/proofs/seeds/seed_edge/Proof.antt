@@ -1,4 +1,4 @@
--- `pairs::seeds::seed_edge` meets its contract.
+-- `settling::seeds::seed_edge` meets its contract.
 use Rattle.settling.proofs.Grows.{grown-none}
 use Rattle.settling.proofs.Seeding.{met-nothing}
 use borrow.Author.Needs.{needs}

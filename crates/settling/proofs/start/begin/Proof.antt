@@ -1,4 +1,4 @@
--- `pairs::start::begin` meets its contract.
+-- `settling::start::begin` meets its contract.
 use Rattle.settling.proofs.Starting.{begun}
 use borrow.Author.Needs.{needs}
 use Rattle.settling.proofs.start.begin.Statement.{statement}

@@ -1,4 +1,4 @@
--- `pairs::start::if_has` meets its contract.
+-- `settling::start::if_has` meets its contract.
 use mathlib.Core.Path.{sym, _∙_}
 use mathlib.Core.Bool.{false≢true}
 use Rattle.bits.proofs.SetLaws.{bit-none}

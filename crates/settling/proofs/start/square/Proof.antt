@@ -1,4 +1,4 @@
--- `pairs::start::square` meets its contract.
+-- `settling::start::square` meets its contract.
 use Prim.Native.Nat.{_≤_, _-_}
 use native.Mathlib.Omega.{arith}
 use Rattle.matrices.specs.Matrices.{Drawing}

@@ -1,4 +1,4 @@
--- `pairs::start::start` meets its contract.
+-- `settling::start::start` meets its contract.
 use Prim.Native.Nat.{_≤_, _-_}
 use native.Mathlib.Omega.{arith}
 use Rattle.settling.specs.Growing.{Started}

@@ -1,4 +1,4 @@
--- `pairs::widen::partners` meets its contract.
+-- `settling::widen::partners` meets its contract.
 use mathlib.Core.Bool.{true, false}
 use Rattle.settling.proofs.Widening.{partners-of}
 use borrow.Author.Needs.{needs}

@@ -1,4 +1,4 @@
--- `pairs::widen::row` meets its contract.
+-- `settling::widen::row` meets its contract.
 use Rattle.settling.proofs.Widening.{over-row}
 use borrow.Author.Needs.{needs}
 use Rattle.settling.proofs.widen.row.Statement.{statement}

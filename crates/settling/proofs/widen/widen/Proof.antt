@@ -1,4 +1,4 @@
--- `pairs::widen::widen` meets its contract.
+-- `settling::widen::widen` meets its contract.
 use Prim.Native.Nat.{_≤_, _-_}
 use native.Mathlib.Omega.{arith}
 use Rattle.matrices.specs.Widening.{Widening}

@@ -1,4 +1,4 @@
--- `drawing::relations::fits` meets its contract.
+-- `staging::relations::fits` meets its contract.
 use Rattle.xpath.specs.Syntax.{eq, ne, lt, le, gt, ge}
 use Rattle.xpath.proofs.Decide.{trans}
 use Rattle.staging.proofs.Operators.{told-not, not-greater, not-smaller, told-by}

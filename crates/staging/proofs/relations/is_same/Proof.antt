@@ -1,4 +1,4 @@
--- `drawing::relations::is_same` meets its contract.
+-- `staging::relations::is_same` meets its contract.
 use mathlib.Core.Path.{sym, subst}
 use Rattle.xpath.proofs.Order.{less-distinct, less-asymmetric}
 use Rattle.values.specs.Ordered.{Ordered}

@@ -1,4 +1,4 @@
--- `columns::labels::has_name` meets its contract.
+-- `test_bits::labels::has_name` meets its contract.
 use mathlib.Core.Path.{_≡_, sym, subst}
 use mathlib.Core.Bool.{true}
 use mathlib.Core.Logic.{_↔_}

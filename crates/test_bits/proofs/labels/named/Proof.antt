@@ -1,4 +1,4 @@
--- `columns::labels::named` meets its contract.
+-- `test_bits::labels::named` meets its contract.
 use Prim.Native.Nat.{_-_}
 use mathlib.Core.Path.{_≡_}
 use mathlib.Core.List.{List}

@@ -1,4 +1,4 @@
--- `columns::labels::same_bytes` meets its contract.
+-- `test_bits::labels::same_bytes` meets its contract.
 use Prim.Native.Nat.{ℕ, _+_, _-_, _≤_, _<_}
 use mathlib.Core.Path.{_≡_, refl}
 use mathlib.Core.Bool.{false≢true}

@@ -1,4 +1,4 @@
--- `columns::notes::note` meets its contract.
+-- `test_bits::notes::note` meets its contract.
 use Rattle.test_bits.proofs.Noting.{noted}
 use borrow.Author.Needs.{needs}
 use Rattle.test_bits.proofs.notes.note.Statement.{statement}

@@ -1,4 +1,4 @@
--- `columns::notes::with_bit` meets its contract.
+-- `test_bits::notes::with_bit` meets its contract.
 use Prim.Native.Nat.{ℕ}
 use mathlib.Core.Path.{sym, ap, _∙_}
 use mathlib.Core.Bool.{Bool}

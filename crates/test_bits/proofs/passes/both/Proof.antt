@@ -1,4 +1,4 @@
--- `columns::passes::both` meets its contract.
+-- `test_bits::passes::both` meets its contract.
 use Prim.Native.Nat.{_-_}
 use mathlib.Core.Path.{_≡_, _∙_}
 use mathlib.Core.Bool.{true}

@@ -1,4 +1,4 @@
--- `columns::passes::either` meets its contract.
+-- `test_bits::passes::either` meets its contract.
 use Prim.Native.Nat.{_-_}
 use mathlib.Core.Path.{_≡_, _∙_}
 use mathlib.Core.Bool.{true}

@@ -1,4 +1,4 @@
--- `columns::passes::take` meets its contract.
+-- `test_bits::passes::take` meets its contract.
 use Prim.Native.Nat.{_-_}
 use mathlib.Core.Path.{_≡_}
 use native.Mathlib.Omega.{arith}
