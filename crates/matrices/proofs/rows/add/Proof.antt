@@ -1,8 +1,4 @@
-<<<<<<< HEAD:crates/matrices/proofs/rows/add/Proof.antt
 -- `matrices::rows::add` meets its contract.
-=======
--- `settling::widen::add` meets its contract.
->>>>>>> h-fr-driver:crates/settling/proofs/widen/add/Proof.antt
 use native.Mathlib.Omega.{arith}
 use borrow.Author.Needs.{needs}
 use Rattle.matrices.proofs.Widening.{joined-none, joined-some}
