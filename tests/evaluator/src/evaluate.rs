@@ -166,8 +166,9 @@ pub fn most_snippets(nodes: usize, test: &Test) -> usize {
 /// all such comparisons."
 ///
 /// What document 01 promises of every accepted document and rule is asserted
-/// here, for the plain evaluation too: at every node the settling rule and the
-/// definition agree, and the counts keep their bound.
+/// here, so whenever snippets are counted: at every node the settling rule and
+/// the definition agree, and the counts keep their bound. `evaluate` counts for
+/// the plain evaluation too; `evaluate_plain` does not.
 fn count_snippets(tree: &Tree, test: &Test) -> usize {
     let mut total = 0;
     for (p, r) in equalities(test) {
