@@ -1,11 +1,11 @@
 -- What the steps of the evaluation leave: rows without snippets, the loops and the powers, and then the snippets.
-use Prim.Native.Nat.{ℕ, _+_, _*_, _≤_, _<_}
+use Prim.Native.Nat.{ℕ, _+_, _<_}
 use mathlib.Core.Path.{_≡_}
 use mathlib.Core.Logic.{_≢_, _↔_}
 use mathlib.Core.List.{List}
 use lib.ListN.{length, getD}
 use Rattle.lists.specs.Lists.{Number}
-use Rattle.limits.specs.Limits.{positions, wordsPerDigit}
+use Rattle.limits.specs.Limits.{positions}
 use Rattle.xpath.specs.Syntax.{XPath}
 use Rattle.xpath.specs.Tree.{Tree}
 use Rattle.snippets.specs.Snippets.{Yielded}
@@ -13,7 +13,7 @@ use Rattle.snippets.specs.Count.{IsSnippet}
 use Rattle.snippets.specs.Direct.{Direct}
 use Rattle.machine.specs.declared.Machine.{Machine}
 use Rattle.loops.specs.Loops.{Stage, Loops}
-use Rattle.layout.specs.Blocks.{BLOCKS, snippetAt, rowsAt}
+use Rattle.layout.specs.Blocks.{snippetAt, rowsAt}
 use Rattle.layout.specs.Words.{Frame}
 use Rattle.powers.specs.Powers.{Powers}
 use Rattle.settling.specs.Settled.{Marked}

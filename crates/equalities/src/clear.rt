@@ -7,7 +7,6 @@ ghost use Rattle.limits.specs.Limits.{positions};
 ghost use Rattle.halving.specs.Halving.{BlockRoom};
 ghost use Rattle.equalities.specs.Steps.{Zeroed, Cleared};
 
-// Within a block, between the rows that lead up and the upper node.
 // The 16 rows at `at`.
 fn clear_rows(p: &mut [u16], at: usize)
     requires { ⌜ at + positions ≤ length (now p) ⌝ }

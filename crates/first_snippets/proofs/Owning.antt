@@ -1,10 +1,9 @@
 -- The positions that end at a node itself.
 use Prim.Native.Nat.{ℕ, _<_}
 use mathlib.Core.Path.{_≡_, sym, _∙_, subst}
-use mathlib.Core.Logic.{_↔_, _≢_}
-use mathlib.Core.Bool.{true, false≢true}
+use mathlib.Core.Logic.{_≢_}
+use mathlib.Core.Bool.{false≢true}
 use mathlib.Core.List.{List}
-use Rattle.bits.specs.Sets.{bit}
 use Rattle.bits.proofs.SetLaws.{bit-none}
 use Rattle.xpath.specs.Syntax.{XPath}
 use Rattle.xpath.specs.Tree.{Tree}

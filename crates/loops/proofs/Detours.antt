@@ -23,9 +23,9 @@ use Rattle.loops.specs.Growing.{Widened, Visited}
 -- a step, the image, and a step
 pub detours : (m : Machine) (p : List ℕ) (over w w′ i left there next r : ℕ)
     → ((j : ℕ) → bit left j ≡ and (bit (getD (m .rows) i 0) j) (bit w j))
-    → ((j : ℕ) → j < 16 → (bit there j ≡ true) ↔ Image p over left j)
-    → ((j : ℕ) → j < 16 → (bit next j ≡ true) ↔ ((k : ℕ) × (k < 16) × (bit there k ≡ true) × (bit (getD (m .rows) k 0) j ≡ true)))
-    → ((j : ℕ) → bit r j ≡ and (bit next j) (bit w′ j)) → (j : ℕ) → j < 16 → (bit r j ≡ true) ↔ Detour m p over w w′ i j
+    → Exactly there (Image p over left)
+    → Exactly next (λ j. (k : ℕ) × (k < 16) × (bit there k ≡ true) × (bit (getD (m .rows) k 0) j ≡ true))
+    → ((j : ℕ) → bit r j ≡ and (bit next j) (bit w′ j)) → Exactly r (Detour m p over w w′ i)
 detours m p over w w′ i left there next r leave image follow back j few = (to, from)
   where
     to : bit r j ≡ true → Detour m p over w w′ i j

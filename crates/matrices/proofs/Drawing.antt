@@ -1,6 +1,6 @@
 -- A matrix that is drawn row by row.
 use Prim.Native.Nat.{ℕ, _+_, _-_, _≤_, _<_}
-use mathlib.Core.Path.{_≡_, refl, sym, ap, _∙_, subst}
+use mathlib.Core.Path.{_≡_, sym, ap, _∙_, subst}
 use mathlib.Core.Bool.{true, false, false≢true}
 use mathlib.Core.Logic.{_≢_, _⊎_, inl, inr, _↔_}
 use mathlib.Core.List.{List}
@@ -12,7 +12,7 @@ use lib.Seq.{getD-set-same, getD-set-other}
 use borrow.Author.Tests.{eqb-true, eq-eqb}
 use Rattle.bits.specs.Sets.{bit, or, is}
 use Rattle.layout.proofs.Frames.{frame-none, frame-then, frame-wider}
-use Rattle.matrices.specs.Matrices.{Related, Image, Redrawn, Apart, Drawing, Reflexive, Through, Composed}
+use Rattle.matrices.specs.Matrices.{Exactly, Related, Image, Redrawn, Apart, Drawing, Reflexive, Through, Composed}
 use Rattle.matrices.proofs.Members.{or-cases, or-left, or-right, union-iff}
 
 pub drawing-none : (A : ℕ → ℕ → Type 0) (at : ℕ) (p : List ℕ) → Drawing A at 0 p p
@@ -31,7 +31,7 @@ module _ {A : ℕ → ℕ → Type 0} {at k : ℕ} {p q : List ℕ} (d : Drawing
       go i j l (inl e) = subst (λ (n : ℕ). Related q′ at n j ↔ A n j) (sym e) (row j l)
       go i j l (inr h) = subst (λ (y : ℕ). (bit y j ≡ true) ↔ A i j) (sym (other (at + i) (omega arith))) (d .done i j h l)
 
-  pub drawing-step : (x : ℕ) → at + k < length p → ((j : ℕ) → j < 16 → (bit x j ≡ true) ↔ A k j) → Drawing A at (k + 1) p (set q (at + k) x)
+  pub drawing-step : (x : ℕ) → at + k < length p → Exactly x (A k) → Drawing A at (k + 1) p (set q (at + k) x)
   drawing-step x room row =
       drawing-more (length-set q (at + k) x) (λ l h. getD-set-other q (at + k) l x 0 h)
       (λ j l. subst (λ (y : ℕ). (bit y j ≡ true) ↔ A k j) (sym (getD-set-same q (at + k) x 0 (omega (arith, d .frame .long)))) (row j l))
@@ -84,7 +84,7 @@ module _ {at i : ℕ} {p q : List ℕ} (x : ℕ) where
 
   -- what its members are related to
   pub compose-step : {a b : ℕ} → Drawing (Composed (Related p a) (Related p b)) at i p q → Apart a at → Apart b at → i < 16 → at + i < length p
-      → ((j : ℕ) → j < 16 → (bit x j ≡ true) ↔ Image q b (getD q (a + i) 0) j) → Drawing (Composed (Related p a) (Related p b)) at (i + 1) p (set q (at + i) x)
+      → Exactly x (Image q b (getD q (a + i) 0)) → Drawing (Composed (Related p a) (Related p b)) at (i + 1) p (set q (at + i) x)
   compose-step {a} {b} d f g few room image = drawing-step d x room (λ j h. (λ e. to j (image j h .0 e), λ c. image j h .1 (from j c)))
     where
       first : getD q (a + i) 0 ≡ getD p (a + i) 0

@@ -6,6 +6,7 @@ use mathlib.Core.Logic.{_⊎_, inl, inr, _↔_}
 use native.Mathlib.Decide.{ℕ-discrete}
 use Rattle.bits.specs.Sets.{bit, or, size}
 use Rattle.bits.proofs.SetLaws.{bit-none}
+use Rattle.matrices.specs.Matrices.{Exactly}
 use Rattle.matrices.proofs.Members.{size-less, union-iff, Taken}
 
 -- j is in the row of a member of w that is not in rest
@@ -14,7 +15,7 @@ Followed row w rest j = (i : ℕ) × (i < 16) × (bit w i ≡ true) × (bit rest
 
 pub record Following (row : ℕ → ℕ) (w rest r : ℕ) : Type 0 where
   pub part : (i : ℕ) → bit rest i ≡ true → bit w i ≡ true
-  pub done : (j : ℕ) → j < 16 → (bit r j ≡ true) ↔ Followed row w rest j
+  pub done : Exactly r (Followed row w rest)
 
 pub following-none : (row : ℕ → ℕ) (w : ℕ) → Following row w w 0
 following-none row w =
@@ -59,6 +60,6 @@ module _ {i rest rest′ : ℕ} (t : Taken i rest rest′) (member : bit rest i 
 
 -- no member is left
 pub following-all : {row : ℕ → ℕ} {w rest r : ℕ} → Following row w rest r → rest ≡ 0
-    → (j : ℕ) → j < 16 → (bit r j ≡ true) ↔ ((i : ℕ) × (i < 16) × (bit w i ≡ true) × (bit (row i) j ≡ true))
+    → Exactly r (λ j. (i : ℕ) × (i < 16) × (bit w i ≡ true) × (bit (row i) j ≡ true))
 following-all f e j h =
     (λ x. let (i, l, a, b, c) = f .done j h .0 x in (i, l, a, c), λ (i, l, a, c). f .done j h .1 (i, l, a, ap (λ (x : ℕ). bit x i) e ∙ bit-none i, c))

@@ -2,14 +2,14 @@
 use Prim.Native.Nat.{ℕ, _+_, _<_}
 use mathlib.Core.Path.{_≡_, sym, ap, _∙_, subst}
 use mathlib.Core.Bool.{true, false≢true}
-use mathlib.Core.Logic.{_⊎_, inl, inr, _↔_}
+use mathlib.Core.Logic.{_⊎_, inl, inr}
 use mathlib.Core.List.{List}
 use native.Mathlib.Nat.{eq-or-lt-of-le}
 use native.Mathlib.Omega.{arith}
 use borrow.Author.Tests.{eqb-true, eq-eqb}
 use Rattle.bits.specs.Sets.{bit, or, is}
 use Rattle.bits.proofs.SetLaws.{bit-none}
-use Rattle.matrices.specs.Matrices.{Before}
+use Rattle.matrices.specs.Matrices.{Exactly, Before}
 use Rattle.matrices.proofs.Members.{or-cases, or-left, or-right}
 
 pub record Preceding (p : List ℕ) (at w i r : ℕ) : Type 0 where
@@ -20,7 +20,7 @@ pub preceding-none : (p : List ℕ) (at w : ℕ) → Preceding p at w 0 0
 preceding-none p at w = record { found = λ k e. absurd (false≢true (sym (bit-none k) ∙ e)); all = λ k h. absurd (let f : ⊥ = omega arith in f) }
 
 -- nothing is related to a member of the empty set
-pub preceding-nothing : (p : List ℕ) (at w : ℕ) → w ≡ 0 → (k : ℕ) → k < 16 → (bit 0 k ≡ true) ↔ Before p at w k
+pub preceding-nothing : (p : List ℕ) (at w : ℕ) → w ≡ 0 → Exactly 0 (Before p at w)
 preceding-nothing p at w e k h =
     (λ b. absurd (false≢true (sym (bit-none k) ∙ b)), λ (j, l, b, x). absurd (false≢true (sym (bit-none j) ∙ ap (λ z. bit z j) (sym e) ∙ b)))
 
@@ -45,5 +45,5 @@ module _ {p : List ℕ} {at w i r : ℕ} (c : Preceding p at w i r) where
       from k x (inl q) = absurd (n (subst (λ (y : ℕ). Before p at w y) q x))
       from k x (inr h) = c .all k h x
 
-  pub preceding-all : i ≡ 16 → (k : ℕ) → k < 16 → (bit r k ≡ true) ↔ Before p at w k
+  pub preceding-all : i ≡ 16 → Exactly r (Before p at w)
   preceding-all e k h = (λ b. c .found k b .1, λ x. c .all k (omega arith) x)

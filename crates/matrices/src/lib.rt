@@ -19,7 +19,6 @@ ghost use mathlib.Core.Logic.{_↔_};
 ghost use Prim.Native.Nat.{ℕ, _+_, _≤_, _<_};
 ghost use lib.ListN.{length};
 ghost use Rattle.limits.specs.Limits.{positions};
-ghost use Rattle.bits.specs.Sets.{bit};
 ghost use Rattle.matrices.specs.Matrices.{Exactly, Related, Image, Before, Chain, Redrawn, Apart, pairs};
 
 // What the members of `w` are related to. Each turn takes one member out, so that few members take few turns.

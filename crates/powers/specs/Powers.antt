@@ -1,11 +1,11 @@
 -- The powers of two along the tree: for each node y and exponent k the node 2^k above it, and which positions come to which between the two.
-use Prim.Native.Nat.{ℕ, suc, _+_, _*_, _^_, _≤_, _<_}
+use Prim.Native.Nat.{ℕ, _*_, _^_, _<_}
 use mathlib.Core.Path.{_≡_}
 use mathlib.Core.Logic.{_↔_}
 use mathlib.Core.Bool.{true}
 use mathlib.Core.List.{List}
 use lib.ListN.{length, getD}
-use Rattle.limits.specs.Limits.{positions, wordsPerDigit, partWords}
+use Rattle.limits.specs.Limits.{positions}
 use Rattle.bits.specs.Sets.{bit}
 use Rattle.xpath.specs.Syntax.{XPath}
 use Rattle.xpath.specs.Tree.{Tree, Down}

@@ -1,12 +1,10 @@
 -- The pairs at the start, node by node.
 use Prim.Native.Nat.{ℕ, _+_, _<_}
 use mathlib.Core.Path.{_≡_, sym, subst}
-use mathlib.Core.Logic.{_⊎_, inl, inr, _↔_}
-use mathlib.Core.Bool.{true}
+use mathlib.Core.Logic.{_⊎_, inl, inr}
 use mathlib.Core.List.{List}
 use native.Mathlib.Nat.{eq-or-lt-of-le}
 use native.Mathlib.Omega.{arith}
-use Rattle.bits.specs.Sets.{bit}
 use Rattle.matrices.specs.Matrices.{Exactly, Related, Before, Drawing}
 use Rattle.layout.specs.Part.{loopAt, pairAt}
 use Rattle.layout.proofs.Frames.{within-none, within-then, within-back}
