@@ -1,8 +1,8 @@
 -- A comparison is settled by what its evaluator leaves in the part.
-use Prim.Native.Nat.{ℕ, suc, _+_, _*_, _≤_, _<_}
+use Prim.Native.Nat.{ℕ, suc, _+_, _≤_, _<_}
 use native.Mathlib.Omega.{arith}
-use mathlib.Core.Path.{_≡_, refl, sym, ap, _∙_, subst}
-use mathlib.Core.Logic.{_⊎_, inl, inr, _↔_, ⊎-elim}
+use mathlib.Core.Path.{_≡_, refl, sym, _∙_, subst}
+use mathlib.Core.Logic.{_↔_, ⊎-elim}
 use mathlib.Core.Bool.{Bool, true, false}
 use mathlib.Core.List.{List, _++_}
 use lib.ListN.{length, getD}
@@ -14,8 +14,10 @@ use Rattle.document_spec.specs.Library.{Node}
 use Rattle.document_spec.specs.Binary.{treeOf}
 use Rattle.document_spec.proofs.Binary.{tree-formed}
 use Rattle.rule_spec.proofs.Bytes.{clash}
+use Rattle.layout.specs.Part.{HIT}
 use Rattle.layout.specs.Table.{COLUMNS}
 use Rattle.layout.specs.Words.{word, Within}
+use Rattle.layout.proofs.Frames.{frame-then}
 use Rattle.test_bits.specs.Columns.{held}
 use Rattle.test_numbers.specs.Tests.{testsOf, pathTests, test}
 use Rattle.test_numbers.specs.Numbering.{Brackets}
@@ -24,8 +26,8 @@ use Rattle.loops.specs.Loops.{Stage}
 use Rattle.machine.specs.Meaning.{IsStep, IsMachine}
 use Rattle.plain.specs.Plain.{Answered}
 use Rattle.staging.specs.Drawing.{Copied, Stayed}
-use Rattle.driver.specs.Tasks.{Scene, Task, Tells, Apart, Answers}
-use Rattle.driver.proofs.Frames.{apart-then, within-apart, held-apart}
+use Rattle.driver.specs.Tasks.{Task, Tells, Apart, Answers}
+use Rattle.driver.proofs.Frames.{within-apart, held-apart}
 use Rattle.driver.proofs.Parts.{part, back, back-apart, back-word}
 use Rattle.driver.proofs.Drawn.{drawn}
 
@@ -66,7 +68,7 @@ answer-iff a v l = ⊎-elim (λ x. (λ e. x .0, λ y. x .1)) (λ x. (λ e. let z
 module _ {ns : List Node} {n : ℕ} {U : Test} {t t′ p′ : List ℕ} (pos : 0 < n) (room : scratchWords n ≤ length t′) (apart : Apart n t t′) where
   pub answered : (a : Answered n (Holds (treeOf ns) U) (part n t′ pos room) p′) → Answers ns n U t (back n t′ pos room p′ (a .long))
   answered a = record {
-    apart = apart-then apart (back-apart n t′ pos room p′ (a .long));
+    apart = frame-then apart (back-apart n t′ pos room p′ (a .long));
     answers = λ v l. let g = answer-iff a v l in let w = back-word n t′ pos room p′ (a .long) v l in (λ e. g .0 (sym w ∙ e), λ x. w ∙ g .1 x);
   }
 
@@ -80,10 +82,10 @@ module _ {s rule : List ℕ} {ns : List Node} {T : Test} {n at k : ℕ} {t : Lis
       (machine : IsMachine P R m) (brackets : Brackets P R (suc k) numbers)
       (copied : Copied n t t₁) (stayed : Stayed n (m .brackets) numbers t₁ t₂) where
     pub drawn-apart : Apart n t t₂
-    drawn-apart = apart-then (within-apart some-nodes (omega arith) (omega arith) (copied .within)) (within-apart some-nodes (omega arith) (omega arith) (stayed .within))
+    drawn-apart = frame-then (within-apart some-nodes (omega arith) (omega arith) (copied .within)) (within-apart some-nodes (omega arith) (omega arith) (stayed .within))
 
     -- the comparison stands in its part, also where the hits of a constant are drawn behind it
-    pub drawn-stage : {t₃ : List ℕ} (room : scratchWords n ≤ length t₃) → Within n 23 24 t₂ t₃ → Stage P R (treeOf ns) m n (part n t₃ some-nodes room)
+    pub drawn-stage : {t₃ : List ℕ} (room : scratchWords n ≤ length t₃) → Within n (COLUMNS + HIT) (COLUMNS + HIT + 1) t₂ t₃ → Stage P R (treeOf ns) m n (part n t₃ some-nodes room)
     drawn-stage room within = record {
       formed = tree-formed (task .scene .library .legal);
       machine = machine;

@@ -32,7 +32,7 @@ column-low false = (omega arith, omega arith)
 -- the links and ranks copied, then the bracketed tests, and then the hits of a constant, if there is one
 module _ {s : List ℕ} {ns : List Node} {n : ℕ} {t t₁ t₂ t₃ : List ℕ} {b : ℕ} {numbers : List ℕ}
     (scene : Scene s ns n t) (pos : 0 < n) (room : scratchWords n ≤ length t₃)
-    (copied : Copied n t t₁) (stayed : Stayed n b numbers t₁ t₂) (within : Within n 23 24 t₂ t₃) where
+    (copied : Copied n t t₁) (stayed : Stayed n b numbers t₁ t₂) (within : Within n (COLUMNS + HIT) (COLUMNS + HIT + 1) t₂ t₃) where
   abbrev p : List ℕ
   p = part n t₃ pos room
 

@@ -1,10 +1,9 @@
 -- What stays when a part of the scratch is written.
-use Prim.Native.Nat.{ℕ, zero, suc, _+_, _-_, _*_, _/_, _%_, _^_, _≤_, _<_}
+use Prim.Native.Nat.{ℕ, zero, suc, _+_, _*_, _/_, _%_, _^_, _≤_, _<_}
 use native.Mathlib.Nat.{mul-le-mul-right, mul-le-mul, mul-comm}
 use native.Mathlib.Omega.{arith}
-use mathlib.Core.Path.{_≡_, refl, sym, ap, _∙_, subst}
-use mathlib.Core.Logic.{_≢_, _↔_}
-use mathlib.Core.Bool.{true}
+use mathlib.Core.Path.{_≡_, sym, ap, subst}
+use mathlib.Core.Logic.{_↔_}
 use mathlib.Core.List.{List}
 use lib.ListN.{length, getD}
 use Rattle.lists.specs.Text.{binaryDigits}
@@ -16,9 +15,9 @@ use Rattle.document_spec.specs.Library.{Node}
 use Rattle.document_spec.specs.Binary.{stringOf}
 use Rattle.layout.specs.Table.{COLUMNS, RANK}
 use Rattle.layout.specs.Words.{word, Within}
-use Rattle.table.specs.Links.{Linked}
+use Rattle.layout.proofs.Frames.{frame-wider, within-frame}
 use Rattle.table.proofs.Linked.{linked-same}
-use Rattle.ranks.specs.Ranks.{Ranked, Tabled}
+use Rattle.ranks.specs.Ranks.{Tabled}
 use Rattle.test_bits.specs.Columns.{held}
 use Rattle.driver.specs.Tasks.{Scene, Apart}
 
@@ -35,18 +34,11 @@ scratch-room n h =
     digits (suc b) l = omega arith
 
 -- ── Apart ──
-pub apart-none : (n : ℕ) (t : List ℕ) → Apart n t t
-apart-none n t = record { long = refl; front = λ i h. refl; behind = λ i h. refl }
-
-pub apart-then : {n : ℕ} {t t₁ t₂ : List ℕ} → Apart n t t₁ → Apart n t₁ t₂ → Apart n t t₂
-apart-then p q = record { long = q .long ∙ p .long; front = λ i h. q .front i h ∙ p .front i h; behind = λ i h. q .behind i h ∙ p .behind i h }
-
 pub within-apart : {n c d : ℕ} {t t′ : List ℕ} → 0 < n → COLUMNS ≤ c → d ≤ 192 → Within n c d t t′ → Apart n t t′
 within-apart {n} {c} {d} pos low high w =
     let r = scratch-room n pos in
-    let a : 16 * n ≤ c * n = mul-le-mul-right n low in
     let b : d * n ≤ 192 * n = mul-le-mul-right n high in
-    record { long = w .long; front = λ i h. w .front i (omega arith); behind = λ i h. w .behind i (omega arith) }
+    frame-wider (mul-le-mul-right n low) (omega arith) (within-frame w)
 
 -- ── What the table says ──
 pub word-apart : {n : ℕ} {t t′ : List ℕ} → Apart n t t′ → (c v : ℕ) → c < COLUMNS → v < n → word t′ n c v ≡ word t n c v

@@ -1,8 +1,8 @@
 -- The middle of the scratch, lent to the evaluator of a comparison: what it asks of it, and what it leaves. The end is told by the function that counts the words.
-use Prim.Native.Nat.{ℕ, suc, _+_, _-_, _*_, _≤_, _<_}
+use Prim.Native.Nat.{ℕ, _+_, _-_, _*_, _≤_}
 use native.Mathlib.Nat.{mul-comm, add-mul}
 use native.Mathlib.Omega.{arith}
-use mathlib.Core.Path.{_≡_, refl, sym, ap, _∙_, subst}
+use mathlib.Core.Path.{_≡_, sym, _∙_, subst}
 use mathlib.Core.List.{List, _++_}
 use lib.ListN.{length, take, drop}
 use lib.Seq.{slice}
@@ -28,7 +28,8 @@ use Rattle.evaluators.specs.declared.Evaluator.{Evaluator}
 use Rattle.staging.specs.Drawing.{Copied, Stayed, Judged}
 use Rattle.driver.specs.Tasks.{Scene, Task, Paths, Constant, Apart, Answers, Compares}
 use Rattle.layout.proofs.Frames.{within-none}
-use Rattle.driver.proofs.Frames.{scratch-room, scene-same, apart-then, within-apart}
+use Rattle.layout.proofs.Frames.{frame-then}
+use Rattle.driver.proofs.Frames.{scratch-room, scene-same, within-apart}
 use Rattle.driver.proofs.Parts.{part, part-long}
 use Rattle.driver.proofs.Answers.{some-nodes, drawn-apart, drawn-stage, answered}
 use Rattle.driver.proofs.Drawn.{judges}
@@ -103,7 +104,7 @@ module _ {s rule : List ℕ} {ns : List Node} {T : Test} {n at k : ℕ} {t : Lis
     (copied : Copied n t t₁) (stayed : Stayed n (m .brackets) numbers t₁ t₂) (judged : Judged ns n (h .sign) (slice start stop rule) t₂ t₃) (ends : b ≡ scratchWords n) where
   constant-apart : Apart n t t₃
   constant-apart =
-      apart-then (drawn-apart (h .task) (h .first) empty (among-alone h) (is-machine-alone h machined) (has-brackets-alone h numbered) copied stayed)
+      frame-then (drawn-apart (h .task) (h .first) empty (among-alone h) (is-machine-alone h machined) (has-brackets-alone h numbered) copied stayed)
       (within-apart (some-nodes (h .task)) (omega arith) (omega arith) (judged .within))
 
   constant-room : scratchWords n ≤ length t₃

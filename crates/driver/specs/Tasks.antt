@@ -4,7 +4,7 @@ use mathlib.Core.Path.{_≡_}
 use mathlib.Core.Logic.{_⊎_, _≢_, _↔_}
 use mathlib.Core.Bool.{true}
 use mathlib.Core.List.{List}
-use lib.ListN.{length, getD}
+use lib.ListN.{length}
 use lib.Seq.{slice}
 use Rattle.limits.specs.Limits.{scratchWords, ruleTests}
 use Rattle.xpath.specs.Syntax.{Op, Test, named, not, and, or, compare, compareTo, XPath}
@@ -16,7 +16,7 @@ use Rattle.document_spec.specs.Binary.{treeOf}
 use Rattle.document_spec.specs.Verdict as Document
 use Rattle.rule_spec.specs.Verdict as Rule
 use Rattle.layout.specs.Table.{COLUMNS, TESTS}
-use Rattle.layout.specs.Words.{word}
+use Rattle.layout.specs.Words.{word, Frame}
 use Rattle.table.specs.Links.{Linked}
 use Rattle.ranks.specs.Ranks.{Ranked}
 use Rattle.rule_parts.specs.Standing.{TestAt, PathAt}
@@ -86,10 +86,8 @@ pub record Constant (s rule : List ℕ) (ns : List Node) (T : Test) (n at k : �
   pub inside : stop ≤ length rule
 
 -- only the part behind the tree's own words may be different
-pub record Apart (n : ℕ) (t t′ : List ℕ) : Type 0 where
-  pub long : length t′ ≡ length t
-  pub front : (i : ℕ) → i < COLUMNS * n → getD t′ i 0 ≡ getD t i 0
-  pub behind : (i : ℕ) → scratchWords n ≤ i → getD t′ i 0 ≡ getD t i 0
+abbrev pub Apart : ℕ → List ℕ → List ℕ → Type 0
+Apart n t t′ = Frame (COLUMNS * n) (scratchWords n) t t′
 
 -- the comparison's answers stand in the first column of its part
 pub record Answers (ns : List Node) (n : ℕ) (T : Test) (t t′ : List ℕ) : Type 0 where
@@ -98,11 +96,9 @@ pub record Answers (ns : List Node) (n : ℕ) (T : Test) (t t′ : List ℕ) : T
 
 -- test k is settled; the tree and the other tests are as before, and so is all behind the scratch's own words
 pub record Decided (ns : List Node) (n k : ℕ) (T : Test) (t t′ : List ℕ) : Type 0 where
-  pub long : length t′ ≡ length t
   pub tells : Tells ns n k T t′
   pub others : (i v : ℕ) → i < ruleTests → i ≢ k → v < n → held t′ n i v ≡ held t n i v
-  pub front : (i : ℕ) → i < TESTS * n → getD t′ i 0 ≡ getD t i 0
-  pub behind : (i : ℕ) → scratchWords n ≤ i → getD t′ i 0 ≡ getD t i 0
+  pub frame : Frame (TESTS * n) (scratchWords n) t t′
 
 -- answered or settled by an evaluator, and the snippets of the test
 pub record Compares (e : Evaluator) (ns : List Node) (n : ℕ) (T : Test) (t t′ : List ℕ) (r : ℕ) : Type 0 where
@@ -115,10 +111,8 @@ pub record Settles (e : Evaluator) (ns : List Node) (n k : ℕ) (T : Test) (t t�
 
 -- all tests from k on are settled
 pub record Settling (ns : List Node) (n k : ℕ) (T : Test) (t t′ : List ℕ) : Type 0 where
-  pub long : length t′ ≡ length t
   pub tells : (i : ℕ) → k ≤ i → i < length (testsOf T) → Tells ns n i (test (testsOf T) i) t′
-  pub front : (i : ℕ) → i < TESTS * n → getD t′ i 0 ≡ getD t i 0
-  pub behind : (i : ℕ) → scratchWords n ≤ i → getD t′ i 0 ≡ getD t i 0
+  pub frame : Frame (TESTS * n) (scratchWords n) t t′
 
 -- the snippets of a list of tests, added
 abbrev pub Total : Evaluator → Tree → List Test → ℕ → Type 0

@@ -95,7 +95,7 @@ module _ (t marks : List ℕ) {document rule : List ℕ} {ns : List Node} {T : T
         settled = settle ns T scene (a .test) .settling
 
         behind : Kept (scratchWords n) t t₃
-        behind = frame-then behind-table (record { long = settled .long; front = λ k h. absurd (omega arith); behind = settled .behind })
+        behind = frame-then behind-table (frame-wider (omega arith) (omega arith) (settled .frame))
 
         pub settled-room : Room n t₃
         settled-room = let h = room in let e = behind .long in omega arith
@@ -127,8 +127,8 @@ module _ (t marks : List ℕ) {document rule : List ℕ} {ns : List Node} {T : T
             selected = number-same told (marked .count);
             snippets = total-count e c (settle ns T scene (a .test) .total);
             marked = λ v l. let r : v < n = omega arith in mark-told (held t₃ n 0 v) (getD marks′ v 0) (bit-told v r) (marked .marked v r);
-            laterMarks = rw size (marked .later);
-            asManyMarks = marked .long;
+            laterMarks = rw size (kept-drop (marked .kept));
+            asManyMarks = marked .kept .long;
             cleared = rw (size, sym words) (cleared .0);
             laterWords = rw size (subst (λ l. drop l t₄ ≡ drop l t₃) words (cleared .1) ∙ kept-drop behind);
           }

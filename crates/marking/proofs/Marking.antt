@@ -4,12 +4,14 @@ use mathlib.Core.Path.{_≡_, refl, sym, ap, _∙_, subst}
 use mathlib.Core.Logic.{_⊎_, inl, inr}
 use mathlib.Core.Bool.{Bool, true, false, false≢true}
 use mathlib.Core.List.{List, [], _∷_}
-use lib.ListN.{length, getD, drop, set, length-set}
-use lib.Seq.{getD-set-same, getD-set-other, drop-set-lt}
+use lib.ListN.{length, getD, set, length-set}
+use lib.Seq.{getD-set-same, getD-set-other}
 use native.Mathlib.Omega.{arith}
 use mir.Val.{boolByte}
 use native.Mathlib.Decide.{ℕ-discrete}
 use Rattle.lists.specs.Lists.{Number, Occurs}
+use Rattle.layout.specs.Words.{Kept}
+use Rattle.layout.proofs.Frames.{frame-none, frame-then}
 use Rattle.ranks.specs.Ranks.{one}
 use Rattle.test_bits.specs.Columns.{held}
 use Rattle.marking.specs.Marking.{Marked}
@@ -70,31 +72,28 @@ byte-small false = omega arith
 pub record Marking (n i c : ℕ) (t before after : List ℕ) : Type 0 where
   pub inside : i ≤ n
   pub few : c ≤ i
-  pub long : length after ≡ length before
   pub marked : (v : ℕ) → v < i → getD after v 0 ≡ one (held t n 0 v)
-  pub later : drop n after ≡ drop n before
+  pub kept : Kept n before after
   pub count : Number (Passing (λ v. held t n 0 v) i) c
 
 pub marking-none : (n : ℕ) (t marks : List ℕ) → Marking n 0 0 t marks marks
 marking-none n t marks = record {
   inside = omega arith;
   few = omega arith;
-  long = refl;
   marked = λ v l. absurd (omega arith);
-  later = refl;
+  kept = frame-none marks;
   count = passing-none (λ v. held t n 0 v);
 }
 
 pub marking-step : {n i c : ℕ} {t before after : List ℕ} → n ≤ length before → Marking n i c t before after → i < n
     → {b : Bool} → b ≡ held t n 0 i → Marking n (i + 1) (c + boolByte b) t before (set after i (boolByte b))
 marking-step {n} {i} {c} {t} {before} {after} room m l {b} q =
-    let long = m .long in let few = m .few in let small = byte-small b in
+    let few = m .few in let small = byte-small b in
     record {
       inside = omega arith;
       few = omega arith;
-      long = length-set after i (boolByte b) ∙ long;
       marked = λ v h. here v h (ℕ-discrete v i);
-      later = drop-set-lt n after i (boolByte b) l ∙ m .later;
+      kept = frame-then (m .kept) (record { long = length-set after i (boolByte b); front = λ k h. absurd (omega arith); behind = λ k h. getD-set-other after i k (boolByte b) 0 (omega arith) });
       count = rw value (passing-step (λ v. held t n 0 v) i c (m .count));
     }
   where
@@ -102,7 +101,7 @@ marking-step {n} {i} {c} {t} {before} {after} room m l {b} q =
     value = byte-one b ∙ ap one q
 
     here : (v : ℕ) → v < i + 1 → Dec (v ≡ i) → getD (set after i (boolByte b)) v 0 ≡ one (held t n 0 v)
-    here v h (yes e) = let long = m .long in rw e (getD-set-same after i (boolByte b) 0 (omega arith) ∙ value)
+    here v h (yes e) = let long = m .kept .long in rw e (getD-set-same after i (boolByte b) 0 (omega arith) ∙ value)
     here v h (no f) = getD-set-other after i v (boolByte b) 0 f ∙ m .marked v (omega arith)
 
 pub marking-all : {n i c : ℕ} {t before after : List ℕ} → Marking n i c t before after → n ≤ i → Marked n t before after c
@@ -110,8 +109,7 @@ marking-all {n} {i} {c} {t} {before} {after} m l =
     let h = m .inside in
     let e : i ≡ n = omega arith in
     record {
-      long = m .long;
       marked = λ v r. m .marked v (omega arith);
-      later = m .later;
+      kept = m .kept;
       count = subst (λ j. Number (Passing (λ v. held t n 0 v) j) c) e (m .count);
     }

@@ -3,8 +3,9 @@ use Prim.Native.Nat.{ℕ, _<_}
 use mathlib.Core.Path.{_≡_}
 use mathlib.Core.Bool.{true}
 use mathlib.Core.List.{List}
-use lib.ListN.{length, getD, drop}
+use lib.ListN.{getD}
 use Rattle.lists.specs.Lists.{Number}
+use Rattle.layout.specs.Words.{Kept}
 use Rattle.ranks.specs.Ranks.{one}
 use Rattle.test_bits.specs.Columns.{held}
 
@@ -14,9 +15,8 @@ Told t n v = (v < n) × (held t n 0 v ≡ true)
 
 -- the first n marks tell test 0, and r is how many of them are 1
 pub record Marked (n : ℕ) (t before after : List ℕ) (r : ℕ) : Type 0 where
-  pub long : length after ≡ length before
   -- a mark is 1 where the test holds, and else 0
   pub marked : (v : ℕ) → v < n → getD after v 0 ≡ one (held t n 0 v)
   -- later marks are as before
-  pub later : drop n after ≡ drop n before
+  pub kept : Kept n before after
   pub count : Number (Told t n) r

@@ -12,6 +12,7 @@ use Rattle.bits.specs.Sets.{bit, is}
 use Rattle.document_spec.specs.Binary.{pick}
 use Rattle.layout.specs.Table.{TESTS}
 use Rattle.layout.specs.Words.{cell, word, Wrote}
+use Rattle.layout.proofs.Frames.{within-put}
 use Rattle.test_bits.specs.Columns.{held, Noted}
 
 -- two cells are one only in one column and for one node
@@ -26,14 +27,10 @@ one-cell n c d u v l r e = go (decLt c d) (decLt d c)
 pub noted : {n k v w r : ℕ} {b : Bool} {t t′ : List ℕ} → k < 64 → v < n → w ≡ word t n (TESTS + k / 16) v
     → ((i : ℕ) → bit r i ≡ pick (is i (k % 16)) b (bit w i)) → Wrote ((cell n (TESTS + k / 16) v, r) ∷ []) t t′ → Noted n k v b t t′
 noted {n} {k} {v} {w} {r} {b} {t} {t′} h l e f p =
-    let low : TESTS * n ≤ (TESTS + k / 16) * n = mul-le-mul-right n (omega arith) in
-    let high : (TESTS + k / 16) * n ≤ (TESTS + 3) * n = mul-le-mul-right n (omega arith) in
     record {
-      long = p .long;
       here = now ∙ ap (λ (x : Bool). pick x b (bit w (k % 16))) (eq-eqb (k % 16) (k % 16) refl);
       others = λ i u g m a. go i u g m a (ℕ-discrete (cell n (TESTS + i / 16) u) (cell n (TESTS + k / 16) v));
-      front = λ i g. p .other i (omega arith, tt);
-      behind = λ i g. p .other i (omega arith, tt);
+      within = within-put (omega arith) (omega arith) l p;
     }
   where
     now : held t′ n k v ≡ pick (is (k % 16) (k % 16)) b (bit w (k % 16))

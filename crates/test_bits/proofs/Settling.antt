@@ -1,32 +1,29 @@
 -- A pass over the nodes that writes bit k of each.
-use Prim.Native.Nat.{ℕ, suc, _+_, _*_, _≤_, _<_}
+use Prim.Native.Nat.{ℕ, suc, _+_, _≤_, _<_}
 use mathlib.Core.Path.{_≡_, refl, sym, _∙_, subst}
 use mathlib.Core.Logic.{_↔_}
 use mathlib.Core.Bool.{Bool, true}
 use mathlib.Core.List.{List}
 use native.Mathlib.Omega.{arith}
 use native.Mathlib.Decide.{ℕ-discrete}
-use lib.ListN.{length, getD}
 use Rattle.ranks.specs.Ranks.{Worked}
 use Rattle.layout.specs.Table.{TESTS}
-use Rattle.test_bits.specs.Columns.{held, Settled, Noted}
+use Rattle.layout.specs.Words.{Within}
+use Rattle.layout.proofs.Frames.{within-none, within-then, within-more}
+use Rattle.test_bits.specs.Columns.{testWords, held, Settled, Noted}
 
 -- bit k is written for the nodes below i, and all else is as before
 pub record Settling (n k : ℕ) (A : ℕ → Type 0) (i : ℕ) (t t′ : List ℕ) : Type 0 where
-  pub long : length t′ ≡ length t
   pub done : (v : ℕ) → v < i → (held t′ n k v ≡ true) ↔ A v
   pub others : (j v : ℕ) → j < 64 → v < n → ¬ ((j ≡ k) × (v < i)) → held t′ n j v ≡ held t n j v
-  pub front : (j : ℕ) → j < TESTS * n → getD t′ j 0 ≡ getD t j 0
-  pub behind : (j : ℕ) → (TESTS + 4) * n ≤ j → getD t′ j 0 ≡ getD t j 0
+  pub within : Within n TESTS (TESTS + testWords) t t′
 
 pub settling-none : (n k : ℕ) (A : ℕ → Type 0) (t : List ℕ) → Settling n k A 0 t t
 settling-none n k A t =
     record {
-      long = refl;
       done = λ v r. absurd (omega arith);
       others = λ j v l r a. refl;
-      front = λ j l. refl;
-      behind = λ j l. refl;
+      within = within-none t;
     }
 
 -- the node at hand has the bits that it had before the pass
@@ -37,11 +34,9 @@ pub settling-step : {n k : ℕ} {A : ℕ → Type 0} {i : ℕ} {b : Bool} {t t�
     → Settling n k A i t t₁ → (b ≡ true) ↔ A i → Noted n k i b t₁ t₂ → Settling n k A (suc i) t t₂
 settling-step {n} {k} {A} {i} {b} {t} {t₁} {t₂} h l g f p =
     record {
-      long = p .long ∙ g .long;
       done = λ v r. go v r (ℕ-discrete v i);
       others = λ j v m r a. p .others j v m r (λ z. let y = z .1 in a (z .0, omega arith)) ∙ g .others j v m r (λ z. let y = z .1 in a (z .0, omega arith));
-      front = λ j m. p .front j m ∙ g .front j m;
-      behind = λ j m. p .behind j m ∙ g .behind j m;
+      within = within-then (g .within) (p .within);
     }
   where
     go : (v : ℕ) → v < suc i → Dec (v ≡ i) → (held t₂ n k v ≡ true) ↔ A v
@@ -51,16 +46,11 @@ settling-step {n} {k} {A} {i} {b} {t} {t₁} {t₂} h l g f p =
 pub settling-all : {n k : ℕ} {A : ℕ → Type 0} {i : ℕ} {t t′ : List ℕ} → n ≤ i → Settling n k A i t t′ → Settled n k A t t′
 settling-all l g =
     record {
-      long = g .long;
       done = λ v r. g .done v (omega arith);
       others = λ j v m d r. g .others j v m r (λ z. d (z .0));
-      front = g .front;
-      behind = g .behind;
+      within = g .within;
     }
 
--- ── The tree's own columns are not touched: while a pass runs, and by a whole one ──
+-- while a pass runs the tree's own columns are not touched
 pub settling-worked : {n k : ℕ} {A : ℕ → Type 0} {i : ℕ} {t t′ : List ℕ} → Settling n k A i t t′ → Worked n t t′
-settling-worked g = record { long = g .long; front = λ j l. g .front j (omega arith); behind = λ j l. g .behind j (omega arith) }
-
-pub settled-worked : {n k : ℕ} {A : ℕ → Type 0} {t t′ : List ℕ} → Settled n k A t t′ → Worked n t t′
-settled-worked g = record { long = g .long; front = λ j l. g .front j (omega arith); behind = λ j l. g .behind j (omega arith) }
+settling-worked g = within-more (omega arith) (omega arith) (g .within)

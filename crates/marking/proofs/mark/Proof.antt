@@ -21,7 +21,7 @@ cast-marks : tie.Need-cast-marks Inv-loop μ-loop
 cast-marks c = tt
 
 slice-write-marks : tie.Need-slice-write-marks Inv-loop μ-loop
-slice-write-marks c = let e = c .before .before .loop .inv .long in let r = c .before .before .before .before .before .pre .1 in omega arith
+slice-write-marks c = let e = c .before .before .loop .inv .kept .long in let r = c .before .before .before .before .before .pre .1 in omega arith
 
 cast-count : tie.Need-cast-count Inv-loop μ-loop
 cast-count c = tt
@@ -39,7 +39,7 @@ loop-again : tie.Need-loop-again Inv-loop μ-loop
 loop-again c = marking-step (c .before .before .before .before .before .pre .1) (c .before .before .loop .inv) (c .before .loop-test .taken) (c .holds .ensures)
 
 same-length : tie.Need-same-length Inv-loop μ-loop
-same-length c = c .before .loop .inv .long
+same-length c = c .before .loop .inv .kept .long
 
 returns : tie.Need-returns Inv-loop μ-loop
 returns c = marking-all (c .before .loop .inv) (c .loop-test .left)

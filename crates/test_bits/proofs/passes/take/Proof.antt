@@ -20,19 +20,19 @@ loop-holds : tie.Need-loop-holds Inv-loop μ-loop
 loop-holds c = settling-none _ _ _ _
 
 mul-x : tie.Need-mul-x Inv-loop μ-loop
-mul-x c = let l = c .before .loop .inv .long in omega arith
+mul-x c = let l = c .before .loop .inv .within .long in omega arith
 
 add-x : tie.Need-add-x Inv-loop μ-loop
-add-x c = let l = c .before .loop .inv .long in omega arith
+add-x c = let l = c .before .loop .inv .within .long in omega arith
 
 mul-x-2 : tie.Need-mul-x-2 Inv-loop μ-loop
-mul-x-2 c = let l = c .before .loop .inv .long in omega arith
+mul-x-2 c = let l = c .before .loop .inv .within .long in omega arith
 
 slice-read-x : tie.Need-slice-read-x Inv-loop μ-loop
-slice-read-x c = let l = c .before .before .loop .inv .long in omega arith
+slice-read-x c = let l = c .before .before .loop .inv .within .long in omega arith
 
 note-requires : tie.Need-note-requires Inv-loop μ-loop
-note-requires c κs = let l = c .before .before .before .loop .inv .long in omega arith
+note-requires c κs = let l = c .before .before .before .loop .inv .within .long in omega arith
 
 add-v : tie.Need-add-v Inv-loop μ-loop
 add-v c = omega arith
@@ -44,11 +44,11 @@ loop-again : tie.Need-loop-again Inv-loop μ-loop
 loop-again c =
     let i = c .before .before .before .before .before .before in let x = i .before .before in let g = i .loop .inv in let l = c .before .before .before .before .before .loop-test .taken in
     rw add-one (settling-step (x .pre .0) l g
-    (told-one (g .behind (cell (x .args .n) COLUMNS (i .loop .v)) (omega arith)))
+    (told-one (g .within .behind (cell (x .args .n) COLUMNS (i .loop .v)) (omega arith)))
     (c .before .before .note .ensures))
 
 same-length : tie.Need-same-length Inv-loop μ-loop
-same-length c = c .before .loop .inv .long
+same-length c = c .before .loop .inv .within .long
 
 returns : tie.Need-returns Inv-loop μ-loop
 returns c = settling-all (c .loop-test .left) (c .before .loop .inv)
