@@ -22,7 +22,7 @@ enum-known-c c = search needs
 returns : tie.Need-returns
 returns c = λ n.
     let a = c .before .before .before .args in
-    halted (a .s .now) (operand n) (quoted constantBytes) (a .at) (a .at + 1) (constant-halts (a .s .now) (c .before .before .before .pre .0) n) (a .k) (a .k) (a .t) (a .t) (c .before .quoted-bytes .result) (c .match .keys2) (c .before .quoted-bytes .ensures)
+    halted (constant-halts (a .s .now) (c .before .before .before .pre .0) n) (a .k) (a .k) (a .t) (a .t) (c .before .quoted-bytes .result) (c .match .keys2) (c .before .quoted-bytes .ensures)
 
 closing-requires : tie.Need-closing-requires
 closing-requires c κs =
