@@ -3,7 +3,8 @@ pub mod Joins
 pub mod Places
 pub mod Words
 pub mod Halted
-pub mod Firsts
+pub mod Calls
+pub mod FirstBytes
 pub mod Tests
 pub mod Paths
 pub mod Operands
