@@ -1,4 +1,4 @@
--- The readers of paths: what they may conclude from what stands inside.
+-- The readers of paths conclude as the machine does from what stands inside: steps, `*P`, `.PP`, `+PP` and `[T]`.
 use Prim.Native.Nat.{ℕ, suc, _+_, _≤_}
 use native.Mathlib.Omega.{arith}
 use native.Mathlib.Numerals.{add-one}

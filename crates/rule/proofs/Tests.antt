@@ -1,4 +1,4 @@
--- The readers of tests: what they may conclude from what stands inside.
+-- The readers of tests conclude as the machine does from what stands inside: `:name`, `!T`, `&TT`, `|TT` and comparisons.
 use Prim.Native.Nat.{ℕ, suc, _+_}
 use native.Mathlib.Omega.{arith}
 use native.Mathlib.Numerals.{add-one}
@@ -23,7 +23,7 @@ use Rattle.rule.proofs.Tallied.{tallied-append, weighed-last}
 use Rattle.rule.proofs.Halted.{back}
 use Rattle.rule.proofs.Joins.{Lead, LeadParts, lead-reads, Fork, ForkParts, first-halts, second-halts, both, fork-reads, back-as}
 
--- the part that begins at i
+-- ── The part that begins at i ──
 abbrev pub only : ℕ → Sort → ℕ → List Part
 only n x i = record { offset = i; nesting = n; sort = x } ∷ []
 

@@ -1,4 +1,4 @@
--- Bytes, names, constants and signs, as the machine reads them.
+-- Bytes, names, constants and signs: what the readers of `rule::tokens` conclude is what the machine does with them.
 use Prim.Native.Nat.{ℕ, zero, suc, _+_, _-_, _≤_, _<_}
 use native.Mathlib.Omega.{arith}
 use native.Mathlib.Numerals.{add-one}
@@ -31,7 +31,7 @@ use Rattle.rule.specs.Readers.{Lacks, Stands, Back, Halts, StuckAt, Read
 use Rattle.rule.proofs.Joins.{Fork, ForkParts, leaf-back, first-halts, fork-reads}
 use Rattle.rule.proofs.Places.{stands-at, stands-cons, at-end, stuck-end, stuck-at, turns-here, turns-then, turns-byte, turns-halts, turns-returns}
 
--- the classes of bytes that the fields of lines and the names of rules share
+-- ── The classes of bytes that the fields of lines and the names of rules share ──
 and-is : (x y : Bool) → (x && y) ≡ choose x y false
 and-is true y = refl
 and-is false y = refl
@@ -254,7 +254,7 @@ module _ (s : List ℕ) where
     turns = λ n. subst (Turns s (signed n) (operand n) (λ w. (eq, w)) i) (sym (add-one i)) (turns-byte s (signed n) (operand n) (λ w. (eq, w)) h (λ st. refl));
   }
 
-  -- behind < or > an operand is due unless = stands there
+  -- ── < > <= >=: behind the first byte an operand is due unless = stands there ──
   no-equal : (n : ℕ) {i : ℕ} → Lacks 61 (drop i s) → Turns s (orEqual n) (operand n) (λ w. (false, w)) i i
   unfolding over rest
   no-equal n {i} h = record { turns = λ st f ks. go (drop i s) h st f ks }
@@ -300,7 +300,7 @@ module _ (s : List ℕ) where
     order-alone l =
         ⊎-elim (λ e. (lt, without-equal (stands-at s h e) le lt (refl, refl) (λ n st. refl) l)) (λ e. (gt, without-equal (stands-at s h e) ge gt (refl, refl) (λ n st. refl) l)) b
 
-  -- a lone ! is no sign
+  -- ── != and a lone !, which is no sign ──
   unequal-fork : (n : ℕ) → Fork (signed n) (byte 61) (operand n) 33 none
   unfolding move
   unequal-fork n = record { join = λ u w. (ne, w); moves = λ st. refl }
@@ -321,6 +321,7 @@ module _ (s : List ℕ) where
         (record { turns = λ st f ks. rw (h .here, subst (λ j. Stands s j 61) (add-one i) e .here) refl });
   }
 
+  -- ── No sign ──
   pub no-sign : {i b : ℕ} → Stands s i b → b ≢ 61 → b ≢ 33 → b ≢ 60 → b ≢ 62 → (n : ℕ) → StuckAt s i (signed n) i
   unfolding move
   no-sign {i} {b} h p q r t n = stuck-at s h (λ st. rw (ne-eqb b 61 p, ne-eqb b 33 q, ne-eqb b 60 r, ne-eqb b 62 t) refl)

@@ -1,5 +1,5 @@
 -- `rule::readers`: `comparison`, `read_path`, `read_test`, `second_operand` and `signed_operand` meet their contracts.
--- What is left of the rule falls from call to call. What each reader leaves to be shown is answered in the order of its code.
+-- What is left of the rule falls from call to call. What each reader leaves to be shown is answered in the order of its code: a sum fits, a call gets what it asks, an answer is right.
 use Prim.Native.Nat.{ℕ, _+_, _-_, _*_, _<_}
 use native.Mathlib.Omega.{arith}
 use mathlib.Core.Path.{_≡_, subst}
@@ -42,7 +42,7 @@ use Rattle.rule.proofs.readers.+comparison+read_path+read_test+second_o
 use Rattle.rule.proofs.readers.+comparison+read_path+read_test+second_operand+signed_operand.Tie.{close}
 
 -- ── What is left of the rule ──
--- of two readers at one offset the one that calls the other has 1 more
+-- all five readers have the same parameters; of two at one offset the one that calls the other has 1 more
 abbrev left : ℕ → Measures 1 kinds.ps ℕ
 left m κs a = 2 * (length (a .0 .now) - a .1 .0) + m
 
@@ -85,7 +85,7 @@ module _ {t : ℕ} (c : read-path-lts.After-path-head (read-path-calls t) (run 0
   path-fits = path-room (c .before .before .pre .1) h path-begins
 
 -- ── The readers ──
--- in an answer z is where its reader starts, h where the head is known, e where the arm is, y behind the first call and d behind the second
+-- The places in an answer: z where the reader starts, h where the head is known, u where the test has begun, e in the arm, y behind the first call, d behind the second; r, p, q and o where a call's answer is told.
 pub +comparison+read-path+read-test+second-operand+signed-operand-spec : {M : Type 1} → statement M
 +comparison+read-path+read-test+second-operand+signed-operand-spec =
     close (left 0) (left 0) (left 1) (left 1) (left 1)
