@@ -1,7 +1,10 @@
 pub mod Tallied
 pub mod Joins
 pub mod Places
-pub mod Words
+pub mod Bytes
+pub mod Names
+pub mod Constants
+pub mod Signs
 pub mod Halted
 pub mod Calls
 pub mod FirstBytes

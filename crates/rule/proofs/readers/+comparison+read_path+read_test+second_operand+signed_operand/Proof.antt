@@ -14,7 +14,7 @@ use Rattle.rule.specs.Readers.{Stands, Stood, SignRead}
 use Rattle.rule.specs.Heads.{TestBegins, PathBegins}
 use Rattle.rule.proofs.Calls.{due, TestRoom, test-room, PathRoom, path-room}
 use Rattle.rule.proofs.Halted.{back, halted}
-use Rattle.rule.proofs.Words.{sign-forth}
+use Rattle.rule.proofs.Signs.{sign-forth}
 use Rattle.rule.proofs.Tests as tests
 use Rattle.rule.proofs.Paths as paths
 use Rattle.rule.proofs.Operands.{operand-halts, operand-reads, signed-reads}

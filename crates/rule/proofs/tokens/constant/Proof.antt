@@ -3,7 +3,7 @@ use Prim.Native.Nat.{_+_}
 use Rattle.limits.specs.Limits.{constantBytes}
 use Rattle.rule_spec.specs.Machine.{quoted}
 use Rattle.rule.proofs.Halted.{back, halted}
-use Rattle.rule.proofs.Words.{constant-halts, constant-reads}
+use Rattle.rule.proofs.Constants.{constant-halts, constant-reads}
 use borrow.Author.Needs.{needs}
 use Rattle.rule.proofs.tokens.constant.Statement.{statement}
 use Rattle.rule.proofs.tokens.constant.Tie as tie

@@ -6,7 +6,7 @@ use mathlib.Core.Logic.{inl, inr}
 use Rattle.xpath.specs.Syntax.{eq, ne}
 use Rattle.rule.specs.Readers.{Stood}
 use Rattle.rule.proofs.Places.{stands-at}
-use Rattle.rule.proofs.Words.{equal-sign, unequal-sign, unequal-stuck, order-equal, order-alone, no-sign, no-sign-end}
+use Rattle.rule.proofs.Signs.{equal-sign, unequal-sign, unequal-stuck, order-equal, order-alone, no-sign, no-sign-end}
 use borrow.Author.Needs.{needs}
 use Rattle.rule.proofs.tokens.read_sign.Statement.{statement}
 use Rattle.rule.proofs.tokens.read_sign.Tie as tie
