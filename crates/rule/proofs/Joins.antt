@@ -1,4 +1,4 @@
--- What a reader may conclude of a symbol from what its first byte leads to.
+-- What a reader may conclude of a symbol from what its first byte leads to: that it is read, or that reading ends in it.
 use Prim.Native.Nat.{ℕ, suc, _+_, _≤_, _<_}
 use native.Mathlib.Omega.{arith}
 use mathlib.Core.Path.{_≡_, refl, sym, ap, ap₂, _∙_, subst}
@@ -43,7 +43,7 @@ pub record ForkParts (new : ℕ → List Part) (m : ℕ) (x y z : Symbol) (join 
   pub size : (v : Value y) (w : Value z) → sizeOf x (join v w) ≡ m + (sizeOf y v + sizeOf z w)
 
 module _ (s : List ℕ) where
-  -- the parts may be told in another way
+  -- ── The parts may be told in another way ──
   pub back-as : {x : Symbol} {i k : ℕ} {t : Tally} {j l : ℕ} {u : Tally} (v : Value x) (ps : List Part) → partsOf x v i ≡ ps → i < j → j ≤ length s → j ≡ i + width x v
       → Shallow (keys ps) → Returns x v (keys ps) i (drop i s) j (drop j s) → l ≡ k + sizeOf x v → l ≤ j → u ≡ tallied t ps → Back s x i k t j l u
   back-as {x} {i} {t = t} {j = j} {u = u} v ps e forth inside long low c steps few kept = record {

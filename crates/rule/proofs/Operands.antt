@@ -1,4 +1,4 @@
--- The readers of a comparison behind its first path.
+-- The readers of a comparison behind its first path conclude as the machine does: a sign, and a path with the closing bracket.
 use Prim.Native.Nat.{ℕ}
 use native.Mathlib.Omega.{arith}
 use mathlib.Core.Path.{_≡_, refl, sym, ap, _∙_, subst, subst₂}

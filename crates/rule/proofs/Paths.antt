@@ -1,4 +1,4 @@
--- The readers of paths: what they may conclude from what stands inside.
+-- The readers of paths conclude as the machine does from what stands inside: steps, `*P`, `.PP`, `+PP` and `[T]`.
 use Prim.Native.Nat.{ℕ, suc, _+_, _≤_}
 use native.Mathlib.Omega.{arith}
 use native.Mathlib.Numerals.{add-one}
@@ -14,10 +14,12 @@ use Rattle.rule_spec.specs.Parts.{Sort, testParts, pathParts, stepParts}
 use Rattle.rule_spec.specs.Machine.{test, path, byte, Stack, move, Answer, Key}
 use Rattle.rule.specs.declared.tally.Tally.{Tally}
 use Rattle.rule.specs.declared.readers.Read.{Read}
+use Rattle.rule.specs.declared.readers.Read.the-variants.{Behind}
 use Rattle.rule.specs.declared.heads.PathHead.the-variants as head
 use Rattle.rule.specs.Tallies.{noted, tallied}
 use Rattle.rule.specs.Readers.{Stands, Back, Halts, Reading}
 use Rattle.rule.specs.Heads.{PathByte, PathBegins}
+use Rattle.rule.proofs.Halted.{back}
 use Rattle.rule.proofs.Joins.{leaf-back, Lead, LeadParts, lead-reads, Fork, ForkParts, first-halts, fork-reads}
 use Rattle.rule.proofs.Tests.{only}
 
@@ -89,6 +91,7 @@ bracket-parts n = record {
   size = λ T u. refl;
 }
 
+-- ── What the reader of a path concludes ──
 module _ (s : List ℕ) {i n : ℕ} where
   pub star-reads : PathBegins s i n head.Star → (k : ℕ) (t : Tally) (r : Read) → Reading s (path (n + 1)) (i + 1) k t r → Reading s (path n) i k t r
   unfolding star-lead noted tallied
@@ -101,12 +104,12 @@ module _ (s : List ℕ) {i n : ℕ} where
       let d′ = subst₂ (λ m j. Halts s E (path m) j) (add-one n) (add-one i) d in
       ⊎-elim (λ e. first-halts s (some n) (subst (Stands s i) e h) (l, tt) (union-fork n) E d′) (λ e. first-halts s (some n) (subst (Stands s i) e h) (l, tt) (seq-fork n) E d′) e
 
-  pub two-reads : PathBegins s i n head.TwoPaths → (k : ℕ) (t : Tally) {j l : ℕ} {u : Tally} → Back s (path (n + 1)) (i + 1) k t j l u
+  pub two-reads : PathBegins s i n head.TwoPaths → (k : ℕ) (t : Tally) {f : Read} {j l : ℕ} {u : Tally} → f ≡ Behind j l u → Reading s (path (n + 1)) (i + 1) k t f
       → (r : Read) → Reading s (path (n + 1)) j l u r → Reading s (path n) i k t r
   unfolding seq-fork union-fork noted tallied
-  two-reads (b, e, h, low) k t {j} {l} {u} c r d =
+  two-reads (b, e, h, low) k t {j = j} {l = l} {u = u} told c r d =
       let same : k ≡ k + 0 = omega arith in
-      let c′ = subst₂ (λ m a. Back s (path m) (suc i) a t j l u) (add-one n) same (subst (λ a. Back s (path (n + 1)) a k t j l u) (add-one i) c) in
+      let c′ = subst₂ (λ m a. Back s (path m) (suc i) a t j l u) (add-one n) same (subst (λ a. Back s (path (n + 1)) a k t j l u) (add-one i) (back s (path (n + 1)) (i + 1) k t told c)) in
       let d′ = subst (λ m. Reading s (path m) j l u r) (add-one n) d in
       ⊎-elim (λ e. fork-reads s (some n) (subst (Stands s i) e h) (low, tt) (union-fork n) (only n Sort.path) refl 0 (union-parts n) k t c′ r d′)
       (λ e. fork-reads s (some n) (subst (Stands s i) e h) (low, tt) (seq-fork n) (only n Sort.path) refl 0 (seq-parts n) k t c′ r d′) e
@@ -115,9 +118,9 @@ module _ (s : List ℕ) {i n : ℕ} where
   bracket-halts (b, e, h, l) E d =
       first-halts s (some n) (subst (Stands s i) e h) (l, tt) (bracket-fork n) E (subst₂ (λ m j. Halts s E (test m) j) (add-one n) (add-one i) d)
 
-  pub bracket-reads : PathBegins s i n head.Bracket → (k : ℕ) (t : Tally) {j l : ℕ} {u : Tally} → Back s (test (n + 1)) (i + 1) (k + 1) t j l u
+  pub bracket-reads : PathBegins s i n head.Bracket → (k : ℕ) (t : Tally) {f : Read} {j l : ℕ} {u : Tally} → f ≡ Behind j l u → Reading s (test (n + 1)) (i + 1) (k + 1) t f
       → (r : Read) → Reading s (byte 93) j l u r → Reading s (path n) i k t r
   unfolding bracket-fork noted tallied
-  bracket-reads (b, e, h, low) k t {j} {l} {u} c r d =
+  bracket-reads (b, e, h, low) k t {j = j} {l = l} {u = u} told c r d =
       fork-reads s (some n) (subst (Stands s i) e h) (low, tt) (bracket-fork n) (only n Sort.path) refl 1 (bracket-parts n) k t
-      (subst₂ (λ m a. Back s (test m) a (k + 1) t j l u) (add-one n) (add-one i) c) r d
+      (subst₂ (λ m a. Back s (test m) a (k + 1) t j l u) (add-one n) (add-one i) (back s (test (n + 1)) (i + 1) (k + 1) t told c)) r d

@@ -1,4 +1,4 @@
--- Laws of tallies: one list after another, and a comparison that is weighed when it ends.
+-- Laws of tallies: one list after another, what `rule::tally` and `within` compute, and a comparison that is weighed when it ends.
 use Prim.Native.Nat.{ℕ, zero, suc, _-_, _≤_, _<_, min}
 use native.Mathlib.Omega.{arith}
 use mathlib.Core.Path.{_≡_, refl, sym, ap, _∙_}
@@ -15,6 +15,7 @@ use Rattle.rule.specs.declared.Verdict.the-variants.{Accepted, Tests, St
 use Rattle.rule.specs.Check.{judgedBy}
 use Rattle.rule.specs.Tallies.{nowhere, tally, crowds, begins, begun, heavier, weighed, noted, tallied}
 
+-- ── One list after another ──
 pub tallied-append : (ps qs : List Part) (t : Tally) → tallied t (ps ++ qs) ≡ tallied (tallied t ps) qs
 unfolding tallied
 tallied-append [] qs t = refl
@@ -57,6 +58,7 @@ module _ (t : Tally) (o m : ℕ) where
   pub weighed-here : comparisonSteps < m → o < t .heavy → tally (t .left) (t .crowded) o ≡ weighed t o m
   weighed-here h l = weighed-by o (let e = heavy-min h in omega arith)
 
+-- ── The verdict that a tally gives ──
 module _ (t : Tally) where
   pub within-tests : t .crowded < nowhere → Tests (t .crowded) ≡ judgedBy t
   within-tests h = sym (ap (λ b. choose b (Tests (t .crowded)) (choose (ltb (t .heavy) nowhere) (Steps (t .heavy)) Accepted)) (lt-ltb (t .crowded) nowhere h))

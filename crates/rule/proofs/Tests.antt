@@ -1,4 +1,4 @@
--- The readers of tests: what they may conclude from what stands inside.
+-- The readers of tests conclude as the machine does from what stands inside: `:name`, `!T`, `&TT`, `|TT` and comparisons.
 use Prim.Native.Nat.{ℕ, suc, _+_}
 use native.Mathlib.Omega.{arith}
 use native.Mathlib.Numerals.{add-one}
@@ -14,14 +14,16 @@ use Rattle.rule_spec.specs.Machine.{test, path, label, signed, move, comparing,
 use Rattle.rule_spec.specs.Readers.{spellOperand}
 use Rattle.rule.specs.declared.tally.Tally.{Tally}
 use Rattle.rule.specs.declared.readers.Read.{Read}
+use Rattle.rule.specs.declared.readers.Read.the-variants.{Behind}
 use Rattle.rule.specs.declared.heads.TestHead.the-variants.{Name, Not, TwoTests}
 use Rattle.rule.specs.Tallies.{begun, weighed, noted, tallied}
 use Rattle.rule.specs.Readers.{partsOf, sizeOf, Stands, Opened, Back, Halts, Reading}
 use Rattle.rule.specs.Heads.{TestBegins}
 use Rattle.rule.proofs.Tallied.{tallied-append, weighed-last}
+use Rattle.rule.proofs.Halted.{back}
 use Rattle.rule.proofs.Joins.{Lead, LeadParts, lead-reads, Fork, ForkParts, first-halts, second-halts, both, fork-reads, back-as}
 
--- the part that begins at i
+-- ── The part that begins at i ──
 abbrev pub only : ℕ → Sort → ℕ → List Part
 only n x i = record { offset = i; nesting = n; sort = x } ∷ []
 
@@ -80,29 +82,31 @@ compare-wide P o (inl Q) =
 compare-wide P o (inr c) =
     let a = length-append (spellPath P) (sign o ++ spellOperand (inr c)) in let b = length-append (sign o) (spellOperand (inr c)) in omega arith
 
+-- ── What the reader of a test concludes; t is the tally before the test, b the one in which it has begun ──
 module _ (s : List ℕ) {i n : ℕ} where
-  pub name-reads : TestBegins s i n Name → (k : ℕ) (t : Tally) (r : Read) → Reading s label (i + 1) k (begun t i) r → Reading s (test n) i k t r
+  pub name-reads : TestBegins s i n Name → (k : ℕ) (t : Tally) {b : Tally} → b ≡ begun t i → (r : Read) → Reading s label (i + 1) k b r → Reading s (test n) i k t r
   unfolding name-lead noted tallied
-  name-reads (b, e, h, l) k t r d =
+  name-reads (c, e, h, l) k t q r d =
       lead-reads s (some n) (subst (Stands s i) e h) (l, tt) (name-lead n) (only n Sort.test) refl (name-parts n) k t r
-      (subst (λ j. Reading s label j k (begun t i) r) (add-one i) d)
+      (subst₂ (λ j b. Reading s label j k b r) (add-one i) q d)
 
-  pub not-reads : TestBegins s i n Not → (k : ℕ) (t : Tally) (r : Read) → Reading s (test (n + 1)) (i + 1) k (begun t i) r → Reading s (test n) i k t r
+  pub not-reads : TestBegins s i n Not → (k : ℕ) (t : Tally) {b : Tally} → b ≡ begun t i → (r : Read) → Reading s (test (n + 1)) (i + 1) k b r → Reading s (test n) i k t r
   unfolding not-lead noted tallied
-  not-reads (b, e, h, l) k t r d =
+  not-reads (c, e, h, l) k t q r d =
       lead-reads s (some n) (subst (Stands s i) e h) (l, tt) (not-lead n) (only n Sort.test) refl (not-parts n) k t r
-      (subst₂ (λ m j. Reading s (test m) j k (begun t i) r) (add-one n) (add-one i) d)
+      (subst₂ (λ m j. Reading s (test m) j k (begun t i) r) (add-one n) (add-one i) (subst (λ b. Reading s (test (n + 1)) (i + 1) k b r) q d))
 
   pub two-halts : TestBegins s i n TwoTests → (E : List Key → Answer Test → Type 0) → Halts s E (test (n + 1)) (i + 1) → Halts s E (test n) i
   two-halts (b, e, h, l) E d =
       let d′ = subst₂ (λ m j. Halts s E (test m) j) (add-one n) (add-one i) d in
       ⊎-elim (λ e. first-halts s (some n) (subst (Stands s i) e h) (l, tt) (and-fork n) E d′) (λ e. first-halts s (some n) (subst (Stands s i) e h) (l, tt) (or-fork n) E d′) e
 
-  pub two-reads : TestBegins s i n TwoTests → (k : ℕ) (t : Tally) {j l : ℕ} {u : Tally} → Back s (test (n + 1)) (i + 1) k (begun t i) j l u
+  pub two-reads : TestBegins s i n TwoTests → (k : ℕ) (t : Tally) {b : Tally} → b ≡ begun t i → {f : Read} {j l : ℕ} {u : Tally} → f ≡ Behind j l u → Reading s (test (n + 1)) (i + 1) k b f
       → (r : Read) → Reading s (test (n + 1)) j l u r → Reading s (test n) i k t r
   unfolding and-fork or-fork noted tallied
-  two-reads (b, e, h, low) k t {j} {l} {u} c r d =
+  two-reads (x, e, h, low) k t {b} q {f} {j} {l} {u} told c r d =
       let same : k ≡ k + 0 = omega arith in
+      let c = back s (test (n + 1)) (i + 1) k (begun t i) told (subst (λ b. Reading s (test (n + 1)) (i + 1) k b f) q c) in
       let c′ = subst₂ (λ m a. Back s (test m) (suc i) a (begun t i) j l u) (add-one n) same (subst (λ a. Back s (test (n + 1)) a k (begun t i) j l u) (add-one i) c) in
       let d′ = subst (λ m. Reading s (test m) j l u r) (add-one n) d in
       ⊎-elim (λ e. fork-reads s (some n) (subst (Stands s i) e h) (low, tt) (and-fork n) (only n Sort.test) refl 0 (and-parts n) k t c′ r d′)
@@ -113,18 +117,20 @@ module _ (s : List ℕ) {i n : ℕ} where
     pub first-path : (E : List Key → Answer Test → Type 0) → Halts s E (path (n + 1)) (i + 1) → Halts s E (test n) i
     first-path E d = first-halts s (some n) (o .bracket) (o .nested, tt) (compare-fork n) E (subst₂ (λ m j. Halts s E (path m) j) (add-one n) (add-one i) d)
 
-    module _ (t : Tally) {j l : ℕ} {u : Tally} (c : Back s (path (n + 1)) (i + 1) 0 (begun t i) j l u) where
+    module _ (t : Tally) {b : Tally} (q : b ≡ begun t i) {f : Read} {j l : ℕ} {u : Tally} (told : f ≡ Behind j l u) (c : Reading s (path (n + 1)) (i + 1) 0 b f) where
       first-back : Back s (path (suc n)) (suc i) 0 (begun t i) j l u
-      first-back = subst₂ (λ m a. Back s (path m) a 0 (begun t i) j l u) (add-one n) (add-one i) c
+      first-back =
+          subst₂ (λ m a. Back s (path m) a 0 (begun t i) j l u) (add-one n) (add-one i)
+          (back s (path (n + 1)) (i + 1) 0 (begun t i) told (subst (λ b. Reading s (path (n + 1)) (i + 1) 0 b f) q c))
 
       pub rest-halts : (E : List Key → Answer Test → Type 0) → Halts s E (signed (n + 1)) j → Halts s E (test n) i
       rest-halts E d = second-halts s (some n) (o .bracket) (o .nested, tt) (compare-fork n) first-back E (subst (λ m. Halts s E (signed m) j) (add-one n) d)
 
-      pub compare-back : {j₂ m : ℕ} {v : Tally} → Back s (signed (n + 1)) j l u j₂ m v → Back s (test n) i k t j₂ k (weighed v i m)
+      pub compare-back : {g : Read} {j₂ m : ℕ} {v w : Tally} → g ≡ Behind j₂ m v → Reading s (signed (n + 1)) j l u g → w ≡ weighed v i m → Back s (test n) i k t j₂ k w
       unfolding compare-fork noted tallied
-      compare-back {j₂} {m} {v} d =
+      compare-back {j₂ = j₂} {m = m} {v = v} gave d heavy =
           let c′ = first-back in
-          let d′ = subst (λ x. Back s (signed x) j l u j₂ m v) (add-one n) d in
+          let d′ = subst (λ x. Back s (signed x) j l u j₂ m v) (add-one n) (back s (signed (n + 1)) j l u gave d) in
           let P = c′ .value in
           let w = d′ .value in
           let one = pathParts P (suc i) (suc n) in
@@ -141,4 +147,4 @@ module _ (s : List ℕ) {i n : ℕ} where
           back-as s (comparing P (w .0) (w .1)) (new ++ (one ++ two))
           (compare-parts P (w .0) (w .1) i n ∙ ap (λ a. new ++ (one ++ partsOf (signed (suc n)) w a)) (sym (c′ .long)))
           (omega arith) (d′ .inside) (omega arith) (q .shallow) (q .returns) (omega arith) (omega arith)
-          (ap₂ (λ x y. weighed x i y) whole sum ∙ weighed-last (one ++ two) (begun t i) i M)
+          (heavy ∙ ap₂ (λ x y. weighed x i y) whole sum ∙ weighed-last (one ++ two) (begun t i) i M)

@@ -1,4 +1,4 @@
--- The verdict on a rule from what the reader of its whole test answers.
+-- The verdict on a rule from what the reader of its whole test answers: it is the first ground of 01 in the written order, or the rule is accepted.
 use Prim.Native.Nat.{ℕ, _≤_, _<_}
 use native.Mathlib.Omega.{arith}
 use mathlib.Core.Path.{_≡_, refl, sym, ap, _∙_, subst}
@@ -37,6 +37,7 @@ use Rattle.rule.specs.Check.{Judged, judgedBy}
 use Rattle.rule.proofs.Places.{at-end}
 use Rattle.rule.proofs.Counted.{firstOr, crowded-is, test-occurs, Lowest, heavy-lowest}
 
+-- ── Grounds in the written order ──
 later : (a b : Refusal) → stage b < stage a → ¬ Earlier a b
 later a b h (inl g) = omega arith
 later a b h (inr g) = let e = g .0 in omega arith
@@ -47,6 +48,7 @@ settled-one C none h a b p q = absurd (h a p)
 settled-one C (some o) h a b p q = h .1 a p ∙ sym (h .1 b q)
 
 module _ (s : List ℕ) where
+  -- ── The first ground ──
   pub too-long : ruleBytes < length s → First (RuleGround s) ruleLength
   too-long h = record { applies = RuleGround.long h; first = earliest }
     where

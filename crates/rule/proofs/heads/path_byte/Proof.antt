@@ -1,5 +1,5 @@
 -- `rule::heads::path_byte` meets its contract.
-use Rattle.rule.proofs.Firsts.{no-path}
+use Rattle.rule.proofs.FirstBytes.{no-path}
 use borrow.Author.Needs.{needs}
 use Rattle.rule.proofs.heads.path_byte.Statement.{statement}
 use Rattle.rule.proofs.heads.path_byte.Tie as tie

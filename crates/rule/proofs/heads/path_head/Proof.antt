@@ -1,6 +1,6 @@
 -- `rule::heads::path_head` meets its contract.
 use native.Mathlib.Omega.{arith}
-use Rattle.rule.proofs.Firsts.{path-end, path-begins, path-stuck, path-met}
+use Rattle.rule.proofs.FirstBytes.{path-end, path-begins, path-stuck, path-met}
 use borrow.Author.Needs.{needs}
 use Rattle.rule.proofs.heads.path_head.Statement.{statement}
 use Rattle.rule.proofs.heads.path_head.Tie as tie

@@ -1,5 +1,5 @@
 -- `rule::heads::test_byte` meets its contract.
-use Rattle.rule.proofs.Firsts.{no-test}
+use Rattle.rule.proofs.FirstBytes.{no-test}
 use borrow.Author.Needs.{needs}
 use Rattle.rule.proofs.heads.test_byte.Statement.{statement}
 use Rattle.rule.proofs.heads.test_byte.Tie as tie

@@ -1,6 +1,6 @@
 -- `rule::heads::test_head` meets its contract.
 use native.Mathlib.Omega.{arith}
-use Rattle.rule.proofs.Firsts.{test-end, test-begins, test-stuck, test-met}
+use Rattle.rule.proofs.FirstBytes.{test-end, test-begins, test-stuck, test-met}
 use borrow.Author.Needs.{needs}
 use Rattle.rule.proofs.heads.test_head.Statement.{statement}
 use Rattle.rule.proofs.heads.test_head.Tie as tie

@@ -3,7 +3,7 @@ use native.Mathlib.Omega.{arith}
 use native.Mathlib.Numerals.{add-one}
 use mathlib.Core.Path.{subst}
 use Rattle.rule.specs.Readers.{Stood}
-use Rattle.rule.proofs.Words.{byte-back, byte-stuck}
+use Rattle.rule.proofs.Bytes.{byte-back, byte-stuck}
 use borrow.Author.Needs.{needs}
 use Rattle.rule.proofs.tokens.closing.Statement.{statement}
 use Rattle.rule.proofs.tokens.closing.Tie as tie

@@ -3,7 +3,7 @@ use native.Mathlib.Omega.{arith}
 use mathlib.Core.Path.{refl}
 use Rattle.rule_spec.specs.Machine.{rest}
 use Rattle.rule.proofs.Places.{at-end, stuck-end}
-use Rattle.rule.proofs.Words.{name-back, name-stuck}
+use Rattle.rule.proofs.Names.{name-back, name-stuck}
 use borrow.Author.Needs.{needs}
 use Rattle.rule.proofs.tokens.name.Statement.{statement}
 use Rattle.rule.proofs.tokens.name.Tie as tie

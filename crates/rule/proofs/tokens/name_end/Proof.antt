@@ -4,7 +4,7 @@ use lib.ListN.{length}
 use native.Mathlib.Omega.{arith}
 use mathlib.Core.Path.{refl, sym, _∙_}
 use borrow.Author.Tests.{not-true, not-false}
-use Rattle.rule.proofs.Words.{TailRun, tail-none, tail-more, tail-end, tail-full, tail-stops}
+use Rattle.rule.proofs.Names.{TailRun, tail-none, tail-more, tail-end, tail-full, tail-stops}
 use Rattle.rule.proofs.tokens.name_end.Statement.{statement}
 use Rattle.rule.proofs.tokens.name_end.Tie as tie
 

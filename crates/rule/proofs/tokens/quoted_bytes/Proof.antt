@@ -4,7 +4,7 @@ use lib.ListN.{length}
 use native.Mathlib.Omega.{arith}
 use mathlib.Core.Path.{refl, sym, _∙_}
 use borrow.Author.Tests.{not-true, not-false}
-use Rattle.rule.proofs.Words.{QuotedRun, quoted-none, quoted-more, quoted-ends, quoted-end, quoted-full, quoted-stops}
+use Rattle.rule.proofs.Constants.{QuotedRun, quoted-none, quoted-more, quoted-ends, quoted-end, quoted-full, quoted-stops}
 use Rattle.rule.proofs.tokens.quoted_bytes.Statement.{statement}
 use Rattle.rule.proofs.tokens.quoted_bytes.Tie as tie
 

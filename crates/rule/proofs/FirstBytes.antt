@@ -22,6 +22,7 @@ use Rattle.rule.proofs.heads.TestHead as test-head
 use Rattle.rule.proofs.heads.PathHead as path-head
 use Rattle.rule.proofs.Places.{stands-at, at-end, stuck-end, stuck-at}
 
+-- ── A byte that begins nothing ──
 pub no-test : (b : ℕ) → b ≢ 58 → b ≢ 33 → ¬ TestByte b TwoTests → b ≢ 40 → TestByte b NoTest
 unfolding move
 no-test b p q r t = λ n st. rw (ne-eqb b 58 p, ne-eqb b 33 q, ne-eqb b 38 (λ e. r (inl e)), ne-eqb b 124 (λ e. r (inr e)), ne-eqb b 40 t) refl
@@ -41,6 +42,7 @@ no-path b p q r t u = λ n st. rw (
 ) refl
 
 module _ (s : List ℕ) where
+  -- ── The end of the rule ──
   pub test-end : {i n : ℕ} → i ≡ length s → StuckAt s i (test n) i
   unfolding rest
   test-end e = stuck-end s (at-end s e) (λ st. refl)
