@@ -5,9 +5,9 @@ use mathlib.Core.Logic.{_⊎_}
 use mathlib.Core.Bool.{Bool, true}
 use mathlib.Core.List.{List}
 use lib.ListN.{length, getD}
-use Rattle.limits.specs.Limits.{documentNodes, positions}
+use Rattle.limits.specs.Limits.{documentNodes, positions, wordsPerDigit}
 use Rattle.bits.specs.Sets.{bit, one}
-use Rattle.layout.specs.Blocks.{downAt, upAt, snippetAt}
+use Rattle.layout.specs.Blocks.{downAt, upAt, snippetAt, BLOCKS}
 use Rattle.layout.specs.Part.{ANSWER, PAIRS, REST, pairAt}
 use Rattle.layout.specs.Table.{PARENT}
 use Rattle.layout.specs.Words.{word, Within}
@@ -17,7 +17,7 @@ use Rattle.settling.specs.Derived.{Turned, Over, MeetsBy, Sees, EndsAt, 
 -- the part has room for the matrices of exponent 0, and each node but the root has its parent before it
 pub record Ready (n : ℕ) (p : List ℕ) : Type 0 where
   pub few : n ≤ documentNodes
-  pub room : 176 * n ≤ length p
+  pub room : (BLOCKS + wordsPerDigit) * n ≤ length p
   pub parents : (v : ℕ) → 0 < v → v < n → word p n PARENT v < v
 
 -- ── One matrix ──

@@ -10,16 +10,18 @@ use machine::Machine;
 use rounds::spread;
 use seeds::seed;
 use start::start;
-ghost use Prim.Native.Nat.{_*_, _≤_};
+ghost use Prim.Native.Nat.{_*_, _≤_, _+_};
 ghost use lib.ListN.{length};
 ghost use Rattle.xpath.specs.Syntax.{XPath};
 ghost use Rattle.xpath.specs.Tree.{Tree};
 ghost use Rattle.loops.specs.Loops.{Stage};
+ghost use Rattle.limits.specs.Limits.{wordsPerDigit};
+ghost use Rattle.layout.specs.Blocks.{BLOCKS};
 ghost use Rattle.settling.specs.Settled.{Settled};
 
 // The answer of each node: whether the snippets of power 0 settle the comparison there.
 pub fn settle(p: &mut [u16], n: usize, m: Machine)
-    requires { ⌜ ((P R : XPath) × (t : Tree) × Stage P R t m n (now p)) × (176 * n ≤ length (now p)) ⌝ }
+    requires { ⌜ ((P R : XPath) × (t : Tree) × Stage P R t m n (now p)) × ((BLOCKS + wordsPerDigit) * n ≤ length (now p)) ⌝ }
     ensures { λ _. ⌜ Settled m n (now (p .entry)) (now (p .exit)) ⌝ }
 {
     start(p, n, m.last);
