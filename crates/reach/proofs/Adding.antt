@@ -18,7 +18,6 @@ pub spared-space : {n d : ℕ} {p q : List ℕ} → Spared n d p q → Space n p
 spared-space f s = let e = f .long in let r = s .room in record { some = s .some; few = s .few; room = omega arith }
 
 -- ── Additions ──
-
 -- what is seen already
 pub added-same : {R : ℕ → ℕ → Type 0} {n d len : ℕ} {p : List ℕ} → Work n len p → ((u j : ℕ) → u < n → j < 16 → R u j → Seen p n u j) → Added R n d len len p p
 added-same {n} {d} {p = p} work known =

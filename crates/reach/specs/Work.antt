@@ -53,8 +53,9 @@ pub record Spared (n d : ℕ) (p p′ : List ℕ) : Type 0 where
 -- the positions j at nodes u that R holds of were added to a list of len entries, which has len′ now
 pub record Added (R : ℕ → ℕ → Type 0) (n d len len′ : ℕ) (p p′ : List ℕ) : Type 0 where
   pub work : Work n len′ p′
+  -- what stands beside the list is as it was
   pub spared : Spared n d p p′
-  -- the entries that were there are as they were too
+  -- so are the entries that were there
   pub more : len ≤ len′
   pub nodes : (k : ℕ) → k < len → nodeOf p′ n k ≡ nodeOf p n k
   pub sets : (k : ℕ) → k < len → word p′ n POSITIONS k ≡ word p n POSITIONS k
