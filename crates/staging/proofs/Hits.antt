@@ -1,5 +1,5 @@
 -- The column that says where a value is in a relation to a constant.
-use Prim.Native.Nat.{ℕ, _*_, _≤_, _<_}
+use Prim.Native.Nat.{ℕ, _+_, _*_, _≤_, _<_}
 use mathlib.Core.Path.{_≡_, refl}
 use mathlib.Core.Logic.{_↔_}
 use mathlib.Core.List.{List}
@@ -8,7 +8,8 @@ use Rattle.xpath.specs.Syntax.{Op}
 use Rattle.xpath.specs.Meaning.{Rel}
 use Rattle.document_spec.specs.Library.{Node}
 use Rattle.document_spec.specs.Binary.{stringOf}
-use Rattle.layout.specs.Table.{RANK}
+use Rattle.layout.specs.Part.{HIT}
+use Rattle.layout.specs.Table.{COLUMNS, RANK}
 use Rattle.layout.specs.Words.{cell}
 use Rattle.rule_parts.specs.declared.kinds.Operator.{Operator}
 use Rattle.rule_parts.specs.Kinds.{operator}
@@ -22,9 +23,9 @@ abbrev pub Hits : List ℕ → ℕ → Place → Operator → ℕ → ℕ → Ty
 Hits t n p o v x = (ns : List Node) (q : Op) (c : List ℕ) → Placed ns n c t p → o ≡ operator q → (x ≡ 1) ↔ Rel q (stringOf ns v) c
 
 -- ── The ranks stand in a column before this one ──
-module _ {F : ℕ → ℕ → Type 0} {n m i : ℕ} {t t′ : List ℕ} (d : Drawn F (23 * n) m i t t′) where
+module _ {F : ℕ → ℕ → Type 0} {n m i : ℕ} {t t′ : List ℕ} (d : Drawn F ((COLUMNS + HIT) * n) m i t t′) where
   drawn-rank : (v : ℕ) → v < n → rank t′ n v ≡ rank t n v
-  drawn-rank v l = d .front (cell n RANK v) (omega arith)
+  drawn-rank v l = d .frame .front (cell n RANK v) (omega arith)
 
   drawn-placed : {ns : List Node} {c : List ℕ} {p : Place} → Placed ns n c t p → Placed ns n c t′ p
   drawn-placed h =
@@ -37,7 +38,7 @@ module _ {F : ℕ → ℕ → Type 0} {n m i : ℕ} {t t′ : List ℕ} (d : Dra
   pub hits-same : {p : Place} {o : Operator} {v x : ℕ} → Hits t′ n p o v x → Hits t n p o v x
   hits-same f ns q c h e = f ns q c (drawn-placed h) e
 
-pub hits-all : (n : ℕ) (p : Place) (o : Operator) {i : ℕ} {t t′ : List ℕ} → Drawn (Hits t n p o) (23 * n) n i t t′ → n ≤ i
+pub hits-all : (n : ℕ) (p : Place) (o : Operator) {i : ℕ} {t t′ : List ℕ} → Drawn (Hits t n p o) ((COLUMNS + HIT) * n) n i t t′ → n ≤ i
     → (ns : List Node) (q : Op) (c : List ℕ) → Placed ns n c t p → o ≡ operator q → Judged ns n q c t t′
 hits-all n p o d l ns q c h e =
-    record { within = drawn-within n 23 24 refl (omega arith) d; done = λ v r. d .done v (omega arith) ns q c h e }
+    record { within = drawn-within n (COLUMNS + HIT) (COLUMNS + HIT + 1) refl (omega arith) d; done = λ v r. d .done v (omega arith) ns q c h e }

@@ -15,7 +15,7 @@ abbrev pub Taken : List ℕ → ℕ → ℕ → ℕ → Type 0
 Taken t from k x = x ≡ getD t (from + k) 0
 
 pub taken-all : (n : ℕ) {i : ℕ} {t t′ : List ℕ} → Drawn (Taken t (LEFT * n)) (COLUMNS * n + LEFT * n) (4 * n) i t t′ → 4 * n ≤ i → Copied n t t′
-taken-all n {t} {t′} d l = record { within = drawn-within n 18 22 (omega arith) (omega arith) d; copied = go }
+taken-all n {t} {t′} d l = record { within = drawn-within n (COLUMNS + LEFT) (COLUMNS + RANK + 1) (omega arith) (omega arith) d; copied = go }
   where
     go : (c v : ℕ) → LEFT ≤ c → c ≤ RANK → v < n → word t′ n (COLUMNS + c) v ≡ word t n c v
     go c v low high r =

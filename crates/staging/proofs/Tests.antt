@@ -10,7 +10,8 @@ use lib.ListN.{getD}
 use borrow.Author.Tests.{eq-eqb, ne-eqb}
 use Rattle.bits.specs.Sets.{bit, or, and, is}
 use Rattle.bits.proofs.SetLaws.{bit-none}
-use Rattle.layout.specs.Table.{TESTS}
+use Rattle.layout.specs.Part.{STAYS}
+use Rattle.layout.specs.Table.{COLUMNS, TESTS}
 use Rattle.layout.specs.Words.{cell}
 use Rattle.test_bits.specs.Columns.{held}
 use Rattle.staging.specs.Drawing.{Stayed}
@@ -51,17 +52,17 @@ abbrev pub Gathers : List ℕ → ℕ → ℕ → List ℕ → ℕ → ℕ → T
 Gathers t n brackets numbers v x = (j : ℕ) → j < 16 → bit x j ≡ stays t n brackets numbers v j
 
 -- the tests are told by columns before this one
-held-same : (n k v : ℕ) (t t′ : List ℕ) → k < 64 → v < n → ((i : ℕ) → i < 22 * n → getD t′ i 0 ≡ getD t i 0) → held t′ n k v ≡ held t n k v
+held-same : (n k v : ℕ) (t t′ : List ℕ) → k < 64 → v < n → ((i : ℕ) → i < (COLUMNS + STAYS) * n → getD t′ i 0 ≡ getD t i 0) → held t′ n k v ≡ held t n k v
 held-same n k v t t′ h r same =
     let b : (TESTS + k / 16) * n ≤ 11 * n = mul-le-mul-right n (omega arith) in
     ap (λ (w : ℕ). bit w (k % 16)) (same (cell n (TESTS + k / 16) v) (omega arith))
 
 pub gathers-same : (n brackets : ℕ) (numbers t t′ : List ℕ) (v x : ℕ) {F : ℕ → ℕ → Type 0} {m i : ℕ} → ((j : ℕ) → j < 16 → getD numbers j 0 < 64) → v < n
-    → Drawn F (22 * n) m i t t′ → Gathers t′ n brackets numbers v x → Gathers t n brackets numbers v x
+    → Drawn F ((COLUMNS + STAYS) * n) m i t t′ → Gathers t′ n brackets numbers v x → Gathers t n brackets numbers v x
 gathers-same n brackets numbers t t′ v x small r d h =
-    λ j l. h j l ∙ ap (λ (b : Bool). and (bit brackets j) b) (held-same n (getD numbers j 0) v t t′ (small j l) r (d .front))
+    λ j l. h j l ∙ ap (λ (b : Bool). and (bit brackets j) b) (held-same n (getD numbers j 0) v t t′ (small j l) r (d .frame .front))
 
-pub gathers-all : (n brackets : ℕ) (numbers : List ℕ) {i : ℕ} {t t′ : List ℕ} → Drawn (Gathers t n brackets numbers) (22 * n) n i t t′ → n ≤ i
+pub gathers-all : (n brackets : ℕ) (numbers : List ℕ) {i : ℕ} {t t′ : List ℕ} → Drawn (Gathers t n brackets numbers) ((COLUMNS + STAYS) * n) n i t t′ → n ≤ i
     → Stayed n brackets numbers t t′
 gathers-all n brackets numbers d l =
-    record { within = drawn-within n 22 23 refl (omega arith) d; done = λ v j r h. d .done v (omega arith) j h }
+    record { within = drawn-within n (COLUMNS + STAYS) (COLUMNS + STAYS + 1) refl (omega arith) d; done = λ v j r h. d .done v (omega arith) j h }

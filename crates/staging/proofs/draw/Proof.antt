@@ -34,7 +34,7 @@ mul-t : tie.Need-mul-t Inv-loop μ-loop
 mul-t c = omega arith
 
 slice-read-t : tie.Need-slice-read-t Inv-loop μ-loop
-slice-read-t c = let e = c .before .before .loop .inv .long in omega arith
+slice-read-t c = let e = c .before .before .loop .inv .frame .long in omega arith
 
 add-t-2 : tie.Need-add-t-2 Inv-loop μ-loop
 add-t-2 c = omega arith
@@ -43,7 +43,7 @@ mul-t-2 : tie.Need-mul-t-2 Inv-loop μ-loop
 mul-t-2 c = omega arith
 
 slice-write-t : tie.Need-slice-write-t Inv-loop μ-loop
-slice-write-t c = let e = c .before .before .loop .inv .long in omega arith
+slice-write-t c = let e = c .before .before .loop .inv .frame .long in omega arith
 
 add-k : tie.Need-add-k Inv-loop μ-loop
 add-k c = omega arith
@@ -52,10 +52,10 @@ loop-less : tie.Need-loop-less Inv-loop μ-loop
 loop-less c = omega arith
 
 loop-again : tie.Need-loop-again Inv-loop μ-loop
-loop-again c = let x = c .before .before .before .args in let l = c .before .before .loop in drawn-step _ (l .inv) (omega arith) (c .before .loop-test .taken) (l .inv .front (2 * x .n + l .k) (omega arith))
+loop-again c = let x = c .before .before .before .args in let l = c .before .before .loop in drawn-step _ (l .inv) (omega arith) (c .before .loop-test .taken) (l .inv .frame .front (2 * x .n + l .k) (omega arith))
 
 same-length : tie.Need-same-length Inv-loop μ-loop
-same-length c = c .before .loop .inv .long
+same-length c = c .before .loop .inv .frame .long
 
 returns : tie.Need-returns Inv-loop μ-loop
 returns c = taken-all (c .before .before .args .n) (c .before .loop .inv) (c .loop-test .left)

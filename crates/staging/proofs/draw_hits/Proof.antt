@@ -23,7 +23,7 @@ loop-holds : tie.Need-loop-holds Inv-loop μ-loop
 loop-holds c = drawn-none _ _ _ _
 
 hit-requires : tie.Need-hit-requires Inv-loop μ-loop
-hit-requires c κs = let r = c .before .before .before .before .before .before .before .before .pre .1 in let e = c .before .before .loop .inv .long in (omega arith, c .before .loop-test .taken)
+hit-requires c κs = let r = c .before .before .before .before .before .before .before .before .pre .1 in let e = c .before .before .loop .inv .frame .long in (omega arith, c .before .loop-test .taken)
 
 add-t : tie.Need-add-t Inv-loop μ-loop
 add-t c = omega arith
@@ -32,7 +32,7 @@ mul-t : tie.Need-mul-t Inv-loop μ-loop
 mul-t c = omega arith
 
 slice-write-t : tie.Need-slice-write-t Inv-loop μ-loop
-slice-write-t c = let e = c .before .before .before .loop .inv .long in omega arith
+slice-write-t c = let e = c .before .before .before .loop .inv .frame .long in omega arith
 
 add-v : tie.Need-add-v Inv-loop μ-loop
 add-v c = omega arith
@@ -46,7 +46,7 @@ loop-again c =
     drawn-step (h .result) d (omega arith) (c .before .before .loop-test .taken) (hits-same d (h .ensures))
 
 same-length : tie.Need-same-length Inv-loop μ-loop
-same-length c = c .before .loop .inv .long
+same-length c = c .before .loop .inv .frame .long
 
 returns : tie.Need-returns Inv-loop μ-loop
 returns c =

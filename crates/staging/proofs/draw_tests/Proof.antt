@@ -19,7 +19,7 @@ loop-holds : tie.Need-loop-holds Inv-loop μ-loop
 loop-holds c = drawn-none _ _ _ _
 
 tests-at-requires : tie.Need-tests-at-requires Inv-loop μ-loop
-tests-at-requires c κs = let p = c .before .before .before .before .pre in let e = c .before .before .loop .inv .long in (omega arith, c .before .loop-test .taken, p .1)
+tests-at-requires c κs = let p = c .before .before .before .before .pre in let e = c .before .before .loop .inv .frame .long in (omega arith, c .before .loop-test .taken, p .1)
 
 add-t : tie.Need-add-t Inv-loop μ-loop
 add-t c = omega arith
@@ -28,7 +28,7 @@ mul-t : tie.Need-mul-t Inv-loop μ-loop
 mul-t c = omega arith
 
 slice-write-t : tie.Need-slice-write-t Inv-loop μ-loop
-slice-write-t c = let e = c .before .before .before .loop .inv .long in omega arith
+slice-write-t c = let e = c .before .before .before .loop .inv .frame .long in omega arith
 
 add-v : tie.Need-add-v Inv-loop μ-loop
 add-v c = omega arith
@@ -42,7 +42,7 @@ loop-again c =
     drawn-step (w .result) (l .inv) (omega arith) r (gathers-same (x .n) (x .brackets) (x .numbers) (x .t .now) (l .t) (l .v) (w .result) (c .before .before .before .before .before .pre .1) r (l .inv) (w .ensures))
 
 same-length : tie.Need-same-length Inv-loop μ-loop
-same-length c = c .before .loop .inv .long
+same-length c = c .before .loop .inv .frame .long
 
 returns : tie.Need-returns Inv-loop μ-loop
 returns c = let x = c .before .before .before .args in gathers-all (x .n) (x .brackets) (x .numbers) (c .before .loop .inv) (c .loop-test .left)
