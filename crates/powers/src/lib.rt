@@ -1,4 +1,4 @@
-// The powers of two along the tree: the node 2^k above a node, and which positions come to which between the two.
+// Binary lifting along the tree: the node 2^k above a node, for each power of two, and which positions come to which between the two.
 pub mod blocks;
 pub mod hops;
 mod passes;
