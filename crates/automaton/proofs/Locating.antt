@@ -21,6 +21,7 @@ use Rattle.automaton.specs.Compared.{TwoPaths}
 use Rattle.automaton.specs.Places.{Located, Locates, Places, PlacesAlone}
 use Rattle.automaton.proofs.Shapes.{Steps, Pairs, shaped, stepped, paired}
 
+-- ── Where a path ends, and the places of two paths ──
 -- where the path ends, and the number behind it
 pub spot-ends : {s : List ℕ} {at b : ℕ} {f g : List ℕ} {p : Spot} → Locates s at b f g p
     → (P : XPath) (j : ℕ) → PathAt s P at j → b + size P ≤ 16 → (p .next ≡ j) × (p .count ≡ b + size P)
@@ -37,6 +38,7 @@ both-placed {s} {A} {B} {b} {h = h} u v i t o = go (num-split (steps A) (steps B
         (k, subst (λ d. PathAt s (one t) d k) (sym (v .kept i (omega arith))) x)
     go (inr n) = v .places i t n
 
+-- ── What is told of the paths of a comparison ──
 module _ (s : List ℕ) (at behind : ℕ) {e f : List ℕ} {p : Spot} (one-path : Locates s at 1 e f p) where
   pub second-place : TwoPaths s at behind → Room s behind (p .count)
   second-place (P, R, j, k, a, b, l) = let n = one-path P j a (omega arith) .count in (R, k, b, omega arith)
@@ -53,6 +55,7 @@ alone-told s at {f = f} one-path P j a l i t o = go (num-split (steps P) [] 1 i 
     go (inl n) = one-path P j a (omega arith) .places i t n
     go (inr n) = absurd n
 
+-- ── A path's places by its kind ──
 module _ (s : List ℕ) {at : ℕ} {k : PathKind} (kind : (P : XPath) (j : ℕ) → PathAt s P at j → k ≡ pathKind P) {b : ℕ} where
   retold : {P X : XPath} {f g : List ℕ} {j : ℕ} {r : Spot} → P ≡ X → (PathAt s X at j → b + size X ≤ 16 → Located s X b f g j r)
       → PathAt s P at j → b + size P ≤ 16 → Located s P b f g j r

@@ -15,6 +15,7 @@ use borrow.Kind.Array.{eArr, eBool}
 use Rattle.bits.specs.Sets.{or, and, bit}
 use Rattle.bits.specs.Square.{cell}
 
+-- ── The rows of a square by value ──
 -- each row of an array of arrays by value has 16 cells
 pub row-long : (f : List (List Bool)) (us : List Val) → shadow (each (List Bool) ((eArr eBool 16) .ty .own) f us) → (i : ℕ) → i < length f → length (getD f i []) ≡ 16
 row-long [] us s i h = absurd (not-suc-le-zero h)
@@ -22,6 +23,7 @@ row-long (x ∷ xs) [] s i h = absurd s
 row-long (x ∷ xs) (u ∷ us) s zero h = s .0 .1 .0 .1
 row-long (x ∷ xs) (u ∷ us) s (suc i) h = row-long xs us (s .1) i (le-of-suc-le-suc h)
 
+-- ── Elements that are done one by one ──
 -- the elements below i are done by F, the others are as they were
 pub record Done {A : Type 0} (d : A) (F : ℕ → A → A) (l₀ : List A) (i : ℕ) (l : List A) : Type 0 where
   pub long : length l ≡ length l₀
@@ -51,6 +53,7 @@ module _ {A : Type 0} {d : A} {F : ℕ → A → A} {l₀ l : List A} {i : ℕ} 
 pub done-none : {A : Type 0} (d : A) (F : ℕ → A → A) (l : List A) → Done d F l 0 l
 done-none d F l = record { long = refl; done = λ k p. absurd (not-suc-le-zero p); rest = λ k p. refl }
 
+-- ── Or with true and with false ──
 pub or-true : (x : Bool) → true ≡ or x true
 or-true true = refl
 or-true false = refl
@@ -59,6 +62,7 @@ pub or-false : (x : Bool) → x ≡ or x false
 or-false true = refl
 or-false false = refl
 
+-- ── Rows that are joined one by one ──
 -- the rows below i have the members of b added where a has the row, the others are as they were
 pub record Joining (a b : ℕ) (f : List (List Bool)) (i : ℕ) (g : List (List Bool)) : Type 0 where
   pub long : length g ≡ 16

@@ -33,6 +33,7 @@ use Rattle.driver.proofs.Frames.{scene-tabled}
 use Rattle.driver.proofs.Answers.{some-nodes}
 use Rattle.driver.proofs.Settling.{decided}
 
+-- ── The shape of a test by its kind ──
 shape : (T : Test) → Shape (testKind T) T
 shape (named a) = (a, refl)
 shape (not T) = (T, refl)
@@ -44,6 +45,7 @@ shape (compareTo o P c) = inr (o, P, c, refl)
 pub shaped : {k l : TestKind} → k ≡ l → (T : Test) → k ≡ testKind T → Shape l T
 shaped e T h = subst (λ l. Shape l T) (sym h ∙ e) (shape T)
 
+-- ── Where a test stands ──
 -- the bytes that stand from i to j
 pub spans-slice : {s w : List ℕ} {i j : ℕ} → Spans s w i j → slice i j s ≡ w
 spans-slice {s} {w} {i} {j} h = let e = h .ends in let k = h .inside in subst (λ m. slice i m s ≡ w) (sym e) (slice-of s i w _ (omega arith) (h .spelled))
@@ -52,6 +54,7 @@ spans-slice {s} {w} {i} {j} h = let e = h .ends in let k = h .inside in subst (�
 pub test-begins : {s : List ℕ} {T : Test} {i j : ℕ} → TestAt s T i j → i < length s
 test-begins {T = T} h = let (b, u, f, g) = test-head T in let l = ap length f in let e = h .spans .ends in let k = h .spans .inside in omega arith
 
+-- ── The test that is due ──
 module _ {s rule : List ℕ} {ns : List Node} {T : Test} {n at k : ℕ} {t : List ℕ} (task : Task s rule ns T n at k t) where
   abbrev due : Test
   due = test (testsOf T) k
@@ -65,6 +68,7 @@ module _ {s rule : List ℕ} {ns : List Node} {T : Test} {n at k : ℕ} {t : Lis
   pub room : Room n t
   room = tabled .room
 
+  -- ── A name, and a test denied ──
   -- :name
   pub name-spans : Shape Named due → (at + 1 ≤ task .end) × (task .end ≤ length rule)
   unfolding spellTest
@@ -86,6 +90,7 @@ module _ {s rule : List ℕ} {ns : List Node} {T : Test} {n at k : ℕ} {t : Lis
   pub not-small : Shape Not due → k + 1 < 64
   not-small (U, e) = let (l, q) = inner-not T k e in let f = tests-few (task .accepts) in omega arith
 
+  -- ── Both of two tests, or either ──
   -- &TT and |TT: the second test has number b
   module _ {U W : Test} {b : ℕ} (second : b ≡ suc k + length (testsOf U)) where
     two-told : (due ≡ and U W) ⊎ (due ≡ or U W) → (k + 1 < 64) × (b < 64) × Tells ns n (k + 1) U t × Tells ns n b W t

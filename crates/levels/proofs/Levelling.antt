@@ -15,6 +15,7 @@ use Rattle.skeletons.specs.Shape.{Shape}
 use Rattle.skeletons.proofs.Shape.{shape-within, parent-of, parent-case}
 use Rattle.levels.specs.Levels.{Levelled}
 
+-- ── The levels so far ──
 -- a word of a node that a word tells
 pub known : (p : List ℕ) (n c : ℕ) {u v x : ℕ} → x ≡ word p n c u → u ≡ v → x ≡ word p n c v
 known p n c e f = e ∙ ap (λ (z : ℕ). word p n c z) f
@@ -32,6 +33,7 @@ pub record Levelling (n v r : ℕ) (p p′ : List ℕ) : Type 0 where
 pub some-nodes : {t : Tree} {n : ℕ} {p : List ℕ} → Shape t n p → 0 < n
 some-nodes s = let e = s .size in let h = s .formed .rooted in omega arith
 
+-- ── The root ──
 pub root-within : {n : ℕ} {p p₁ : List ℕ} → 0 < n → Wrote ((cell n LEVEL 0, 1) ∷ []) p p₁ → Within n LEVEL (suc LEVEL) p p₁
 root-within h w = within-put (omega arith) (omega arith) h w
 
@@ -49,6 +51,7 @@ levelling-root {n} {p} {p₁} h w = record {
     root : (u : ℕ) → u < 1 → word p₁ n LEVEL u ≡ 1
     root u l = let e : u ≡ 0 = omega arith in ap (λ (z : ℕ). word p₁ n LEVEL z) e ∙ w .here .0
 
+-- ── One node more ──
 -- the parent of a node that is not the root has its level
 pub parent-known : {t : Tree} {n v r : ℕ} {p p₁ : List ℕ} → Shape t n p → Levelling n v r p p₁ → v < n → (word p₁ n PARENT v < v) × (word p₁ n LEVEL (word p₁ n PARENT v) ≤ r)
 parent-known {t} {n} {v} {r} {p} {p₁} s g l = go (parent-case s v l)
@@ -95,6 +98,7 @@ levelling-step {t = t₀} {n} {v} {r} {l} {r′} {p} {p₁} {p₂} s₀ g node e
         omega arith
     way t s x y m i d (no q) = let k : y < v = omega arith in let a = before y k in let b = g .ways t s x y m k d in omega arith
 
+-- ── All nodes ──
 -- p is the part at first, p₁ with the root's level, and p₂ with all levels
 pub levelling-all : {n v r : ℕ} {p p₁ p₂ : List ℕ} → 0 < n → Wrote ((cell n LEVEL 0, 1) ∷ []) p p₁ → ¬ (v < n) → Levelling n v r p₁ p₂ → Levelled n p p₂ r
 levelling-all {n} {v} {r} {p} {p₁} {p₂} nodes w whole g = record {

@@ -18,6 +18,7 @@ use Rattle.loops.specs.Loops.{Stage}
 use Rattle.loops.specs.Closed.{Closed}
 use Rattle.loops.proofs.Sides.{goes-down, goes-up, goes-stay, child-side}
 
+-- ── Chains, and what a matrix relates ──
 module _ {P R : XPath} {t : Tree} {m : Machine} {n : ℕ} {p : List ℕ} (stage : Stage P R t m n p) (closed : Closed m n p) where
   abbrev C : ℕ → ℕ → ℕ → ℕ → Type 0
   C i v j w = Comes P R t i v j w
@@ -31,6 +32,7 @@ module _ {P R : XPath} {t : Tree} {m : Machine} {n : ℕ} {p : List ℕ} (stage 
   inside : {side : Bool} {v u : ℕ} → Child t side v u → u < n
   inside c = child-inside (stage .formed) (stage .machine) (stage .drawn) c
 
+  -- ── Chains that begin with an edge and take it back ──
   -- the matrices hold every chain of less than f steps from a node back to it
   abbrev Hold : ℕ → Type 0
   Hold f = (i v j w : ℕ) → v < n → i < 16 → j < 16 → v ≡ w → (c : C i v j w) → count P R t c < f → L v i j
@@ -76,6 +78,7 @@ module _ {P R : XPath} {t : Tree} {m : Machine} {n : ℕ} {p : List ℕ} (stage 
       }) in
       closed .transitive v i (z .to) k r l lto q there (hold (z .to) v k w r lto q e (z .after) (omega arith))
 
+  -- ── Every chain ──
   holds : (f : ℕ) → Hold f
   holds zero i v j w r l q e c h = absurd (omega arith)
   holds (suc f) i v j w r l q e Comes.here h = closed .reflexive v i r l

@@ -19,6 +19,7 @@ use Rattle.loops.proofs.Sides.{parent-before}
 use Rattle.loops.proofs.Sounds.{loops-of}
 use Rattle.loops.proofs.Grows.{grown-then}
 
+-- ── One pass after the other ──
 module _ {m : Machine} {n r s : ℕ} {p q q′ : List ℕ} where
   -- what holds where nothing changes holds of the start
   pub passed-then : (B : List ℕ → Type 0) → Grown m n p q r → Passed (B q) m n q q′ s → Passed (B p) m n p q′ (r + s)
@@ -35,6 +36,7 @@ module _ {m : Machine} {n r s : ℕ} {p q q′ : List ℕ} where
       go e (inl z) = subst (B p) (sym z) (passed-then (λ l. B l v) (a .grown) b .settled e)
       go e (inr x) = a .settled (omega arith) _ x
 
+-- ── Over all nodes, up and down ──
 -- from the last node up, and from the root down
 pub up-cover : {n v u : ℕ} → 0 < v → (v - 1 ≤ u) × (u < n) → (u ≡ v - 1) ⊎ ((v ≤ u) × (u < n))
 up-cover {n} {v} {u} some (h, l) = go (eq-or-lt-of-le h)
@@ -56,6 +58,7 @@ both-ways {m} {n} a b =
     let c = passed-then (λ l. Everywhere (Falls m n l) n) (a .grown) b in
     record { grown = c .grown; settled = λ e. (a .settled (omega arith), c .settled e) }
 
+-- ── What rounds can gain, and the last of them ──
 pub total-le : (n : ℕ) (p : List ℕ) → total n p ≤ 16 * (16 * n)
 total-le n p = pairs-le p (16 * n) (16 * n)
 
@@ -63,6 +66,7 @@ total-le n p = pairs-le p (16 * n) (16 * n)
 pub passed-settled : {m : Machine} {n r : ℕ} {p q : List ℕ} → Passed (Settled m n p) m n p q r → r ≡ 0 → Settled m n q
 passed-settled {m} {n} w e = subst (Settled m n) (sym (w .grown .still e)) (w .settled e)
 
+-- ── From the start to matrices that are settled ──
 pub ready-of : {P R : XPath} {t : Tree} {m : Machine} {n : ℕ} {p : List ℕ} → Stage P R t m n p → 32 * n ≤ length p → Ready n p
 ready-of s room = record { few = s .drawn .few; room = room; parents = parent-before s }
 

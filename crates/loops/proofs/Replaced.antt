@@ -20,6 +20,7 @@ use Rattle.loops.specs.Sound.{Sound}
 use Rattle.loops.specs.Growing.{SoundBelow, Woven, total}
 use Rattle.loops.proofs.Kept.{Front, word-kept}
 
+-- ── What stays ──
 module _ (n x : ℕ) {p p′ : List ℕ} (only : Redrawn (loopAt n x) p p′) where
   pub front-same : Front n p p′
   front-same k h = only .front k (omega arith)
@@ -34,6 +35,7 @@ module _ (n x : ℕ) {p p′ : List ℕ} (only : Redrawn (loopAt n x) p p′) wh
   pub stays : (y i j : ℕ) → y ≢ x → i < 16 → Related p (loopAt n y) i j ↔ Related p′ (loopAt n y) i j
   stays y i j other l = (λ e. ap (λ (a : ℕ). bit a j) (row-same y i other l) ∙ e, λ e. ap (λ (a : ℕ). bit a j) (sym (row-same y i other l)) ∙ e)
 
+  -- ── Sound and woven with the new matrix ──
   -- the nodes below k′ are those below k and perhaps x
   module _ {k k′ : ℕ} (all : (y : ℕ) → y < k′ → y ≢ x → y < k) where
     pub sound-one : {P R : XPath} {t : Tree} → Sound P R t p′ (loopAt n x) x → SoundBelow P R t n k p → SoundBelow P R t n k′ p′
@@ -69,6 +71,7 @@ module _ (n x : ℕ) {p p′ : List ℕ} (only : Redrawn (loopAt n x) p p′) wh
             (closed i j l q .1 (chain-one q (bracket i j (omega arith) l q (subst (λ (z : ℕ). Goes m (word p n STAYS z) i j) e g))))
         brackets y i j h l q g (no e) = stays y i j e l .0 (old .bracket y i j (all y h e) l q g)
 
+  -- ── What all matrices gain ──
   -- what this matrix gains all matrices gain
   pub total-more : (r : ℕ) → x < n → r + pairs p (loopAt n x) 16 ≤ pairs p′ (loopAt n x) 16 → r + total n p ≤ total n p′
   total-more r h gain =

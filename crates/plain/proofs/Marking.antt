@@ -14,6 +14,7 @@ use Rattle.plain.specs.Marks.{Clear, MarkedAt, Marked}
 use Rattle.plain.proofs.Ended.{ended-same}
 use Rattle.plain.proofs.Steady.{steady-none, steady-then, steady-mark, held-word}
 
+-- ── The marks so far ──
 -- the marked ranks are those of the nodes below i where the walk ends
 pub record Marking (n last i : ℕ) (p₀ p : List ℕ) : Type 0 where
   pub steady : Steady n p₀ p
@@ -30,6 +31,7 @@ marking-none n last p z =
       complete = λ w l. absurd (omega arith);
     }
 
+-- ── One node more ──
 module _ {n last i : ℕ} {p₀ p : List ℕ} (small : Small n p₀) (b : i < n) (g : Marking n last i p₀ p) where
   -- the rank of i as it was
   rank : word p n RANK i ≡ word p₀ n RANK i
@@ -73,6 +75,7 @@ module _ {n last i : ℕ} {p₀ p : List ℕ} (small : Small n p₀) (b : i < n)
   marking-step {p′} (inl (e, w)) = marked (ended-same (sym (g .seen i b)) e) (subst (λ x. Wrote ((cell n MARK x, 1) ∷ []) p p′) rank w)
   marking-step (inr (f, q)) = subst (λ l. Marking n last (i + 1) p₀ l) (sym q) (still (λ e. f (ended-same (g .seen i b) e)))
 
+-- ── All nodes ──
 pub marking-all : {n last i : ℕ} {p₀ p : List ℕ} → i ≤ n → n ≤ i → Marking n last i p₀ p → Marked n last p₀ p
 marking-all a b g =
     record {

@@ -13,6 +13,7 @@ use Rattle.ranks.specs.Ranks.{one, isSmaller}
 use Rattle.ranks.specs.Sorting.{Le, dense}
 use Rattle.ranks.proofs.Less.{one-le, one-less, one-not}
 
+-- ── The numbers, from one entry to the next ──
 module _ (ns : List Node) (e : ℕ → ℕ) where
   abbrev val : ℕ → List ℕ
   val i = stringOf ns (e i)
@@ -32,6 +33,7 @@ module _ (ns : List Node) (e : ℕ → ℕ) where
       omega arith
   dense-next (suc i) = dense-more i
 
+  -- ── How they grow ──
   pub dense-small : (i : ℕ) → dense ns e i ≤ i
   dense-small zero = let a = dense-zero in omega arith
   dense-small (suc i) = let a = dense-more i in let b = one-le (isSmaller ns (e (suc i)) (e i)) in let c = dense-small i in omega arith
@@ -44,6 +46,7 @@ module _ (ns : List Node) (e : ℕ → ℕ) where
       go (yes z) i = let f = ap (λ (x : ℕ). dense ns e x) z in omega arith
       go (no z) i = let f = i (omega arith) in let g = dense-more b in omega arith
 
+  -- ── In the order of the values ──
   module _ (m : ℕ) (order : (i j : ℕ) → i < j → j < m → Le ns (e i) (e j)) where
     -- the next entry is greater, and so is its number, or both are the same
     step : (c : ℕ) → suc c < m

@@ -16,6 +16,7 @@ use Rattle.ranks.specs.Texts.{Arranged}
 use Rattle.ranks.specs.Sorting.{entry, Entries, Sorted, dense, Numbered}
 use Rattle.ranks.proofs.Dense.{dense-zero, dense-next, dense-same}
 
+-- ── The ranks so far ──
 -- the ranks of the entries below i are written, and u is the last of them with the rank r
 pub record Numbering (s : List ℕ) (n i u r : ℕ) (t₀ t : List ℕ) : Type 0 where
   pub inside : i ≤ n
@@ -39,6 +40,7 @@ numbering-none s n u t e =
       done = λ ns a g k r. absurd (omega arith);
     }
 
+-- ── The node at hand and the one before it ──
 -- the node at hand and the one before it are nodes
 pub numbering-below : {s : List ℕ} {n i u r v : ℕ} {t₀ t : List ℕ} → Entries n n t₀ → Numbering s n i u r t₀ t → i < n → v ≡ entry t n i → v < n
 numbering-below {i} en g l e = let x = en i l in let y = e ∙ g .order i l in omega arith
@@ -50,6 +52,7 @@ before-le (suc i) = omega arith
 pub numbering-last : {s : List ℕ} {n i u r : ℕ} {t₀ t : List ℕ} → Entries n n t₀ → Numbering s n i u r t₀ t → i < n → u < n
 numbering-last {i} en g l = let b = before-le i in let x = en (before i) (omega arith) in let y = g .last in omega arith
 
+-- ── One entry more ──
 pub numbering-step : {s : List ℕ} {n i u r : ℕ} {t₀ t t′ : List ℕ} → Entries n n t₀ → Numbering s n i u r t₀ t → i < n
     → (v k : ℕ) → v ≡ entry t n i → k ≤ 1 → ((ns : List Node) → Accepts s ns → k ≡ one (isSmaller ns v u))
     → Wrote ((cell n RANK v, r + k) ∷ []) t t′ → Numbering s n (suc i) v (r + k) t₀ t′
@@ -91,5 +94,6 @@ numbering-step {s} {n} {i} {u} {r} {t₀} {t} {t′} en g l v k e b f w =
         low (yes x) = absurd (y (ap (λ (p : ℕ). entry t₀ n p) x ∙ sym here))
         low (no x) = omega arith
 
+-- ── All entries ──
 pub numbering-all : {s : List ℕ} {n i u r : ℕ} {t₀ t : List ℕ} → Numbering s n i u r t₀ t → n ≤ i → Numbered s n t₀ t
 numbering-all g l = record { arranged = g .arranged; done = λ ns a z k r. g .done ns a z k (omega arith) }

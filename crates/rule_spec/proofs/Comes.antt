@@ -6,6 +6,7 @@ use mathlib.Core.List.{List, [], _∷_, _++_, append-nil, append-assoc}
 use Rattle.rule_spec.specs.Readers.{goes, Comes, Ends, Stop, Meet}
 use Rattle.rule_spec.specs.Machine.{Symbol, Stack, Value, Values, Move, pass, move, State, state, advance, over, note, Key}
 
+-- ── Moves that pass, and parts that begin ──
 -- what stands in place of st, or behind what is left empty, reads as it would alone
 pub passes : {R : Type 0} (st st′ : Stack) (h : Values st′ → Values st) (f : Values st → R) (ks : List Key) (o : ℕ) (x : Option (Move st′))
     → Option·map (advance (state st f ks o)) (Option·map (pass h) x) ≡ Option·map (advance (state st′ (λ v. f (h v)) ks o)) x
@@ -21,6 +22,7 @@ noted : (ks : List Key) (o : ℕ) (m : Option ℕ) → note ks o m ≡ ks ++ fre
 noted ks o none = sym (append-nil ks)
 noted ks o (some n) = refl
 
+-- ── The same told with equal parts and places ──
 module _ {R X : Type 0} (end : State R → X) (stop : List Key → ℕ → X) where
   pub comes-as : {x : Symbol} {v : Value x} {new new′ : List Key} {o : ℕ} {w w′ : List ℕ} {j j′ : ℕ} {r : List ℕ} → new ≡ new′ → w ≡ w′ → j ≡ j′
       → Comes end stop x v new o w j r → Comes end stop x v new′ o w′ j′ r
@@ -30,6 +32,7 @@ module _ {R X : Type 0} (end : State R → X) (stop : List Key → ℕ → X) wh
   pub ends-as : {E : List Key → X → Type 0} {x : Symbol} {new new′ : List Key} {o : ℕ} {w w′ : List ℕ} → new ≡ new′ → w ≡ w′ → Ends end stop E x new o w → Ends end stop E x new′ o w′
   ends-as {E} {x} {new} {new′} {o} {w} {w′} p q c = subst₂ (λ ls z. Ends end stop E x ls o z) p q c
 
+  -- ── One byte ──
   -- one byte of x, behind which the symbols of front are due
   module _ (x : Symbol) (b : ℕ) (m : Option ℕ) where
     byte-read : (front : Stack → Stack) (g : (st : Stack) → Values (front st) → Values (x ∷ st))
@@ -56,6 +59,7 @@ module _ {R X : Type 0} (end : State R → X) (stop : List Key → ℕ → X) wh
         → Comes end stop x v (fresh o m) o (b ∷ w) (suc o) w
     comes-none {o} {w} v e = record { comes = byte-read (λ st. st) (λ st t. (v, t)) e o w }
 
+    -- ── One symbol behind the byte ──
     module _ (y : Symbol) (h : Value y → Value x)
         (e : (st : Stack) → move (x ∷ st) b ≡ some (record { after = y ∷ st; build = λ t. (h (t .0), t .1); begins = m })) where
       pub comes-one : {o : ℕ} {w : List ℕ} {v : Value y} {new : List Key} {j : ℕ} {r : List ℕ} → Comes end stop y v new (suc o) w j r → Comes end stop x (h v) (fresh o m ++ new) o (b ∷ w) j r
@@ -72,6 +76,7 @@ module _ {R X : Type 0} (end : State R → X) (stop : List Key → ℕ → X) wh
             (c .ends st (λ t. f (h (t .0), t .1)) (ks ++ fresh o m));
       }
 
+    -- ── Two symbols behind the byte ──
     module _ (y z : Symbol) (h : Value y → Value z → Value x)
         (e : (st : Stack) → move (x ∷ st) b ≡ some (record { after = y ∷ z ∷ st; build = λ t. (h (t .0) (t .1 .0), t .1 .1); begins = m })) where
       first-read : (o : ℕ) (w : List ℕ) (st : Stack) (f : Values (x ∷ st) → R) (ks : List Key)

@@ -21,6 +21,7 @@ use Rattle.rule_spec.proofs.Grounds.{reads-one, unreadAt, deepAt, manyT
 use Rattle.rule_spec.proofs.Earliest.{earliest, earlier}
 use Rattle.rule_spec.proofs.Judged.{grounds, verdict, Judged, verdict-judged}
 
+-- ── The rules and their verdicts ──
 abbrev times : ℕ → List ℕ → List ℕ
 times zero u = []
 times (suc n) u = u ++ times n u
@@ -55,6 +56,7 @@ examples =
     ∷ (times 1025 (bytes "x"), some ruleLength)
     ∷ []
 
+-- ── All of them computed ──
 computed : map (λ x. verdict (x .0)) examples ≡ map (λ x. x .1) examples
 unfolding verdict grounds earliest earlier unreadAt deepAt manyTestsAt manyStepsAt leastOf over move rest isLetter isNameByte isPrintable parts testParts pathParts stepParts Parts.tests spellTest spellPath spellStep
 computed = refl
@@ -66,6 +68,7 @@ each-judged (x ∷ xs) e = (subst (Judged (x .0)) (head-eq-of-cons-eq e) (verdic
 pub judged : All (λ x. Judged (x .0) (x .1)) examples
 judged = each-judged examples computed
 
+-- ── The session's rule ──
 -- the session's rule, as the test that is meant
 abbrev meant : Test
 meant = compare eq (seq (one toLeft) (one (stay (named (bytes "name"))))) (seq (seq (one toRight) (star (one toRight))) (one toLeft))

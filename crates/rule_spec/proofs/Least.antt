@@ -13,6 +13,7 @@ use Rattle.lists.specs.Lists.{Occurs}
 use Rattle.rule_spec.specs.Bytes.{choose}
 use Rattle.rule_spec.proofs.Bytes.{clash}
 
+-- ── What is to be found ──
 -- C holds at the number found and at no other, and nowhere if none is found
 abbrev pub Settles : (ℕ → Type 0) → Option ℕ → Type 0
 Settles C none = (o : ℕ) → ¬ C o
@@ -26,6 +27,7 @@ module _ {A : Type 0} (at : A → ℕ) where
     pub here : at one ≡ o
     pub first : (a : A) → Occurs a xs → B a → o ≤ at a
 
+  -- ── The search ──
   abbrev lower : ℕ → Option ℕ → ℕ
   lower n none = n
   lower n (some m) = choose (leb n m) n m
@@ -34,6 +36,7 @@ module _ {A : Type 0} (at : A → ℕ) where
   leastOf t [] = none
   leastOf t (x ∷ xs) = choose (t x) (some (lower (at x) (leastOf t xs))) (leastOf t xs)
 
+  -- ── It finds the least place ──
   module _ (B : A → Type 0) (t : A → Bool) (e : (a : A) → (t a ≡ true) ↔ B a) where
     abbrev Found : List A → Option ℕ → Type 0
     Found xs none = (a : A) → Occurs a xs → ¬ B a
@@ -77,6 +80,7 @@ module _ {A : Type 0} (at : A → ℕ) where
         go true p h = meet x xs (e x .0 p) (leastOf t xs) h
         go false p h = skip x xs (λ b. clash (sym p ∙ e x .1 b)) (leastOf t xs) h
 
+    -- ── That it exists, and what it settles ──
     pub least-exists : (xs : List A) (a : A) → Occurs a xs → B a → (o : ℕ) × Least B xs o
     least-exists xs a o b = go (leastOf t xs) (found xs)
       where

@@ -11,6 +11,7 @@ use Rattle.lists.proofs.Lists.{all-append, all-imp}
 use Rattle.rule_spec.specs.Machine.{Values, Move, move, rest, State, state, advance, step, ask, over, Answer, read, stopped, closing, note, Key}
 use Rattle.rule_spec.proofs.Machine.{run, read-not-stopped, answer}
 
+-- ── Over a beginning of a text ──
 module _ {R : Type 0} where
   pub run-cons : (b : ℕ) (w : List ℕ) (s : State R) {t : State R} → run s (b ∷ w) ≡ some t → (u : State R) × (step s b ≡ some u) × (run u w ≡ some t)
   unfolding over
@@ -31,6 +32,7 @@ module _ {R : Type 0} where
       go none h e = absurd (read-not-stopped (sym e))
       go (some t) h e = h t e
 
+  -- ── The parts that a run adds ──
   -- from s to t the machine goes on, and the parts that it adds lie between
   pub record Grows (s t : State R) : Type 0 where
     pub later : s .here ≤ t .here
@@ -70,6 +72,7 @@ module _ {R : Type 0} where
       let (h, j) = grows-run w u q in
       (grows-trans g h, omega arith)
 
+  -- ── How far a run comes ──
   -- the last state before the text ends or a byte is refused
   abbrev orElse : Option (State R) → (State R → State R) → State R → State R
   orElse none f s = s
@@ -108,6 +111,7 @@ module _ {R : Type 0} where
       let (u, p, q) = run-cons b (take i w) s e in
       ap (λ x. orElse x (λ t. last t w) s) p ∙ last-after i w u q
 
+  -- ── What an answer tells ──
   -- an answer tells the parts seen, and where the machine stopped
   abbrev pub seenOf : Answer R → List Key
   seenOf (read r ks) = ks

@@ -19,6 +19,7 @@ use Rattle.rule_spec.specs.Machine.{Symbol, test, path, byte, label, tai
 use Rattle.rule_spec.specs.Readers.{spellOperand}
 use Rattle.rule_spec.proofs.Bytes.{letter-iff, nameByte-iff, printable-iff}
 
+-- ── Legal values and how they are spelled ──
 abbrev LegalOperand : Operand → Type 0
 LegalOperand (inl P) = LegalPath P
 LegalOperand (inr c) = Constant c
@@ -53,6 +54,7 @@ abbrev pub spell : (st : Stack) → Values st → List ℕ
 spell [] v = []
 spell (x ∷ st) v = spellValue x (v .0) ++ spell st (v .1)
 
+-- ── Moves that keep to the spelling ──
 -- what a move builds is legal, and spelled with the byte in front
 abbrev pub Faithful : (st : Stack) → ℕ → Option (Move st) → Type 0
 Faithful st b none = Unit {0}
@@ -75,6 +77,7 @@ module _ (st : Stack) (b : ℕ) where
   pass-faithful st′ h k none a = tt
   pass-faithful st′ h k (some m) a = λ v l. let (p, e) = a v l in let (q, d) = k (m .build v) p in (q, d ∙ e)
 
+-- ── Every row of the tables keeps to it ──
 comparing-legal : (P : XPath) (o : Op) (w : Operand) → LegalPath P → LegalOperand w → LegalTest (comparing P o w)
 unfolding LegalTest
 comparing-legal P o (inl Q) l k = (l, k)
@@ -132,6 +135,7 @@ operand-faithful n st b =
     (λ e. pass-faithful (operand n ∷ st) b (path n ∷ byte 41 ∷ st) (λ v. (inl (v .0), v .1 .1)) (λ v l. ((l .0, l .1 .1), simp append-assoc))
     (look b (pathMoves n (byte 41 ∷ st))) (look-faithful (path n ∷ byte 41 ∷ st) b (pathMoves n (byte 41 ∷ st)) (path-faithful n (byte 41 ∷ st))))
 
+-- ── Every move keeps to it ──
 pub faithful : (st : Stack) (b : ℕ) → Faithful st b (move st b)
 unfolding move Name
 faithful [] b = tt
@@ -155,6 +159,7 @@ faithful (orEqual n ∷ st) b =
     (λ e. pass-faithful (orEqual n ∷ st) b (operand n ∷ st) (λ v. ((false, v .0), v .1)) (λ v l. (l, refl)) (operandMove n st b) (operand-faithful n st b))
 faithful (operand n ∷ st) b = operand-faithful n st b
 
+-- ── Stacks that are completed, and stacks that are left ──
 -- every stack can be completed
 filler : (x : Symbol) → (v : Value x) × LegalValue x v
 unfolding LegalTest LegalPath Name

@@ -18,6 +18,7 @@ use Rattle.rule_spec.proofs.Bytes.{nameByte-iff}
 use Rattle.rule_spec.proofs.Machine.{read-inj, read-not-stopped, answer, ruleStart}
 use Rattle.rule_spec.proofs.Reading.{Pops, Any, pops-byte, Takes, recast, take-test, take-path}
 
+-- ── What ends a name ──
 pub not-name : (b : ℕ) → ¬ NameByte b → isNameByte b ≡ false
 not-name b f = go (isNameByte b) refl
   where
@@ -38,6 +39,7 @@ pub pops-unnamed : {R : Type 0} (r : List ℕ) → Unnamed r → Pops {R = R} cl
 pops-unnamed [] h = pops-end
 pops-unnamed (b ∷ r) h = pops-byte close stopped b r (not-name b h)
 
+-- ── Two beginnings of a text ──
 -- of two beginnings of a text, one goes on as the other's rest does
 abbrev Parted : List ℕ → List ℕ → List ℕ → List ℕ → Type 0
 Parted a b r s = (x : List ℕ) × (((b ≡ a ++ x) × (r ≡ x ++ s)) ⊎ ((a ≡ b ++ x) × (s ≡ x ++ r)))
@@ -55,6 +57,7 @@ unnamed-front : (x s : List ℕ) → Unnamed (x ++ s) → Unnamed x
 unnamed-front [] s h = tt
 unnamed-front (b ∷ x) s h = h
 
+-- ── One symbol alone ──
 -- x alone is read from a text, with Ok behind it
 module _ (x : Symbol) (Ok : List ℕ → Type 0) (end : Ok []) (front : (z s : List ℕ) → Ok (z ++ s) → Ok z) where
   abbrev Alone : Value x → List ℕ → (ℕ → List Part) → Type 0
@@ -83,6 +86,7 @@ module _ (x : Symbol) (Ok : List ℕ → Type 0) (end : Ok []) (front : (z s : L
       go (z, inl (p, q)) = let (a, b) = prefix-one l k z (front z s (subst Ok q h)) p in (a, q ∙ ap (λ y. y ++ s) b)
       go (z, inr (p, q)) = let (a, b) = prefix-one k l z (front z r (subst Ok q g)) p in (sym a, sym (q ∙ ap (λ y. y ++ r) b))
 
+-- ── Tests, paths and rules ──
 test-alone : (T : Test) → LegalTest T → Alone (test 1) Unnamed tt unnamed-front T (spellTest T) (λ o. testParts T o 1)
 test-alone T l = recast close stopped pops-unnamed (λ o. refl) (take-test close stopped T 1 l)
 

@@ -15,6 +15,7 @@ use Rattle.skeletons.specs.Shape.{Shape}
 use Rattle.skeletons.specs.Skeletons.{Group, Arrives, Ascent}
 use Rattle.skeletons.proofs.Shape.{parent-case}
 
+-- ── The way so far ──
 -- the way has reached x by x's child c, m edges above y, and met no skeleton node before; or it has left the tree and met none
 abbrev OnWay : Tree → List ℕ → ℕ → ℕ → ℕ → ℕ → Type 0
 OnWay t d y x m c =
@@ -30,6 +31,7 @@ pub record Climbing (n r y x m c : ℕ) (p : List ℕ) : Type 0 where
   pub low : x < n → x + m ≤ y
   pub way : (t : Tree) (d : List ℕ) → Group t d n r p → OnWay t d y x m c
 
+-- ── One edge up ──
 -- one edge up from z, which is y or no skeleton node
 up : {t : Tree} {d : List ℕ} {n r y z m x : ℕ} {p : List ℕ} → Group t d n r p → z < n → Climbed t d z y m → (0 < m → ¬ Skeleton t d z) → x ≡ word p n PARENT z → OnWay t d y x (suc m) z
 up {t} {d} {n} {r} {y} {z} {m} {x} {p} g l h f e = go (parent-case (g .shape) z l)
@@ -56,6 +58,7 @@ low-of : {n z x y : ℕ} (m : ℕ) → n ≤ 4096 → z + m ≤ y → (x < z) �
 low-of m few k (inl i) l = omega arith
 low-of m few k (inr e) l = absurd (omega arith)
 
+-- ── Setting out, and going on ──
 module _ {t : Tree} {n : ℕ} {p : List ℕ} (s : Shape t n p) {r y : ℕ} where
   pub climbing-none : {x : ℕ} → y < n → x ≡ word p n PARENT y → Climbing n r y x 1 y p
   climbing-none {x} l e =
@@ -84,6 +87,7 @@ module _ {t : Tree} {n : ℕ} {p : List ℕ} (s : Shape t n p) {r y : ℕ} where
       go t d g (inl (k, i)) = let o : suc m ≡ m + 1 = omega arith in subst (λ j. OnWay t d y z j x) o (up g l k (λ i. f t d g) e)
       go t d g (inr (o, k)) = let few = s .few in absurd (omega arith)
 
+-- ── Where the way ends ──
 module _ {n r y x m c : ℕ} {p : List ℕ} (h : Climbing n r y x m c p) (l : y < n) where
   ascent : ((t : Tree) (d : List ℕ) → Group t d n r p → Skeleton t d y → OnWay t d y x m c → Arrives t d y x m c) → Ascent n r y x m c p
   ascent f =

@@ -19,6 +19,7 @@ use Rattle.machine.specs.Meaning.{IsStep, Drawn}
 use Rattle.skeletons.specs.Shape.{Shape, Small}
 use Rattle.skeletons.specs.Skeletons.{Ranks}
 
+-- ── The links, and that they stay ──
 pub small-within : {n c d : ℕ} {p p′ : List ℕ} → RANK < c → Within n c d p p′ → Small n p → Small n p′
 small-within l w s v r = let e = before-within w RANK v l r in let h = s v r in omega arith
 
@@ -59,6 +60,7 @@ drawn-within {P} {R} {t} {n} {c} {p = p} {p′ = p′} l w x =
     rank : (v : ℕ) → v < n → word p′ n RANK v ≡ word p n RANK v
     rank v r = before-within w RANK v (omega arith) r
 
+-- ── The nodes of a rank ──
 -- the nodes of v's rank are those that have v's value
 pub drawn-ranks : {P R : XPath} {t : Tree} {n : ℕ} {p : List ℕ} → Drawn P R t n p → (v : ℕ) → v < n → Ranks t (t .value v) n (word p n RANK v) p
 drawn-ranks d v r w q = d .same w v q r
@@ -66,6 +68,7 @@ drawn-ranks d v r w q = d .same w v q r
 pub ranks-within : (t : Tree) {v : List ℕ} {n r c d : ℕ} {p p′ : List ℕ} → RANK < c → Within n c d p p′ → Ranks t v n r p → Ranks t v n r p′
 ranks-within t l w k u i = let e = before-within w RANK u l i in (λ h. k u i .0 (sym e ∙ h), λ h. e ∙ k u i .1 h)
 
+-- ── What the links say ──
 module _ {t : Tree} {n : ℕ} {p : List ℕ} (s : Shape t n p) where
   -- the word for the parent of a child
   pub parent-of : {side : Bool} {u v : ℕ} → Child t side u v → word p n PARENT v ≡ u

@@ -10,6 +10,7 @@ use Rattle.snippets.specs.Snippets.{Edge, First, Yielded}
 use Rattle.snippets.specs.Direct.{FirstOf, Direct, Upper, Lower}
 use Rattle.snippets.proofs.Settles.{comes-first, comes-second, back-first, back-second, diff-left, diff-right}
 
+-- ── Snippets that an edge of the skeleton tells ──
 module _ (t : Tree) (P R : XPath) where
   module _ (d : List ℕ) where
     abbrev pub OnEdge : (k a b p q : ℕ) → Type 0
@@ -66,6 +67,7 @@ module _ (t : Tree) (P R : XPath) where
     pub direct-iff : (k a b p q : ℕ) → Direct t P R d k a b p q ↔ OnEdge k a b p q
     direct-iff k a b p q = (direct-edge, edge-direct k a b p q)
 
+  -- ── First snippets, and halves ──
   -- a first snippet is one of its value
   pub first-iff : (x y p q n : ℕ) → First t P R x y p q n ↔ ((d : List ℕ) × FirstOf t P R d x y p q n)
   first-iff x y p q n = (
@@ -81,6 +83,7 @@ module _ (t : Tree) (P R : XPath) where
   abbrev pub LowerHalf : (k h y p q : ℕ) → Type 0
   LowerHalf k h y p q = (x p₀ : ℕ) × Yielded t P R (suc k) x y p₀ q × Down t x h (2 ^ k) × Down t h y (2 ^ k) × Comes P R t p h p₀ x
 
+  -- ── Where a snippet comes from ──
   abbrev Origin : (k x y p q : ℕ) → Type 0
   Origin k x y p q = ((d : List ℕ) × Direct t P R d k x y p q) ⊎ (UpperHalf k x y p q ⊎ LowerHalf k x y p q)
 

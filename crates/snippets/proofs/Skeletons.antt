@@ -9,6 +9,7 @@ use Rattle.xpath.specs.Tree.{Tree, WellFormed, Down, here, deeper, Under}
 use Rattle.xpath.proofs.Trees.{under-antisym, under-up, under-child, root, dec-under}
 use Rattle.snippets.specs.Snippets.{Closest, Has, Skeleton}
 
+-- ── The closest common ancestor ──
 module _ (t : Tree) (wf : WellFormed t) where
   closest-by : (u w n : ℕ) → w < t .size → Down t 0 u n → (x : ℕ) × Closest t x u w
   closest-by u w n r here = (0, record { left = (0, here); right = root t wf w r; closest = λ s a b. a })
@@ -35,6 +36,7 @@ module _ (t : Tree) (wf : WellFormed t) where
       go y c (yes e) = yes (subst (λ i. Closest t i u w) (sym e) c)
       go y c (no f) = no (λ k. f (closest-one x y u w k c))
 
+  -- ── The skeleton is decided ──
   module _ (d : List ℕ) where
     dec-has : (w : ℕ) → Dec (Has t d w)
     dec-has w = go (decLt w (t .size)) (List-discrete ℕ-discrete (t .value w) d)
@@ -66,6 +68,7 @@ module _ (t : Tree) (wf : WellFormed t) where
         go (yes (u, q, (w, r, m))) = yes (record { u = u; w = w; hasU = m .0; hasW = m .1; meet = m .2 })
         go (no f) = no (λ s. f (s .u, s .hasU .inside, (s .w, s .hasW .inside, (s .hasU, s .hasW, s .meet))))
 
+    -- ── The lowest skeleton node on a way ──
     -- the lowest skeleton node at or above z
     pub lowest : (a z n : ℕ) → Skeleton t d a → Down t a z n
         → (x : ℕ) × Skeleton t d x × Under t a x × Under t x z × ((s : ℕ) → Skeleton t d s → Under t s z → Under t s x)

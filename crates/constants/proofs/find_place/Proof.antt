@@ -15,6 +15,7 @@ use borrow.Author.Needs.{needs}
 use Rattle.constants.proofs.find_place.Statement.{statement}
 use Rattle.constants.proofs.find_place.Tie as tie
 
+-- ── The loop's invariant ──
 abbrev Inv-loop : tie.InvT-loop
 Inv-loop s rule t n from to lo₀ hi₀ lo hi = (hi ≤ n) × ((ns : List Node) → Accepts s ns → Ranked ns t → Around ns n (slice from to rule) t lo hi)
 
@@ -28,6 +29,7 @@ inside c = let w = c .before .nearest .ensures .within in let l = c .if1 .left i
 loop-holds : tie.Need-loop-holds Inv-loop μ-loop
 loop-holds c = let x = c .before .before .before in (omega arith, λ ns a r. around-all (slice (x .args .from) (x .args .to) (x .args .rule .now)) (valued (tree-size (x .pre .0) ns a) r))
 
+-- ── The node nearest to the middle ──
 sub-mid : tie.Need-sub-mid Inv-loop μ-loop
 sub-mid c = let l = c .loop-test .taken in omega arith
 
@@ -49,6 +51,7 @@ get-requires c κs = (omega arith, inside c, c .before .before .before .before .
 compare-value-requires : tie.Need-compare-value-requires Inv-loop μ-loop
 compare-value-requires c κs = let p = c .before .before .before .before .before .before .before .before .pre in (p .0, inside (c .before), p .1, p .2)
 
+-- ── What the comparison with it told ──
 enum-told : tie.Need-enum-told Inv-loop μ-loop
 enum-told c = search needs
 
@@ -85,6 +88,7 @@ loop-again-3 c =
     let i = c .before .before .before .before .before .before .before .loop in let x = c .before .before .before .before .before .before .before .before .before .before .before in let v = c .before .before .before .before .before .nearest .result in let k = slice (x .args .from) (x .args .to) (x .args .rule .now) in let l = c .before .before .before .before .before .before .loop-test .taken in let h = i .inv .0 in
     (omega arith, λ ns a r. around-greater k (valued (tree-size (x .pre .0) ns a) r) (inside (c .before .before .before .before)) (c .before .before .before .get .ensures .0) (i .inv .1 ns a r) (c .before .before .before .before .before .nearest .ensures) (subst (λ o. Ordered (stringOf ns v) k o) (c .enum-told3 .given .1) (c .before .before .compare-value .ensures ns a)))
 
+-- ── What is returned behind the loop ──
 returns-2 : tie.Need-returns-2 Inv-loop μ-loop
 returns-2 c = λ ns a r. placed-between (c .before .loop .inv .1 ns a r) (c .loop-test .left)
 

@@ -13,6 +13,7 @@ use borrow.Author.Needs.{needs}
 use Rattle.driver.proofs.settle.Statement.{statement}
 use Rattle.driver.proofs.settle.Tie as tie
 
+-- ── The kind of the test, and a name ──
 test-kind-requires : tie.Need-test-kind-requires
 test-kind-requires c κs = test-begins (c .before .before .before .pre .2 .stands)
 
@@ -32,6 +33,7 @@ named-requires c κs =
     let e = c .before .skip-test .ensures (test (testsOf (p .1)) (x .k)) (p .2 .end) (p .2 .stands) in let l = name-spans (p .2) shape in
     (tabled (p .2), number-small (p .2), subst (λ j. x .at + 1 ≤ j) (sym e) (l .0), subst (λ j. j ≤ length (x .rule .now)) (sym e) (l .1))
 
+-- ── A test denied ──
 enum-told-2 : tie.Need-enum-told-2
 enum-told-2 c = search needs
 
@@ -44,6 +46,7 @@ deny-requires c κs =
     let shape = shaped (c .before .enum-told2 .given .1) (test (testsOf (p .1)) (x .k)) (c .before .before .before .test-kind .ensures (test (testsOf (p .1)) (x .k)) (p .2 .end) (p .2 .stands)) in
     (number-small (p .2), not-small (p .2) shape, room (p .2))
 
+-- ── Both of two tests, or either ──
 enum-told-3 : tie.Need-enum-told-3
 enum-told-3 c = search needs
 
@@ -76,6 +79,7 @@ either-requires c κs =
     let l = or-small (p .2) (c .before .second-test2 .ensures) shape in
     (number-small (p .2), l .0, l .1, room (p .2))
 
+-- ── A comparison ──
 enum-told-5 : tie.Need-enum-told-5
 enum-told-5 c = search needs
 
@@ -85,6 +89,7 @@ comparison-requires c κs =
     let shape = shaped (c .before .enum-told5 .given .1) (test (testsOf (p .1)) (x .k)) (c .before .before .before .test-kind .ensures (test (testsOf (p .1)) (x .k)) (p .2 .end) (p .2 .stands)) in
     (p .0, p .1, p .2, shape)
 
+-- ── What is returned ──
 same-length : tie.Need-same-length
 same-length c = search needs
 

@@ -15,6 +15,7 @@ use Rattle.driver.proofs.Totals.{Driven, driven-none, driven-before, dr
 use Rattle.driver.proofs.settle_rule.Statement.{statement}
 use Rattle.driver.proofs.settle_rule.Tie as tie
 
+-- ── The loop's invariant ──
 abbrev Inv-loop : tie.InvT-loop
 Inv-loop e s rule t₀ n offsets k₀ snippets₀ t k snippets =
     ((T : Test) → Accepts rule T → Listed rule T offsets k₀) × (k ≤ k₀) × (length t ≡ length t₀)
@@ -23,6 +24,7 @@ Inv-loop e s rule t₀ n offsets k₀ snippets₀ t k snippets =
 abbrev μ-loop : tie.MeasureT-loop
 μ-loop e s rule t₀ n offsets k₀ snippets₀ t k snippets = k
 
+-- ── Listing the tests, and entering the loop ──
 slice-aggregate-tests-of : tie.Need-slice-aggregate-tests-of Inv-loop μ-loop
 slice-aggregate-tests-of c = refl
 
@@ -34,6 +36,7 @@ loop-holds c =
     let x = c .before .before .before .before .before .before .args in let f = c .before .tests-of .ensures in
     (f, omega arith, refl, λ ns T scene a. driven-none (x .e) ns (x .n) (c .before .tests-of .result) T (x .t .now) (f T a .all))
 
+-- ── Settling one test ──
 sub-k : tie.Need-sub-k Inv-loop μ-loop
 sub-k c = let h = c .loop-test .taken in omega arith
 
@@ -60,6 +63,7 @@ add-snippets c =
     let d = driven-step (tests-few (p .3)) (omega arith) before (c .before .before .settle .ensures (p .0) (p .1) (task (p .1) (p .2) (p .3) (i .0 (p .1) (p .3)) (omega arith) (before .settling))) in
     let z = driven-small (p .2) (p .3) d in omega arith
 
+-- ── One turn of the loop ──
 loop-less : tie.Need-loop-less Inv-loop μ-loop
 loop-less c = let h = c .before .before .before .before .loop-test .taken in omega arith
 
@@ -75,6 +79,7 @@ loop-again c =
           driven-step (tests-few a) (omega arith) before (d .ensures ns T (task T scene a (i .0 T a) (omega arith) (before .settling))),
     )
 
+-- ── What is returned ──
 same-length : tie.Need-same-length Inv-loop μ-loop
 same-length c = c .before .loop .inv .2
 

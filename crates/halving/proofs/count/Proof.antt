@@ -9,6 +9,7 @@ use Rattle.halving.proofs.Counting.{total, total-more, total-le, total-
 use Rattle.halving.proofs.count.Statement.{statement}
 use Rattle.halving.proofs.count.Tie as tie
 
+-- ── The loop's invariant ──
 abbrev Inv-loop : tie.InvT-loop
 Inv-loop p n b blocks r₀ i₀ r i = (i ≤ blocks) × (r ≡ total p n i)
 
@@ -22,6 +23,7 @@ loop-holds : tie.Need-loop-holds Inv-loop μ-loop
 unfolding total
 loop-holds c = (omega arith, refl)
 
+-- ── Counting one block: sums that fit ──
 mul-size : tie.Need-mul-size Inv-loop μ-loop
 mul-size c = omega arith
 
@@ -45,6 +47,7 @@ add-r c =
     let new = pairs-le (x .p .now) (BLOCKS * x .n + 64 * l .i + 32) 16 in
     omega (arith, l .inv .1, c .size .ensures)
 
+-- ── One turn of the loop ──
 add-i : tie.Need-add-i Inv-loop μ-loop
 add-i c = omega arith
 
@@ -57,6 +60,7 @@ loop-again c =
     let l = c .before .before .loop in
     (omega arith, ap₂ (λ a b. a + b) (l .inv .1) (c .size .ensures) ∙ sym (total-more (x .p .now) (x .n) (l .i)))
 
+-- ── What is returned ──
 returns : tie.Need-returns Inv-loop μ-loop
 returns c =
     let x = c .before .before .before .args in

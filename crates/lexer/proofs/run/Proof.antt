@@ -11,6 +11,7 @@ use Rattle.lexer.proofs.Passing.{passed-more}
 use Rattle.lexer.proofs.run.Statement.{statement}
 use Rattle.lexer.proofs.run.Tie as tie
 
+-- ── The loop's invariant ──
 abbrev Inv-loop : tie.InvT-loop
 Inv-loop s at k most i₀ i = Passed k most s at i
 
@@ -23,6 +24,7 @@ pass-requires c κs = omega arith
 loop-holds : tie.Need-loop-holds Inv-loop μ-loop
 loop-holds c = c .pass .ensures
 
+-- ── A byte at which the run ends ──
 shared-slice-read-b : tie.Need-shared-slice-read-b Inv-loop μ-loop
 shared-slice-read-b c = omega arith
 
@@ -51,6 +53,7 @@ returns-3 c =
     let a = c .before .before .before .before .before .before .before .before .before .args in let l = c .before .before .before .before .before .before .loop in
     run-stops (a .s .now) (a .at) (l .i) (a .k) (a .most) (l .inv .from) (l .inv .fits) (c .before .before .before .if1 .left) (sym (c .before .fits2 .ensures) ∙ not-true (c .before .fits2 .result) (c .if3 .taken))
 
+-- ── One turn of the loop ──
 add-i : tie.Need-add-i Inv-loop μ-loop
 add-i c = omega arith
 
@@ -62,6 +65,7 @@ loop-again c =
     let a = c .before .before .before .before .before .before .before .before .before .args in let l = c .before .before .before .before .before .before .loop in
     passed-more (a .k) (a .s .now) (a .at) (l .i) (a .most) (l .inv) (omega arith) (omega arith) (subst T (sym (not-false (c .before .fits2 .result) (c .if3 .left)) ∙ c .before .fits2 .ensures) tt)
 
+-- ── No byte left ──
 returns-4 : tie.Need-returns-4 Inv-loop μ-loop
 returns-4 c =
     let a = c .before .before .before .before .args in let l = c .before .loop in

@@ -11,6 +11,7 @@ use Rattle.lexer.proofs.Laws.{reading-step, reading-end, ten-more, ten-
 use Rattle.lexer.proofs.value.Statement.{statement}
 use Rattle.lexer.proofs.value.Tie as tie
 
+-- ── The loop's invariant ──
 abbrev Inv-loop : tie.InvT-loop
 Inv-loop s at end n₀ i₀ n i =
     (at ≤ i) × (i ≤ end) × (n < 10 ^ (i - at)) × (valueFrom 10 n (map (λ b. b - 48) (slice i end s)) ≡ reading (slice at end s))
@@ -21,6 +22,7 @@ abbrev μ-loop : tie.MeasureT-loop
 loop-holds : tie.Need-loop-holds Inv-loop μ-loop
 loop-holds c = (omega arith, c .pre .from, subst (λ x. 0 < 10 ^ x) (let z : 0 ≡ c .args .at - c .args .at = omega arith in z) (omega arith), refl)
 
+-- ── One digit more: a value that fits ──
 mul-n : tie.Need-mul-n Inv-loop μ-loop
 mul-n c =
     let l = c .before .loop in let p = c .before .before .pre in
@@ -45,6 +47,7 @@ add-n c =
     let d = between-is 48 57 (getD (c .before .before .before .args .s .now) (l .i) 0) (p .digits (l .i) (l .inv .0) (omega arith)) in
     let h = ten-small (l .n) (l .i - c .before .before .before .args .at) (l .inv .2) (omega (arith, p .few)) in omega arith
 
+-- ── One turn of the loop ──
 add-i : tie.Need-add-i Inv-loop μ-loop
 add-i c = omega arith
 
@@ -62,6 +65,7 @@ loop-again c =
       sym (reading-step s (l .i) end (l .n) (omega arith) (p .inside)) ∙ l .inv .3,
     )
 
+-- ── What is returned ──
 returns : tie.Need-returns Inv-loop μ-loop
 returns c =
     let l = c .before .loop in

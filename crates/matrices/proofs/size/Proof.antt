@@ -10,18 +10,21 @@ use Rattle.matrices.proofs.Pairs.{pairs-more, pairs-le, pairs-none}
 use Rattle.matrices.proofs.size.Statement.{statement}
 use Rattle.matrices.proofs.size.Tie as tie
 
+-- ── The loop's invariant ──
 abbrev Inv-loop : tie.InvT-loop
 Inv-loop p at r₀ i₀ r i = (i ≤ 16) × (r ≡ pairs p at i)
 
 abbrev μ-loop : tie.MeasureT-loop
 μ-loop p at r₀ i₀ r i = 16 - i
 
+-- ── An empty matrix ──
 is-empty-requires : tie.Need-is-empty-requires Inv-loop μ-loop
 is-empty-requires c κs = c .before .pre
 
 returns : tie.Need-returns Inv-loop μ-loop
 returns c = let x = c .before .before .before .args in sym (pairs-none (x .p .now) (x .at) 16 (c .before .is-empty .ensures (c .if1 .taken)))
 
+-- ── Entering the loop, and counting one row ──
 loop-holds : tie.Need-loop-holds Inv-loop μ-loop
 unfolding pairs
 loop-holds c = (omega arith, refl)
@@ -50,6 +53,7 @@ add-r c =
     let s = size-le 16 (getD (n .p .now) (n .at + i) 0) in
     omega (arith, c .count .ensures)
 
+-- ── One turn of the loop ──
 add-i : tie.Need-add-i Inv-loop μ-loop
 add-i c = omega arith
 
@@ -63,6 +67,7 @@ loop-again c =
     let i = c .before .before .before .loop .i in
     (omega arith, ap (λ x. x + c .count .result) (l .1) ∙ ap (λ x. pairs (n .p .now) (n .at) i + x) (c .count .ensures) ∙ sym (pairs-more (n .p .now) (n .at) i))
 
+-- ── What is returned ──
 returns-2 : tie.Need-returns-2 Inv-loop μ-loop
 returns-2 c = let e : c .before .loop .i ≡ 16 = omega arith in c .before .loop .inv .1 ∙ ap (pairs _ _) e
 

@@ -15,6 +15,7 @@ use Rattle.powers.proofs.hops.first_hop.Reads as first-hop-reads
 use Rattle.powers.proofs.+lower.{statement}
 use Rattle.powers.proofs.+lower.Tie.{close}
 
+-- ── The measure, and what the calls claim ──
 abbrev μ-lower : Measures 1 lower-kinds.ps ℕ
 μ-lower κs a = a .1 .1 .1 .1 .0
 
@@ -27,6 +28,7 @@ lower-below t = and 1 lower-kinds.ps (falls 1 lower-kinds.ps _<_ μ-lower t) low
 abbrev lower-calls : ℕ → lower-lts.Claims
 lower-calls t = (loop-at-reads.Asked, loop-at-reads.Learnt, before-reads.Asked, before-reads.Learnt, first-hop-reads.Asked, first-hop-reads.Learnt, lower-below t, lower.Post, block-at-reads.Asked, block-at-reads.Learnt)
 
+-- ── No edge left ──
 lower-loop-at-requires : (t : ℕ) → lower-lts.Need-loop-at-requires (lower-calls t) (lower-at t) lower.Post
 lower-loop-at-requires t c κs = let s = c .before .before .pre .1 in let h = s .node in (s .few, omega arith)
 
@@ -38,6 +40,7 @@ lower-returns t c P R u x ladder far =
     let s = c .before .before .before .before in
     lower-here ladder (s .pre .1) far (c .before .before .if1 .taken) (c .before .loop-at .result) (s .args .set) (c .before2 .result) (c .before .loop-at .ensures) (c .before2 .ensures)
 
+-- ── The first hop, and the rest behind it ──
 lower-first-hop-requires : (t : ℕ) → lower-lts.Need-first-hop-requires (lower-calls t) (lower-at t) lower.Post
 lower-first-hop-requires t c κs = let o = c .if1 .left in (c .before .before .pre .1, omega arith)
 
@@ -61,6 +64,7 @@ lower-before-requires-2 t c κs =
     let f = stretch-fits (c .before .before .before .before .before .pre .1) (c .before .before .first-hop .result .exponent) (c .before .before .first-hop .ensures .some) in let room = f .room in
     omega (arith, c .block-at .ensures)
 
+-- ── What is returned behind a hop ──
 lower-returns-2 : (t : ℕ) → lower-lts.Need-returns-2 (lower-calls t) (lower-at t) lower.Post
 lower-returns-2 t c P R u x ladder far =
     let b = c .before in let l = b .before in let h = l .before .first-hop .ensures in let s = l .before .before .before .before in

@@ -6,12 +6,14 @@ use Rattle.staging.proofs.Links.{Taken, taken-all}
 use Rattle.staging.proofs.draw.Statement.{statement}
 use Rattle.staging.proofs.draw.Tie as tie
 
+-- ── The loop's invariant ──
 abbrev Inv-loop : tie.InvT-loop
 Inv-loop t₀ n from to size k₀ t k = Drawn (Taken t₀ from) to size k t₀ t
 
 abbrev μ-loop : tie.MeasureT-loop
 μ-loop t₀ n from to size k₀ t k = size - k
 
+-- ── Where the columns begin, and entering the loop ──
 mul-from : tie.Need-mul-from Inv-loop μ-loop
 mul-from c = omega arith
 
@@ -27,6 +29,7 @@ mul-size c = omega arith
 loop-holds : tie.Need-loop-holds Inv-loop μ-loop
 loop-holds c = drawn-none _ _ _ _
 
+-- ── Copying one word ──
 add-t : tie.Need-add-t Inv-loop μ-loop
 add-t c = omega arith
 
@@ -45,6 +48,7 @@ mul-t-2 c = omega arith
 slice-write-t : tie.Need-slice-write-t Inv-loop μ-loop
 slice-write-t c = let e = c .before .before .loop .inv .frame .long in omega arith
 
+-- ── One turn of the loop ──
 add-k : tie.Need-add-k Inv-loop μ-loop
 add-k c = omega arith
 
@@ -54,6 +58,7 @@ loop-less c = omega arith
 loop-again : tie.Need-loop-again Inv-loop μ-loop
 loop-again c = let x = c .before .before .before .args in let l = c .before .before .loop in drawn-step _ (l .inv) (omega arith) (c .before .loop-test .taken) (l .inv .frame .front (2 * x .n + l .k) (omega arith))
 
+-- ── What is returned ──
 same-length : tie.Need-same-length Inv-loop μ-loop
 same-length c = c .before .loop .inv .frame .long
 

@@ -11,6 +11,7 @@ use Rattle.staging.proofs.Tests.{Gathered, gathered-none, gathered-skip
 use Rattle.staging.proofs.tests_at.Statement.{statement}
 use Rattle.staging.proofs.tests_at.Tie as tie
 
+-- ── The loop's invariant ──
 abbrev Inv-loop : tie.InvT-loop
 Inv-loop t n v brackets numbers w₀ j₀ w j = (j ≤ 16) × Gathered (stays t n brackets numbers v) j w
 
@@ -20,6 +21,7 @@ abbrev μ-loop : tie.MeasureT-loop
 loop-holds : tie.Need-loop-holds Inv-loop μ-loop
 loop-holds c = (omega arith, gathered-none _)
 
+-- ── What the calls ask for ──
 cast-has : tie.Need-cast-has Inv-loop μ-loop
 cast-has c = omega arith
 
@@ -41,6 +43,7 @@ cast-insert c = omega arith
 insert-requires : tie.Need-insert-requires Inv-loop μ-loop
 insert-requires c κs = omega arith
 
+-- ── One turn of the loop ──
 add-j : tie.Need-add-j Inv-loop μ-loop
 add-j c = omega arith
 
@@ -59,6 +62,7 @@ loop-again c =
           (c .if1 .came),
     )
 
+-- ── What is returned ──
 returns : tie.Need-returns Inv-loop μ-loop
 returns c = λ j h. c .before .loop .inv .1 .inside j (omega arith)
 

@@ -26,6 +26,7 @@ use Rattle.rule.proofs.tokens.stands.Reads as stands-reads
 use Rattle.test_numbers.proofs.+list_inside+list_path+list_test.{statement}
 use Rattle.test_numbers.proofs.+list_inside+list_path+list_test.Tie.{close}
 
+-- ── The measures, and what the calls claim ──
 abbrev μ-list-inside : Measures 2 list-inside-kinds.ps ℕ
 μ-list-inside κs a = 2 * (length (a .0 .now) - a .1 .0)
 
@@ -62,6 +63,7 @@ list-path-calls t = (path-kind-reads.Asked, path-kind-reads.Learnt, list-test-be
 abbrev list-test-calls : ℕ → list-test-lts.Claims
 list-test-calls t = (list-inside-below t, list-inside.Post)
 
+-- ── list_inside: tests inside a test ──
 list-inside-test-kind-requires : (t : ℕ) → list-inside-lts.Need-test-kind-requires (list-inside-calls t) (list-inside-at t) list-inside.Post
 list-inside-test-kind-requires t c κs = test-room-long _ _ _ (c .before .before .pre .1 .0)
 
@@ -100,6 +102,7 @@ list-inside-list-test-requires-3 t c κs =
     let (Ts, h) = tests-two _ (c .before .before .before .before .before .before .before .test-kind .ensures) _ (c .before .before .before .before .before .before .match .keys3) (c .before .before .before .before .before .skip-test .ensures) (z .1 .0) in let b = h .after in
     (omega arith, (second-room _ _ _ _ _ _ h (c .before .before .before .list-test2 .ensures), omega arith))
 
+-- ── list_inside: paths of a comparison, and what is returned ──
 list-inside-enum-told-3 : (t : ℕ) → list-inside-lts.Need-enum-told-3 (list-inside-calls t) (list-inside-at t) list-inside.Post
 list-inside-enum-told-3 t c = search needs
 
@@ -157,6 +160,7 @@ list-inside-returns-5 t c =
     (subst (Stood (c .before .before .before .before .before .before .before .before .before .before .before .before .before .before .before .before .args .s .now) (c .before .before .before .before .before .before .before .before .before .before .parted .result .second) 34) (c .before .before .before .before .if1 .left) (c .before .before .before .before .before .stands .ensures))
     (c .before .before .before .before .before .before .before .before .list-path .ensures) (c .before .before .list-path2 .ensures)
 
+-- ── list_path ──
 list-path-path-kind-requires : (t : ℕ) → list-path-lts.Need-path-kind-requires (list-path-calls t) (list-path-at t) list-path.Post
 list-path-path-kind-requires t c κs = path-room-long _ _ _ (c .before .before .pre .1 .0)
 
@@ -225,6 +229,7 @@ list-path-returns-3 t c = star-lists _ (c .before .before .before .before .befor
 list-path-returns-4 : (t : ℕ) → list-path-lts.Need-returns-4 (list-path-calls t) (list-path-at t) list-path.Post
 list-path-returns-4 t c = testless-lists _ (c .before .path-kind .ensures) _ _ (c .match .keys4)
 
+-- ── list_test ──
 list-test-mul-offsets : (t : ℕ) → list-test-lts.Need-mul-offsets (list-test-calls t) (list-test-at t) list-test.Post
 list-test-mul-offsets t c = let n = one-room _ _ _ (c .before .before .pre .1 .0) in omega arith
 

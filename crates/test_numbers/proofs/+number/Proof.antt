@@ -17,6 +17,7 @@ use Rattle.rule_parts.proofs.tests_in.Reads as tests-in-reads
 use Rattle.test_numbers.proofs.+number.{statement}
 use Rattle.test_numbers.proofs.+number.Tie.{close}
 
+-- ── The measure, and what the calls claim ──
 abbrev μ-number : Measures 2 number-kinds.ps ℕ
 μ-number κs a = length (a .0 .now) - a .1 .0
 
@@ -29,6 +30,7 @@ number-below t = and 2 number-kinds.ps (falls 2 number-kinds.ps _<_ μ-number t)
 abbrev number-calls : ℕ → number-lts.Claims
 number-calls t = (path-kind-reads.Asked, path-kind-reads.Learnt, skip-test-reads.Asked, skip-test-reads.Learnt, tests-in-reads.Asked, tests-in-reads.Learnt, skip-path-reads.Asked, skip-path-reads.Learnt, number-below t, number.Post)
 
+-- ── The kind of the path, and a test in brackets ──
 number-path-kind-requires : (t : ℕ) → number-lts.Need-path-kind-requires (number-calls t) (number-at t) number.Post
 number-path-kind-requires t c κs = room-long _ _ _ _ (c .before .before .pre .1 .0)
 
@@ -62,6 +64,7 @@ number-add-t12 t c = let z = c .before .before .before .before .before .before .
 number-add-t14 : (t : ℕ) → number-lts.Need-add-t14 (number-calls t) (number-at t) number.Post
 number-add-t14 t c = let l = bracket-room _ (c .before .before .before .before .path-kind .ensures) _ _ (c .before .before .enum-told2 .given .1) (c .before .skip-test .ensures) (c .tests-in .ensures) (c .before .before .before .before .before .before .before .pre .1 .0) in omega arith
 
+-- ── Two parts ──
 number-add-skip-path : (t : ℕ) → number-lts.Need-add-skip-path (number-calls t) (number-at t) number.Post
 number-add-skip-path t c = let z = c .before .before .before .before .pre in let n = room-long _ _ _ _ (z .1 .0) in omega arith
 
@@ -83,6 +86,7 @@ number-number-requires-2 t c κs =
     let (xs, Ts, h, b) = paths-two _ (c .before .before .before .before .before .before .before .path-kind .ensures) _ _ (c .before .before .before .before .before .before .match .keys3) (c .before .before .before .before .before .skip-path .ensures) (z .1 .0) in
     (omega arith, (second-room _ _ _ _ _ h (c .before .before .before .number .ensures), omega arith))
 
+-- ── A part that is repeated, or another step ──
 number-enum-told-3 : (t : ℕ) → number-lts.Need-enum-told-3 (number-calls t) (number-at t) number.Post
 number-enum-told-3 t c = search needs
 
@@ -97,6 +101,7 @@ number-number-requires-3 t c κs =
 number-add-t23 : (t : ℕ) → number-lts.Need-add-t23 (number-calls t) (number-at t) number.Post
 number-add-t23 t c = let n = step-room _ (c .before .path-kind .ensures) _ _ (c .match .keys5) (c .before .before .before .before .pre .1 .0) in omega arith
 
+-- ── What is returned ──
 number-returns : (t : ℕ) → number-lts.Need-returns (number-calls t) (number-at t) number.Post
 number-returns t c = empty-walks _ (c .before .before .path-kind .ensures) _ _ _ (c .enum-told .given .1)
 

@@ -16,6 +16,7 @@ use Rattle.rule_parts.proofs.skip_path.Reads as skip-path-reads
 use Rattle.automaton.proofs.places.+locate.{statement}
 use Rattle.automaton.proofs.places.+locate.Tie.{close}
 
+-- ── The measure, and what the calls claim ──
 abbrev μ-locate : Measures 2 locate-kinds.ps ℕ
 μ-locate κs a = length (a .0 .now) - a .1 .0
 
@@ -28,6 +29,7 @@ locate-below t = and 2 locate-kinds.ps (falls 2 locate-kinds.ps _<_ μ-locate t)
 abbrev locate-calls : ℕ → locate-lts.Claims
 locate-calls t = (path-kind-reads.Asked, path-kind-reads.Learnt, locate-below t, locate.Post, skip-path-reads.Asked, skip-path-reads.Learnt)
 
+-- ── The kind of the path, and the empty path ──
 locate-path-kind-requires : (t : ℕ) → locate-lts.Need-path-kind-requires (locate-calls t) (locate-at t) locate.Post
 locate-path-kind-requires t c κs = room-long _ _ _ (c .before .before .pre .1 .0)
 
@@ -37,6 +39,7 @@ locate-enum-told t c = search needs
 locate-add-t9 : (t : ℕ) → locate-lts.Need-add-t9 (locate-calls t) (locate-at t) locate.Post
 locate-add-t9 t c = let n = room-long _ _ _ (c .before .before .before .before .before .pre .1 .0) in omega arith
 
+-- ── Two parts, or one that is repeated ──
 locate-add-locate : (t : ℕ) → locate-lts.Need-add-locate (locate-calls t) (locate-at t) locate.Post
 locate-add-locate t c = let n = room-long _ _ _ (c .before .before .before .before .pre .1 .0) in omega arith
 
@@ -60,6 +63,7 @@ locate-locate-requires-3 : (t : ℕ) → locate-lts.Need-locate-requires-3 (loca
 locate-locate-requires-3 t c κs =
     let z = c .before .before .before .before .before .before in let n = room-long _ _ _ (z .pre .1 .0) in let m = z .pre .0 in (omega arith, (star-room _ (c .before .before .before .path-kind .ensures) _ (c .before .enum-told2 .given .1) (z .pre .1 .0), z .pre .1 .1))
 
+-- ── A single step ──
 locate-mul-places : (t : ℕ) → locate-lts.Need-mul-places (locate-calls t) (locate-at t) locate.Post
 locate-mul-places t c = let n = step-room _ (c .before .path-kind .ensures) _ (c .match .keys4) (c .before .before .before .before .pre .1 .0) in omega arith
 
@@ -72,6 +76,7 @@ locate-skip-path-requires t c κs = let n = room-long _ _ _ (c .before .before .
 locate-add-t18 : (t : ℕ) → locate-lts.Need-add-t18 (locate-calls t) (locate-at t) locate.Post
 locate-add-t18 t c = let n = step-room _ (c .before .before .path-kind .ensures) _ (c .before .match .keys4) (c .before .before .before .before .before .pre .1 .0) in omega arith
 
+-- ── What is returned ──
 locate-returns : (t : ℕ) → locate-lts.Need-returns (locate-calls t) (locate-at t) locate.Post
 locate-returns t c = empty-places _ (c .before .before .path-kind .ensures) _ (c .enum-told .given .1)
 

@@ -17,6 +17,7 @@ use Rattle.rule_parts.proofs.kinds.path_kind.Reads as path-kind-reads
 use Rattle.automaton.proofs.relation.+related.{statement}
 use Rattle.automaton.proofs.relation.+related.Tie.{close}
 
+-- ── The measure, and what the calls claim ──
 abbrev μ-related : Measures 1 related-kinds.ps ℕ
 μ-related κs a = length (a .0 .now) - a .1 .0
 
@@ -29,6 +30,7 @@ related-below t = and 1 related-kinds.ps (falls 1 related-kinds.ps _<_ μ-relate
 abbrev related-calls : ℕ → related-lts.Claims
 related-calls t = (path-kind-reads.Asked, path-kind-reads.Learnt, scan-reads.Asked, scan-reads.Learnt, related-below t, related.Post, joined-reads.Asked, joined-reads.Learnt)
 
+-- ── The kind of the path, and two parts in sequence ──
 related-path-kind-requires : (t : ℕ) → related-lts.Need-path-kind-requires (related-calls t) (related-at t) related.Post
 related-path-kind-requires t c κs = room-long _ _ _ (c .before .pre .1)
 
@@ -62,6 +64,7 @@ related-related-requires-2 t c κs =
 related-joined-requires : (t : ℕ) → related-lts.Need-joined-requires (related-calls t) (related-at t) related.Post
 related-joined-requires t c κs = tt
 
+-- ── Either of two parts ──
 related-enum-told-2 : (t : ℕ) → related-lts.Need-enum-told-2 (related-calls t) (related-at t) related.Post
 related-enum-told-2 t c = search needs
 
@@ -85,6 +88,7 @@ related-related-requires-4 t c κs =
     let w = union-two _ (c .before .before .before .before .path-kind .ensures) _ (c .before .before .enum-told2 .given .1) (z .pre .1) in let p = scan-ends (c .before .scan3 .ensures) in let h = second-behind _ _ _ w _ _ p in
     (omega arith, second-room _ _ _ w _ _ p)
 
+-- ── A part that is repeated ──
 related-enum-told-3 : (t : ℕ) → related-lts.Need-enum-told-3 (related-calls t) (related-at t) related.Post
 related-enum-told-3 t c = search needs
 
@@ -105,6 +109,7 @@ related-related-requires-5 t c κs =
 related-joined-requires-2 : (t : ℕ) → related-lts.Need-joined-requires-2 (related-calls t) (related-at t) related.Post
 related-joined-requires-2 t c κs = tt
 
+-- ── What is returned ──
 related-returns : (t : ℕ) → related-lts.Need-returns (related-calls t) (related-at t) related.Post
 related-returns t c =
     seq-relates _ (c .before .before .before .before .before .before .before .path-kind .ensures) (c .before .before .before .before .scan .ensures) (c .before .before .related .ensures) (c .before .related2 .ensures) (c .before .before .before .scan2 .ensures) (c .before .before .before .before .before .enum-told .given .1) (c .joined .ensures)

@@ -20,6 +20,7 @@ use Rattle.rule_parts.proofs.skip_path.Reads as skip-path-reads
 use Rattle.automaton.proofs.scan.+scan.{statement}
 use Rattle.automaton.proofs.scan.+scan.Tie.{close}
 
+-- ── The measure, and what the calls claim ──
 abbrev μ-scan : Measures 1 scan-kinds.ps ℕ
 μ-scan κs a = length (a .0 .now) - a .1 .0
 
@@ -32,6 +33,7 @@ scan-below t = and 1 scan-kinds.ps (falls 1 scan-kinds.ps _<_ μ-scan t) scan.Pr
 abbrev scan-calls : ℕ → scan-lts.Claims
 scan-calls t = (path-kind-reads.Asked, path-kind-reads.Learnt, no-step-reads.Asked, no-step-reads.Learnt, scan-below t, scan.Post, in-sequence-reads.Asked, in-sequence-reads.Learnt, either-reads.Asked, either-reads.Learnt, repeated-reads.Asked, repeated-reads.Learnt, skip-path-reads.Asked, skip-path-reads.Learnt, one-step-reads.Asked, one-step-reads.Learnt)
 
+-- ── The kind of the path, and the empty path ──
 scan-path-kind-requires : (t : ℕ) → scan-lts.Need-path-kind-requires (scan-calls t) (scan-at t) scan.Post
 scan-path-kind-requires t c κs = room-long _ _ _ (c .before .pre .1)
 
@@ -44,6 +46,7 @@ scan-add-no-step t c = let n = room-long _ _ _ (c .before .before .before .befor
 scan-no-step-requires : (t : ℕ) → scan-lts.Need-no-step-requires (scan-calls t) (scan-at t) scan.Post
 scan-no-step-requires t c κs = tt
 
+-- ── Two parts, in sequence or either of them ──
 scan-enum-told-2 : (t : ℕ) → scan-lts.Need-enum-told-2 (scan-calls t) (scan-at t) scan.Post
 scan-enum-told-2 t c = search needs
 
@@ -82,6 +85,7 @@ scan-scan-requires-4 t c κs =
 scan-either-requires : (t : ℕ) → scan-lts.Need-either-requires (scan-calls t) (scan-at t) scan.Post
 scan-either-requires t c κs = tt
 
+-- ── A part that is repeated, or a single step ──
 scan-enum-told-4 : (t : ℕ) → scan-lts.Need-enum-told-4 (scan-calls t) (scan-at t) scan.Post
 scan-enum-told-4 t c = search needs
 
@@ -101,6 +105,7 @@ scan-skip-path-requires t c κs = let n = room-long _ _ _ (c .before .before .be
 scan-one-step-requires : (t : ℕ) → scan-lts.Need-one-step-requires (scan-calls t) (scan-at t) scan.Post
 scan-one-step-requires t c κs = step-room _ (c .before .before .path-kind .ensures) _ (c .before .match .keys5) (c .before .before .before .before .pre .1)
 
+-- ── What is returned ──
 scan-returns : (t : ℕ) → scan-lts.Need-returns (scan-calls t) (scan-at t) scan.Post
 scan-returns t c = empty-scans _ (c .before .before .before .path-kind .ensures) (c .before .enum-told .given .1) (c .no-step .ensures)
 

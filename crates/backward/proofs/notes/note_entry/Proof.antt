@@ -9,6 +9,7 @@ use borrow.Author.Needs.{needs}
 use Rattle.backward.proofs.notes.note_entry.Statement.{statement}
 use Rattle.backward.proofs.notes.note_entry.Tie as tie
 
+-- ── Reading the entry's node and positions ──
 room : (c : tie.Start) → c .args .h < 16 * c .args .n
 room c = let r = work-room (c .pre .0) in let l = c .pre .1 in omega arith
 
@@ -39,6 +40,7 @@ mul-s-2 c = let r = room (c .before .before) in omega arith
 slice-read-s : tie.Need-slice-read-s
 slice-read-s c = let r = room (c .before .before .before) in let s = c .before .before .before .pre .0 .space .room in omega arith
 
+-- ── The two notes ──
 has-requires : tie.Need-has-requires
 has-requires c κs = search needs
 
@@ -61,6 +63,7 @@ put-if-requires-2 c κs =
     let f = c .before .before .before .before in let x = f .before .before .before .before .before .before in let w = x .pre .0 in let r = w .space .room in let q = x .pre .3 .1 in let e = put-long (f .put-if .ensures) in
     (omega arith, w .nodes (x .args .h) (x .pre .1), omega arith, x .pre .4)
 
+-- ── What is returned ──
 same-length : tie.Need-same-length
 same-length c = search needs
 

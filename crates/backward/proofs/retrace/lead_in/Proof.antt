@@ -4,6 +4,7 @@ use borrow.Author.Needs.{needs}
 use Rattle.backward.proofs.retrace.lead_in.Statement.{statement}
 use Rattle.backward.proofs.retrace.lead_in.Tie as tie
 
+-- ── The node's neighbours, and the steps that lead to it ──
 get-requires : tie.Need-get-requires
 get-requires c κs = search needs
 
@@ -22,6 +23,7 @@ cast-stays c = search needs
 downward-requires : tie.Need-downward-requires
 downward-requires c κs = search needs
 
+-- ── Adding what leads in: from the node, its children, its parent ──
 sources-requires : tie.Need-sources-requires
 sources-requires c κs = search needs
 
@@ -46,6 +48,7 @@ sources-requires-4 c κs = search needs
 add-requires-4 : tie.Need-add-requires-4
 add-requires-4 c κs = search needs
 
+-- ── What is returned ──
 same-length : tie.Need-same-length
 same-length c = search needs
 

@@ -8,6 +8,7 @@ use borrow.Author.Needs.{needs}
 use Rattle.document.proofs.lines.read_kind.Statement.{statement}
 use Rattle.document.proofs.lines.read_kind.Tie as tie
 
+-- ── An element ──
 slice-aggregate-read-key : tie.Need-slice-aggregate-read-key
 slice-aggregate-read-key c = search needs
 
@@ -23,6 +24,7 @@ returns c = let a = c .before .before .before .before .before .before .args in k
 enum-told : tie.Need-enum-told
 enum-told c = search needs
 
+-- ── An attribute ──
 slice-aggregate-read-key-2 : tie.Need-slice-aggregate-read-key-2
 slice-aggregate-read-key-2 c = search needs
 
@@ -38,6 +40,7 @@ returns-2 c = let a = c .before .before .before .before .before .before .before 
 enum-told-2 : tie.Need-enum-told-2
 enum-told-2 c = search needs
 
+-- ── A text ──
 slice-aggregate-read-key-3 : tie.Need-slice-aggregate-read-key-3
 slice-aggregate-read-key-3 c = search needs
 
@@ -53,6 +56,7 @@ returns-3 c = let a = c .before .before .before .before .before .before .before 
 enum-told-3 : tie.Need-enum-told-3
 enum-told-3 c = search needs
 
+-- ── None of the three ──
 returns-4 : tie.Need-returns-4
 returns-4 c =
     let a = c .before .before .before .before .before .before .before .before .before .before .before .before .before .args in

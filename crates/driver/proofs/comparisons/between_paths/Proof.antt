@@ -11,6 +11,7 @@ use borrow.Author.Needs.{needs}
 use Rattle.driver.proofs.comparisons.between_paths.Statement.{statement}
 use Rattle.driver.proofs.comparisons.between_paths.Tie as tie
 
+-- ── The machine and the tests in its brackets ──
 add-machine-of : tie.Need-add-machine-of
 add-machine-of c = search needs
 
@@ -26,12 +27,14 @@ add-bracket-tests-2 c = let h = number-small (c .before .before .before .before 
 bracket-tests-requires : tie.Need-bracket-tests-requires
 bracket-tests-requires c κs = two-numbered (c .before .before .before .before .pre .2)
 
+-- ── Drawing the part ──
 draw-requires : tie.Need-draw-requires
 draw-requires c κs = draw-room (c .before .before .before .before .before .before .pre .2 .task) (c .before .before .before .before .before .before .args .t .now) refl
 
 draw-tests-requires : tie.Need-draw-tests-requires
 draw-tests-requires c κs = let h = c .before .before .before .before .before .before .before .before .before .before .pre .2 in (draw-room (h .task) (c .before .before .before .draw .last .0) (c .before .before .before .draw .ensures .within .long), has-brackets h (c .before .before .before .before .before .bracket-tests .ensures) .small)
 
+-- ── Lending the part to the evaluator ──
 needed-requires : tie.Need-needed-requires
 needed-requires c κs = let h = c .before .before .before .before .before .before .before .before .before .before .before .before .before .pre .2 .task in (some-nodes h, few-nodes h)
 
@@ -56,6 +59,7 @@ compare-paths-requires : tie.Need-compare-paths-requires
 compare-paths-requires c κs =
     paths-asked (c .before .before .before .before .before .before .before .before .before .before .before .before .before .before .before .pre .2) (c .before .before .before .before .before .before .before .before .before .before .before .machine-of .ensures) (c .before .before .before .before .before .before .before .before .before .before .bracket-tests .ensures) (c .before .before .before .before .before .before .before .before .draw .ensures) (c .before .before .before .before .draw-tests .ensures) (c .before .needed .ensures)
 
+-- ── What is returned ──
 same-length : tie.Need-same-length
 same-length c = search needs
 

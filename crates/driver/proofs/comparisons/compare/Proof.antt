@@ -14,12 +14,14 @@ use borrow.Author.Needs.{needs}
 use Rattle.driver.proofs.comparisons.compare.Statement.{statement}
 use Rattle.driver.proofs.comparisons.compare.Tie as tie
 
+-- ── Where the second operand stands ──
 parted-requires : tie.Need-parted-requires
 parted-requires c κs = test-begins (c .before .before .before .pre .2 .stands)
 
 stands-requires : tie.Need-stands-requires
 stands-requires c κs = let p = c .before .before .before .before .pre in second-inside (p .2) (c .parted .ensures) (p .3)
 
+-- ── A path and a constant ──
 skip-test-requires : tie.Need-skip-test-requires
 skip-test-requires c κs = search needs
 
@@ -39,11 +41,13 @@ with-constant-requires c κs =
     let h = is-constant (p .2) (c .before .before .before .before .before .parted .ensures) (p .3) (subst (Stood (x .rule .now) (c .before .before .before .before .before .parted .result .second) 34) (c .before .before .before .if1 .taken) (c .before .before .before .before .stands .ensures)) in
     (p .0, p .1, subst (λ j. Constant (x .s .now) (x .rule .now) (p .0) (p .1) (x .n) (x .at) (x .k) (x .t .now) (m .second + 1) (j - 2) (m .operator)) (sym e) h)
 
+-- ── Two paths ──
 between-paths-requires : tie.Need-between-paths-requires
 between-paths-requires c κs =
     let p = c .before .before .before .before .before .before .before .pre in let x = c .before .before .before .before .before .before .before .args in
     (p .0, p .1, is-paths (p .2) (c .before .before .before .parted .ensures) (p .3) (subst (Stood (x .rule .now) (c .before .before .before .parted .result .second) 34) (c .before .if1 .left) (c .before .before .stands .ensures)))
 
+-- ── What is returned ──
 same-length : tie.Need-same-length
 same-length c = search needs
 

@@ -11,6 +11,7 @@ use borrow.Author.Needs.{needs}
 use Rattle.driver.proofs.comparisons.with_constant.Statement.{statement}
 use Rattle.driver.proofs.comparisons.with_constant.Tie as tie
 
+-- ── The machine and the tests in its brackets ──
 add-machine-of-one : tie.Need-add-machine-of-one
 add-machine-of-one c = search needs
 
@@ -26,6 +27,7 @@ add-bracket-tests-of-one-2 c = let h = number-small (c .before .before .before .
 bracket-tests-of-one-requires : tie.Need-bracket-tests-of-one-requires
 bracket-tests-of-one-requires c κs = one-numbered (c .before .before .before .before .pre .2)
 
+-- ── Drawing the part ──
 draw-requires : tie.Need-draw-requires
 draw-requires c κs = draw-room (c .before .before .before .before .before .before .pre .2 .task) (c .before .before .before .before .before .before .args .t .now) refl
 
@@ -37,6 +39,7 @@ draw-hits-requires c κs =
     let h = c .before .before .before .before .before .before .before .before .before .before .before .before .before .before .pre .2 in let p = c .before .before .before .before .before .before .before .draw .ensures in let q = c .before .before .before .draw-tests .ensures in
     (scene-tabled (drawn-scene (h .task) p q) (some-nodes (h .task)), draw-room (h .task) (c .before .before .before .draw-tests .last .0) (q .within .long ∙ p .within .long), h .ordered, h .inside)
 
+-- ── Lending the part to the evaluator ──
 needed-requires : tie.Need-needed-requires
 needed-requires c κs = let h = c .before .before .before .before .before .before .before .before .before .before .before .before .before .before .before .before .before .pre .2 .task in (some-nodes h, few-nodes h)
 
@@ -64,6 +67,7 @@ compare-constant-requires c κs =
     let x = c .before .before .before .before .before .before .before .before .before .before .before .before .before .before .before .before .before .before .before .pre in let h = x .2 in let p = c .before .before .before .before .before .before .before .before .before .before .before .before .draw .ensures in let q = c .before .before .before .before .before .before .before .before .draw-tests .ensures in
     constant-asked h (c .before .before .before .before .before .before .before .before .before .before .before .before .before .before .before .machine-of-one .ensures) (c .before .before .before .before .before .before .before .before .before .before .before .before .before .before .bracket-tests-of-one .ensures) p q (c .before .before .before .before .draw-hits .ensures (x .0) (h .sign) (h .task .scene .library) (drawn-scene (h .task) p q .ranked) (h .told)) (c .before .needed .ensures)
 
+-- ── What is returned ──
 same-length : tie.Need-same-length
 same-length c = search needs
 

@@ -8,6 +8,7 @@ use Rattle.halving.proofs.Adding.{upper-step}
 use Rattle.halving.proofs.passes.add_upper.Statement.{statement}
 use Rattle.halving.proofs.passes.add_upper.Tie as tie
 
+-- ── The loop's invariant ──
 abbrev Inv-loop : tie.InvT-loop
 Inv-loop p₀ source down to i₀ p i = (i ≤ 16) × Drawing (With p₀ to (Upper p₀ source down)) to i p₀ p
 
@@ -17,6 +18,7 @@ abbrev μ-loop : tie.MeasureT-loop
 loop-holds : tie.Need-loop-holds Inv-loop μ-loop
 loop-holds c = (omega arith, drawing-none _ _ _)
 
+-- ── Reading the row, and what it is joined with ──
 add-w : tie.Need-add-w Inv-loop μ-loop
 add-w c = omega arith
 
@@ -41,6 +43,7 @@ slice-read-union c = omega arith
 union-requires : tie.Need-union-requires Inv-loop μ-loop
 union-requires c κs = tt
 
+-- ── Writing the row ──
 add-p : tie.Need-add-p Inv-loop μ-loop
 add-p c = omega arith
 
@@ -50,6 +53,7 @@ mul-p c = omega arith
 slice-write-p : tie.Need-slice-write-p Inv-loop μ-loop
 slice-write-p c = omega arith
 
+-- ── One turn of the loop ──
 add-i : tie.Need-add-i Inv-loop μ-loop
 add-i c = omega arith
 
@@ -63,6 +67,7 @@ loop-again c =
     let new = c .before .before .before2 in
     (omega arith, upper-step (new .result) (c .union .result) (c .union .ensures) (omega arith) (omega arith) _ _ (n .0) (n .1) (l .1) (new .ensures))
 
+-- ── What is returned ──
 same-length : tie.Need-same-length Inv-loop μ-loop
 same-length c = c .before .loop .inv .1 .frame .long
 

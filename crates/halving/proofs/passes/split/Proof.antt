@@ -7,6 +7,7 @@ use borrow.Author.Needs.{needs}
 use Rattle.halving.proofs.passes.split.Statement.{statement}
 use Rattle.halving.proofs.passes.split.Tie as tie
 
+-- ── The node half way up, and none there ──
 add-next : tie.Need-add-next
 add-next c = search needs
 
@@ -19,6 +20,7 @@ same-length c = search needs
 returns : tie.Need-returns
 returns c = let x = c .before .before .before .before .args in hands-none (x .n) (x .k) (x .p .now) (x .y) (omega (arith, c .before .upper .ensures .0))
 
+-- ── The blocks that take part ──
 block-at-requires : tie.Need-block-at-requires
 block-at-requires c κs = search needs
 
@@ -31,6 +33,7 @@ block-at-requires-2 c κs = search needs
 block-at-requires-3 : tie.Need-block-at-requires-3
 block-at-requires-3 c κs = search needs
 
+-- ── The upper and the lower half ──
 add-add-upper : tie.Need-add-add-upper
 add-add-upper c = search needs
 
@@ -59,6 +62,7 @@ add-lower-requires c κs =
     lower-places (x .args .n) (x .args .k) (x .args .y) h (source .result) (low .result) (high .result) _ (source .ensures) (low .ensures) (high .ensures) (x .pre .0) (omega arith)
     (omega (arith, x .pre .1 .room, c .before .before .before .add-upper .ensures .frame .long))
 
+-- ── What is returned ──
 same-length-2 : tie.Need-same-length-2
 same-length-2 c = search needs
 

@@ -8,12 +8,14 @@ use Rattle.matrices.proofs.Drawing.{drawing-none, drawing-to, join-step
 use Rattle.matrices.proofs.closure.join.Statement.{statement}
 use Rattle.matrices.proofs.closure.join.Tie as tie
 
+-- ── The loop's invariant ──
 abbrev Inv-loop : tie.InvT-loop
 Inv-loop p₀ at k added i₀ p i = (i ≤ 16) × (added ≡ getD p₀ (at + k) 0) × Drawing (Through (Related p₀ at) k) at i p₀ p
 
 abbrev μ-loop : tie.MeasureT-loop
 μ-loop p₀ at k added i₀ p i = 16 - i
 
+-- ── The row that is added, and entering the loop ──
 add-added : tie.Need-add-added Inv-loop μ-loop
 add-added c = omega arith
 
@@ -26,6 +28,7 @@ slice-read-added c = omega arith
 loop-holds : tie.Need-loop-holds Inv-loop μ-loop
 loop-holds c = (omega arith, refl, drawing-none _ _ _)
 
+-- ── Reading, widening and writing a row ──
 add-widened : tie.Need-add-widened Inv-loop μ-loop
 add-widened c = omega arith
 
@@ -50,6 +53,7 @@ mul-p c = omega arith
 slice-write-p : tie.Need-slice-write-p Inv-loop μ-loop
 slice-write-p c = omega arith
 
+-- ── One turn of the loop ──
 add-i : tie.Need-add-i Inv-loop μ-loop
 add-i c = omega arith
 
@@ -61,6 +65,7 @@ loop-again c =
     let l = c .before .before .before .loop .inv in
     (omega arith, l .1, join-step (c .widened .result) (c .before .before .before .before .before .before .args .k) (l .2) (omega arith) (l .1) (c .widened .ensures))
 
+-- ── What is returned ──
 same-length : tie.Need-same-length Inv-loop μ-loop
 same-length c = c .before .loop .inv .2 .frame .long
 

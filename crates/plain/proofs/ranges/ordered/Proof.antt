@@ -10,6 +10,7 @@ use borrow.Author.Needs.{needs}
 use Rattle.plain.proofs.ranges.ordered.Statement.{statement}
 use Rattle.plain.proofs.ranges.ordered.Tie as tie
 
+-- ── Which operator it is, and what the calls ask for ──
 enum-told : tie.Need-enum-told
 enum-told c = search needs
 
@@ -40,6 +41,7 @@ under-requires-4 c κs = search needs
 enum-told-6 : tie.Need-enum-told-6
 enum-told-6 c = search needs
 
+-- ── What is returned for each operator ──
 returns : tie.Need-returns
 returns c =
     let x = c .before .before .args in

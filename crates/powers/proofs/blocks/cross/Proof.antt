@@ -8,6 +8,7 @@ use Rattle.powers.proofs.Crossing.{cross-step}
 use Rattle.powers.proofs.blocks.cross.Statement.{statement}
 use Rattle.powers.proofs.blocks.cross.Tie as tie
 
+-- ── The loop's invariant ──
 abbrev Inv-loop : tie.InvT-loop
 Inv-loop p₀ rows a w b c i₀ p i = (i ≤ 16) × Drawing (Crossed rows p₀ a w b) c i p₀ p
 
@@ -17,6 +18,7 @@ abbrev μ-loop : tie.MeasureT-loop
 loop-holds : tie.Need-loop-holds Inv-loop μ-loop
 loop-holds c = (omega arith, drawing-none _ _ _)
 
+-- ── What follows the row, and its image ──
 add-followers : tie.Need-add-followers Inv-loop μ-loop
 add-followers c = omega arith
 
@@ -35,6 +37,7 @@ meet-requires c κs = tt
 image-requires : tie.Need-image-requires Inv-loop μ-loop
 image-requires c κs = omega arith
 
+-- ── Writing the row ──
 add-p : tie.Need-add-p Inv-loop μ-loop
 add-p c = omega arith
 
@@ -44,6 +47,7 @@ mul-p c = omega arith
 slice-write-p : tie.Need-slice-write-p Inv-loop μ-loop
 slice-write-p c = omega arith
 
+-- ── One turn of the loop ──
 add-i : tie.Need-add-i Inv-loop μ-loop
 add-i c = omega arith
 
@@ -56,6 +60,7 @@ loop-again c =
     let x = u .before .before .args in
     (omega arith, cross-step (x .rows) (x .a) (x .w) (x .b) (c .before .before .before .followers .result) (c .before .before .meet .result) (c .image .result) (u .loop .inv .1) (omega arith) (omega arith) (omega arith) (omega arith) (c .before .before .before .followers .ensures) (c .before .before .meet .ensures) (c .image .ensures))
 
+-- ── What is returned ──
 same-length : tie.Need-same-length Inv-loop μ-loop
 same-length c = c .before .loop .inv .1 .frame .long
 

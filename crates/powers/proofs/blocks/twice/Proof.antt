@@ -8,6 +8,7 @@ use Rattle.powers.proofs.Making.{twice-made}
 use Rattle.powers.proofs.blocks.twice.Statement.{statement}
 use Rattle.powers.proofs.blocks.twice.Tie as tie
 
+-- ── The blocks that take part ──
 upper-requires : tie.Need-upper-requires
 upper-requires c κs = search needs
 
@@ -23,6 +24,7 @@ block-at-requires-2 c κs = search needs
 block-at-requires-3 : tie.Need-block-at-requires-3
 block-at-requires-3 c κs = search needs
 
+-- ── Composing down and up ──
 compose-requires : tie.Need-compose-requires
 compose-requires c κs =
     let s = c .before .before .before .before .before .before .before in let x = s .args in let f = s .pre .1 in let room = f .room in
@@ -50,6 +52,7 @@ compose-requires-2 c κs =
     let long = c .before .before .before .compose .ensures .0 .long in
     (inl (omega arith), inl (omega arith), omega arith, omega arith, omega arith)
 
+-- ── Writing the node above ──
 cast-p : tie.Need-cast-p
 cast-p c = search needs
 
@@ -62,6 +65,7 @@ mul-p c = search needs
 slice-write-p : tie.Need-slice-write-p
 slice-write-p c = search needs
 
+-- ── What is returned ──
 returns : tie.Need-returns
 returns c =
     let d = c .before .before .before .before .before .before in let b = d .before .before in

@@ -4,6 +4,7 @@ use borrow.Author.Needs.{needs}
 use Rattle.reach.proofs.expand.spread.Statement.{statement}
 use Rattle.reach.proofs.expand.spread.Tie as tie
 
+-- ── The node's neighbours, and the steps that leave it ──
 get-requires : tie.Need-get-requires
 get-requires c κs = search needs
 
@@ -22,6 +23,7 @@ cast-stays c = search needs
 upward-requires : tie.Need-upward-requires
 upward-requires c κs = search needs
 
+-- ── Adding where it leads: to the node, its children, its parent ──
 meet-requires : tie.Need-meet-requires
 meet-requires c κs = search needs
 
@@ -46,6 +48,7 @@ meet-requires-4 c κs = search needs
 add-requires-4 : tie.Need-add-requires-4
 add-requires-4 c κs = search needs
 
+-- ── What is returned ──
 same-length : tie.Need-same-length
 same-length c = search needs
 

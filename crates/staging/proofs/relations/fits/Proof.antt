@@ -6,6 +6,7 @@ use borrow.Author.Needs.{needs}
 use Rattle.staging.proofs.relations.fits.Statement.{statement}
 use Rattle.staging.proofs.relations.fits.Tie as tie
 
+-- ── Which operator it is, and what the calls ask for ──
 enum-told : tie.Need-enum-told
 enum-told c = search needs
 
@@ -42,6 +43,7 @@ enum-told-6 c = search needs
 is-less-requires-2 : tie.Need-is-less-requires-2
 is-less-requires-2 c κs = search needs
 
+-- ── What is returned for each operator ──
 returns : tie.Need-returns
 returns c = λ bs cs q h e. told-by eq q bs cs (c .before .enum-told .given .1) e (c .is-same .ensures bs cs h)
 

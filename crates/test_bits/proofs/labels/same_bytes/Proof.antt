@@ -9,12 +9,14 @@ use Rattle.test_bits.proofs.Spans.{slices-long, slices-agree, slices-sa
 use Rattle.test_bits.proofs.labels.same_bytes.Statement.{statement}
 use Rattle.test_bits.proofs.labels.same_bytes.Tie as tie
 
+-- ── The loop's invariant ──
 abbrev Inv-loop : tie.InvT-loop
 Inv-loop s from to rule start end m i₀ i = (i ≤ m) × ((k : ℕ) → k < i → getD s (from + k) 0 ≡ getD rule (start + k) 0)
 
 abbrev μ-loop : tie.MeasureT-loop
 μ-loop s from to rule start end m i₀ i = m - i
 
+-- ── Spans of different lengths ──
 sub-m : tie.Need-sub-m Inv-loop μ-loop
 sub-m c = omega arith
 
@@ -26,6 +28,7 @@ returns c =
     let x = c .before .args in let p = c .before .pre in
     (λ h. absurd (false≢true h), λ h. let l = slices-long (x .s .now) (x .rule .now) (x .from) (x .to) (x .start) (x .end) (p .1) (p .3) h in absurd (omega arith))
 
+-- ── Entering the loop, and two bytes compared ──
 loop-holds : tie.Need-loop-holds Inv-loop μ-loop
 loop-holds c = (omega arith, λ k l. absurd (omega arith))
 
@@ -46,6 +49,7 @@ returns-2 c =
     let x = c .before .before .before .before .before .before .args in
     (λ h. absurd (false≢true h), λ h. let l = slices-agree (x .s .now) (x .rule .now) (x .from) (x .to) (x .start) (x .end) h (c .before .before .before .before .loop .i) (omega arith) (omega arith) in absurd (omega arith))
 
+-- ── One turn of the loop ──
 add-i : tie.Need-add-i Inv-loop μ-loop
 add-i c = omega arith
 
@@ -55,6 +59,7 @@ loop-less c = omega arith
 loop-again : tie.Need-loop-again Inv-loop μ-loop
 loop-again c = (omega arith, below-more _ _ (c .before .before .before .before .loop .inv .1) (c .if2 .left))
 
+-- ── All bytes agree ──
 returns-3 : tie.Need-returns-3 Inv-loop μ-loop
 returns-3 c =
     let x = c .before .before .before .args in let p = c .before .before .before .pre in
