@@ -62,7 +62,7 @@ fn around_powers(largest: u32) -> impl Iterator<Item = usize> {
     (0..=largest).flat_map(move |exponent| around(1 << exponent))
 }
 
-/// Ranking a long chain takes long; docs/DECISIONS.md has why. So chains have
+/// A long chain takes the plain evaluation long, since a walk from each node goes along it. So chains have
 /// up to so many nodes, and one has the most.
 const LONG_CHAIN: usize = 1_100;
 
