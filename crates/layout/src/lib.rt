@@ -140,6 +140,8 @@ impl Blocks {
 
     pub const WORDS: usize = Scratch::WORDS_PER_DIGIT;
 
+    pub const DOWN: usize = 0;
+
     pub const UP: usize = Rule::MAX_POSITIONS;
 
     pub const SNIPPETS: usize = 2 * Rule::MAX_POSITIONS;

@@ -21,9 +21,6 @@ ghost use Rattle.layout.specs.Blocks.{BLOCKS};
 ghost use Rattle.powers.specs.Powers.{Powered, Lifts};
 ghost use Rattle.powers.specs.Ladder.{Ladder, Stretch};
 
-// Within a block the rows that lead down come first.
-const DOWN: usize = 0;
-
 // The powers of all nodes, for the exponents below `b`.
 pub fn find_powers(p: &mut [u16], n: usize, b: usize, m: Machine)
     requires { ⌜ ((P R : XPath) × (t : Tree) × Stage P R t m n (now p) × Loops P R t n (now p)) × (0 < n) × (n ≤ documentNodes) × (b ≤ nodeDigits) × ((BLOCKS + wordsPerDigit * b) * n ≤ length (now p)) ⌝ }
@@ -57,7 +54,7 @@ pub fn lift(p: &[u16], n: usize, b: usize, y: usize, len: usize, set: u16) -> u1
         return before(p, loop_at(n, y), set);
     }
     let h = first_hop(p, n, b, y, len);
-    let w = before(p, block_at(n, h.exponent, y) + DOWN, set);
+    let w = before(p, block_at(n, h.exponent, y) + Blocks::DOWN, set);
     lift(p, n, b, h.over, h.rest, w)
 }
 
