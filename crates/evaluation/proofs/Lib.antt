@@ -1,2 +1,2 @@
-pub mod Judging
+pub mod Calls
 pub mod Selecting

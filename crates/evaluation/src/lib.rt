@@ -6,8 +6,7 @@ use marking::clear;
 use marking::mark;
 use ranks::rank;
 use table::build;
-use verdicts::check_document;
-use verdicts::check_rule;
+use verdicts::judge;
 ghost use mathlib.Core.Path.{_≡_};
 ghost use mathlib.Core.List.{List};
 ghost use lib.ListN.{length};
@@ -15,58 +14,7 @@ ghost use Rattle.xpath.specs.Syntax.{Test};
 ghost use Rattle.document_spec.specs.Library as Library;
 ghost use Rattle.evaluation_spec.specs.Buffers.{Accepted};
 ghost use Rattle.evaluation_spec.specs.Evaluation.{PlainEvaluation, SnippetEvaluation};
-ghost use Rattle.evaluation.specs.Judging.{Judges};
 ghost use Rattle.evaluation.specs.Outcomes.{outcomeOf, Selection, Evaluated};
-
-// Number and place of the first ground of refusal; or zeros, and the number of nodes.
-struct Judgement {
-    number: u16,
-    place: usize,
-    nodes: usize,
-}
-
-// Judges a document, a rule, and the lengths of the two buffers, in this order.
-fn judge(document: &[u8], rule: &[u8], words: usize, marks: usize) -> Judgement
-    ensures { λ r. ⌜ Judges (now (document .entry)) (now (rule .entry)) words marks (r .number) (r .place) (r .nodes) ⌝ }
-{
-    let d = check_document(document);
-    if d.number != 0 {
-        return Judgement {
-            number: d.number,
-            place: d.place,
-            nodes: 0,
-        };
-    }
-    let r = check_rule(rule);
-    if r.number != 0 {
-        return Judgement {
-            number: r.number,
-            place: r.place,
-            nodes: 0,
-        };
-    }
-    let nodes = d.nodes;
-    let needed = Scratch::needed(nodes);
-    if words < needed {
-        return Judgement {
-            number: 10,
-            place: 0,
-            nodes: 0,
-        };
-    }
-    if marks < nodes {
-        return Judgement {
-            number: 11,
-            place: 0,
-            nodes: 0,
-        };
-    }
-    Judgement {
-        number: 0,
-        place: 0,
-        nodes,
-    }
-}
 
 // What an evaluation returns: number, place, the number of selected nodes, and the number of snippets.
 #[repr(C)]

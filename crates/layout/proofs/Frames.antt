@@ -1,13 +1,15 @@
--- Laws of what may have changed: words from one up to another, and columns.
+-- Laws of what may have changed: words from one up to another, columns, and any words.
 use Prim.Native.Nat.{ℕ, suc, _*_, _≤_, _<_}
 use mathlib.Core.Path.{_≡_, refl, sym, _∙_}
+use mathlib.Core.Logic.{_⊎_, inl, inr}
 use mathlib.Core.List.{List, [], _∷_}
+use lib.ListN.{getD}
 use native.Mathlib.Nat.{mul-le-mul-right}
 use native.Mathlib.Omega.{arith}
-use Rattle.layout.specs.Words.{cell, word, Wrote, Frame, Within}
+use Rattle.layout.specs.Words.{cell, word, Wrote, Frame, Within, Same}
 use Rattle.layout.specs.Table.{Room}
 
--- ── Any words ──
+-- ── Words from one up to another ──
 pub frame-none : {a b : ℕ} (t : List ℕ) → Frame a b t t
 frame-none t = record { long = refl; front = λ k h. refl; behind = λ k h. refl }
 
@@ -52,3 +54,25 @@ before-within {n} {c} h a v l r = let y : suc a * n ≤ c * n = mul-le-mul-right
 
 pub room-within : {n c d : ℕ} {t t′ : List ℕ} → Within n c d t t′ → Room n t → Room n t′
 room-within h r = let l = h .long in omega arith
+
+-- ── Any words ──
+pub same-none : {K : ℕ → Type 0} (t : List ℕ) → Same K t t
+same-none t = record { long = refl; same = λ k h. refl }
+
+pub same-then : {K : ℕ → Type 0} {t t₁ t₂ : List ℕ} → Same K t t₁ → Same K t₁ t₂ → Same K t t₂
+same-then g h = record { long = h .long ∙ g .long; same = λ k r. h .same k r ∙ g .same k r }
+
+pub same-back : {K : ℕ → Type 0} {t t′ : List ℕ} → Same K t t′ → Same K t′ t
+same-back h = record { long = sym (h .long); same = λ k r. sym (h .same k r) }
+
+-- fewer words are the same
+pub same-wider : {K L : ℕ → Type 0} {t t′ : List ℕ} → ((k : ℕ) → K k → L k) → Same L t t′ → Same K t t′
+same-wider f h = record { long = h .long; same = λ k r. h .same k (f k r) }
+
+-- what lies outside a frame is the same
+pub frame-same : {K : ℕ → Type 0} {a b : ℕ} {t t′ : List ℕ} → ((k : ℕ) → K k → (k < a) ⊎ (b ≤ k)) → Frame a b t t′ → Same K t t′
+frame-same {K} {a} {b} {t} {t′} f h = record { long = h .long; same = λ k r. go k (f k r) }
+  where
+    go : (k : ℕ) → (k < a) ⊎ (b ≤ k) → getD t′ k 0 ≡ getD t k 0
+    go k (inl l) = h .front k l
+    go k (inr l) = h .behind k l

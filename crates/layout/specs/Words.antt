@@ -4,6 +4,7 @@
 --   Within n c d      the same, for the columns from c up to d
 --   Kept m            the same, for the words below m
 --   Filled n c x v    x stands in column c of the nodes below v, and no other column has changed
+--   Same K t t′       the words of which K holds are as before: the frame of a change that is no stretch of words
 use Prim.Native.Nat.{ℕ, suc, _+_, _*_, _-_, _≤_, _<_}
 use mathlib.Core.Path.{_≡_}
 use mathlib.Core.Logic.{_≢_}
@@ -39,6 +40,11 @@ pub record Within (n c d : ℕ) (before after : List ℕ) : Type 0 where
   pub long : length after ≡ length before
   pub front : (k : ℕ) → k < c * n → getD after k 0 ≡ getD before k 0
   pub behind : (k : ℕ) → d * n ≤ k → getD after k 0 ≡ getD before k 0
+
+-- what a frame says, of any words; all others may have changed
+pub record Same (K : ℕ → Type 0) (before after : List ℕ) : Type 0 where
+  pub long : length after ≡ length before
+  pub same : (k : ℕ) → K k → getD after k 0 ≡ getD before k 0
 
 abbrev pub Kept : ℕ → List ℕ → List ℕ → Type 0
 Kept m before after = Frame 0 m before after

@@ -1,2 +1,3 @@
 pub mod Verdicts
 pub mod RuleVerdicts
+pub mod Judging

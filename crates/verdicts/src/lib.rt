@@ -1,9 +1,11 @@
-// The two checks, each answered by the numbers of document 01.
+// The two checks, each answered by the numbers of document 01, and the judgement on all four inputs of an evaluation.
 use document::Verdict;
+use limits::Scratch;
 ghost use mathlib.Core.Path.{_≡_};
 ghost use Rattle.verdicts.specs.Answers.{answerOf, ruleAnswerOf};
 ghost use Rattle.rule_spec.specs.Verdict as Grammar;
 ghost use Rattle.document_spec.specs.Verdict.{Checked};
+ghost use Rattle.verdicts.specs.Judging.{Judges};
 
 // What the document check returns: number, place and N.
 #[repr(C)]
@@ -95,4 +97,54 @@ pub fn check_rule(rule: &[u8]) -> RuleAnswer
     ensures { λ r. ⌜ Grammar.Checked (now (rule .entry)) (r .number) (r .place) ⌝ }
 {
     rule_answer(rule::check(rule))
+}
+
+// Number and place of the first ground of refusal; or zeros, and the number of nodes.
+pub struct Judgement {
+    pub number: u16,
+    pub place: usize,
+    pub nodes: usize,
+}
+
+// Judges a document, a rule, and the lengths of the two buffers, in this order.
+pub fn judge(document: &[u8], rule: &[u8], words: usize, marks: usize) -> Judgement
+    ensures { λ r. ⌜ Judges (now (document .entry)) (now (rule .entry)) words marks (r .number) (r .place) (r .nodes) ⌝ }
+{
+    let d = check_document(document);
+    if d.number != 0 {
+        return Judgement {
+            number: d.number,
+            place: d.place,
+            nodes: 0,
+        };
+    }
+    let r = check_rule(rule);
+    if r.number != 0 {
+        return Judgement {
+            number: r.number,
+            place: r.place,
+            nodes: 0,
+        };
+    }
+    let nodes = d.nodes;
+    let needed = Scratch::needed(nodes);
+    if words < needed {
+        return Judgement {
+            number: 10,
+            place: 0,
+            nodes: 0,
+        };
+    }
+    if marks < nodes {
+        return Judgement {
+            number: 11,
+            place: 0,
+            nodes: 0,
+        };
+    }
+    Judgement {
+        number: 0,
+        place: 0,
+        nodes,
+    }
 }

@@ -1,5 +1,6 @@
 -- `evaluation::evaluate` meets its contract.
-use Rattle.evaluation.proofs.Judging.{judged-accepted, call-refused, call-accepted}
+use Rattle.verdicts.proofs.Judging.{judged-accepted}
+use Rattle.evaluation.proofs.Calls.{call-refused, call-accepted}
 use borrow.Author.Needs.{needs}
 use Rattle.evaluation.proofs.evaluate.Statement.{statement}
 use Rattle.evaluation.proofs.evaluate.Tie as tie

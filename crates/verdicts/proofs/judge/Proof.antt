@@ -1,8 +1,8 @@
--- `evaluation::judge` meets its contract.
-use Rattle.evaluation.proofs.Judging.{needed-told, by-first, by-second, by-third, by-fourth, by-none}
+-- `verdicts::judge` meets its contract.
+use Rattle.verdicts.proofs.Judging.{needed-told, by-first, by-second, by-third, by-fourth, by-none}
 use borrow.Author.Needs.{needs}
-use Rattle.evaluation.proofs.judge.Statement.{statement}
-use Rattle.evaluation.proofs.judge.Tie as tie
+use Rattle.verdicts.proofs.judge.Statement.{statement}
+use Rattle.verdicts.proofs.judge.Tie as tie
 
 check-document-requires : tie.Need-check-document-requires
 check-document-requires c κs = search needs

@@ -17,11 +17,9 @@ use Rattle.rule_spec.specs.Verdict.{RuleGround}
 use Rattle.rule_spec.specs.Verdict as Rule
 use Rattle.rule_spec.proofs.Judged.{rule-judged}
 use Rattle.evaluation_spec.specs.Buffers.{Ground, Accepted}
-use Rattle.evaluators.specs.declared.Evaluator.{Evaluator}
 use Rattle.evaluation_spec.proofs.Judged.{by-document, by-rule, short-scratch, few-marks, judged, accepted-unrefused, one-library}
 use Rattle.evaluation_spec.proofs.Agreement.{number-positive}
-use Rattle.evaluation.specs.Judging.{Judges}
-use Rattle.evaluation.specs.Outcomes.{refusedBy, selecting, Selection, Evaluated}
+use Rattle.verdicts.specs.Judging.{Judges}
 
 -- ── What the two checks say by their number ──
 document-accepted : {s : List ℕ} {n p nodes : ℕ} → Document.Checked s n p nodes → n ≡ 0 → (ns : List Node) × Document.Accepts s ns × (nodes ≡ length ns)
@@ -106,22 +104,3 @@ module _ {document rule : List ℕ} {words marks : ℕ} where
           → (ns : List Node) × (T : Test) × Accepted document rule words marks ns T × (length ns ≡ nodes)
       go (inl (r, f)) = let q = j .refused r f .0 in let h = number-positive r in absurd (omega arith)
       go (inr (ns, T, a)) = (ns, T, a, sym (j .accepted ns T a .2))
-
--- ── The two sides of the contract ──
-module _ {document rule scratch marks : List ℕ} {n p nodes : ℕ} (j : Judges document rule (length scratch) (length marks) n p nodes) where
-  pub call-refused : (e : Evaluator) → n ≢ 0 → Evaluated e document rule scratch marks (refusedBy n p) scratch marks
-  call-refused e z = record {
-    refused = λ r f. let (h, g, _) = j .refused r f in record {
-      outcome = λ i. record { number = h i; place = g i; selected = 0; snippets = 0 };
-      sameScratch = refl;
-      sameMarks = refl;
-    };
-    accepted = λ ns T a. absurd (z (j .accepted ns T a .0));
-  }
-
-  pub call-accepted : (e : Evaluator) → n ≡ 0 → (k c : ℕ) (scratch′ marks′ : List ℕ) → Selection e document rule scratch marks k c scratch′ marks′
-      → Evaluated e document rule scratch marks (selecting k c) scratch′ marks′
-  call-accepted e z k c scratch′ marks′ s = record {
-    refused = λ r f. let q = j .refused r f .0 in let h = number-positive r in absurd (omega arith);
-    accepted = s;
-  }
