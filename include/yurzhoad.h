@@ -384,7 +384,8 @@ yurzhoad_evaluation yurzhoad_evaluate_snippets(
     uint8_t *YURZHOAD_RESTRICT marks, size_t marks_length);
 
 /* ------------------------------------------------------------------------
- * The checks before a call. The macros at the end lead here.
+ * The checks before a call. The macros at the end lead here. What has no
+ * _guarded in its name is for this file alone.
  */
 
 /* An address as a number. */
