@@ -426,37 +426,6 @@ static void test_null(void)
     expect(&c, YURZHOAD_LINE_FORM, 1);
 }
 
-/* Stands in for an evaluation: number 1 if it gets a pointer that is null, and the lengths it gets. */
-static yurzhoad_evaluation look(
-    const uint8_t *document, size_t document_length, const uint8_t *rule, size_t rule_length,
-    uint16_t *words, size_t scratch_words, uint8_t *bytes, size_t marks_length)
-{
-    yurzhoad_evaluation e = {0, 0, 0, 0};
-    e.number = document == NULL || rule == NULL || words == NULL || bytes == NULL;
-    e.place = document_length + rule_length;
-    e.selected = scratch_words;
-    e.snippets = marks_length;
-    return e;
-}
-
-/* The archive never gets a null pointer, and gets the lengths as they are. */
-static void test_lent(void)
-{
-    call c = on_x(":drug");
-    yurzhoad_evaluation e;
-    subject = "lent";
-    e = yurzhoad_lend(look, c.document, 7, c.rule, 5, c.scratch, 3, c.marks, 2);
-    CHECK(e.number == 0 && e.place == 12 && e.selected == 3 && e.snippets == 2);
-    e = yurzhoad_lend(look, NULL, 0, c.rule, 5, c.scratch, 3, c.marks, 2);
-    CHECK(e.number == 0 && e.place == 5);
-    e = yurzhoad_lend(look, c.document, 7, NULL, 0, c.scratch, 3, c.marks, 2);
-    CHECK(e.number == 0 && e.place == 7);
-    e = yurzhoad_lend(look, c.document, 7, c.rule, 5, NULL, 0, c.marks, 2);
-    CHECK(e.number == 0 && e.selected == 0);
-    e = yurzhoad_lend(look, c.document, 7, c.rule, 5, c.scratch, 3, NULL, 0);
-    CHECK(e.number == 0 && e.snippets == 0);
-}
-
 /* The checks: null with a length, and a length that goes beyond the last address. */
 static void test_misused_checks(void)
 {
@@ -765,7 +734,6 @@ int main(void)
     test_rules();
     test_lengths();
     test_null();
-    test_lent();
     test_misused_checks();
     test_astray();
     test_overlap();
