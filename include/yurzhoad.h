@@ -62,8 +62,8 @@
  * Compilers refuse some misuse by themselves, where they can see it. Types
  * are told by all of them. GCC, from version 10, also warns of one pointer
  * given twice (-Wrestrict), of an array that is shorter than its length
- * (-Wstringop-overflow, -Wstringop-overread) and of a null pointer with a
- * length (-Wnonnull).
+ * (-Wstringop-overflow, -Wstringop-overread), of a null pointer with a length
+ * (-Wnonnull) and of a document that nothing was written to (-Wuninitialized).
  *
  * COSTS
  *

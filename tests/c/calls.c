@@ -251,7 +251,7 @@ static void test_cases(void)
 
 static int refused[YURZHOAD_MARKS_LENGTH + 1];
 
-/* The checks refuse what is theirs and accept the rest, which the callers see to. */
+/* The checks refuse what is theirs, and accept the rest. */
 static void refuse_checks(const call *c, uint16_t number, size_t place)
 {
     int of_document = number >= YURZHOAD_DOCUMENT_LENGTH && number <= YURZHOAD_TREE_RULE;
@@ -295,7 +295,7 @@ static void refuse_rule(const char *rule, uint16_t number, size_t place)
     refuse(&c, number, place);
 }
 
-/* X with one line in the place of another, both of the same length, and both once in X. */
+/* X with the line of this number changed, to one of the same length. */
 static void refuse_changed(size_t line, const char *changed, uint16_t number)
 {
     static char document[sizeof X];
