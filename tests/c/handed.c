@@ -55,7 +55,7 @@ yurzhoad_rule_answer (yurzhoad_check_rule)(const uint8_t *rule, size_t rule_leng
 
 static yurzhoad_evaluation note_all(
     const uint8_t *document, size_t document_length, const uint8_t *rule, size_t rule_length,
-    const uint16_t *scratch, size_t scratch_words, const uint8_t *marks, size_t marks_length)
+    uint16_t *scratch, size_t scratch_words, uint8_t *marks, size_t marks_length)
 {
     yurzhoad_evaluation answer = {11, 12, 13, 14};
     called++;
