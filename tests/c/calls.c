@@ -1,0 +1,748 @@
+/*
+ * The archive through include/yurzhoad.h: records, the ten cases M on document X, a refusal of each
+ * number, lengths of the buffers, misuse, and a document of the most nodes. It compiles as C99 and as
+ * C++11. Prints each check that failed with its line, and at the end how many were made.
+ */
+#include "yurzhoad.h"
+#include <stdio.h>
+#include <string.h>
+
+/* The header may be included twice. */
+#include "yurzhoad.h"
+
+/* In second.c. */
+yurzhoad_rule_answer second_check_rule(const uint8_t *rule, size_t length);
+
+/* ---- sizes and offsets, as the archive has them; a wrong one does not compile ---- */
+
+#define MUST(name, holds) typedef char name[(holds) ? 1 : -1]
+
+MUST(document_answer_size, sizeof(yurzhoad_document_answer) == 24);
+MUST(document_answer_number, offsetof(yurzhoad_document_answer, number) == 0);
+MUST(document_answer_place, offsetof(yurzhoad_document_answer, place) == 8);
+MUST(document_answer_nodes, offsetof(yurzhoad_document_answer, nodes) == 16);
+MUST(rule_answer_size, sizeof(yurzhoad_rule_answer) == 16);
+MUST(rule_answer_number, offsetof(yurzhoad_rule_answer, number) == 0);
+MUST(rule_answer_place, offsetof(yurzhoad_rule_answer, place) == 8);
+MUST(evaluation_size, sizeof(yurzhoad_evaluation) == 32);
+MUST(evaluation_number, offsetof(yurzhoad_evaluation, number) == 0);
+MUST(evaluation_place, offsetof(yurzhoad_evaluation, place) == 8);
+MUST(evaluation_selected, offsetof(yurzhoad_evaluation, selected) == 16);
+MUST(evaluation_snippets, offsetof(yurzhoad_evaluation, snippets) == 24);
+MUST(max_words, YURZHOAD_MAX_WORDS == 3932160);
+
+/* ---- checks ---- */
+
+static unsigned long checks = 0;
+static unsigned long failures = 0;
+
+/* What is looked at, for the message of a check that fails. */
+static const char *subject = "";
+
+static void check(int holds, int line, const char *what)
+{
+    checks++;
+    if (!holds) {
+        failures++;
+        printf("calls.c:%d: %s: %s\n", line, subject, what);
+    }
+}
+
+#define CHECK(holds) check((holds) ? 1 : 0, __LINE__, #holds)
+
+static const uint8_t *bytes_of(const char *text)
+{
+    return (const uint8_t *)text;
+}
+
+/* ---- a call as data ---- */
+
+typedef struct call {
+    const uint8_t *document;
+    size_t document_length;
+    const uint8_t *rule;
+    size_t rule_length;
+    uint16_t *scratch;
+    size_t scratch_words;
+    uint8_t *marks;
+    size_t marks_length;
+} call;
+
+enum { PLAIN, SNIPPETS, EVALUATIONS };
+
+/* Calls are handed on through here, so that no compiler sees their misuse beforehand. */
+static const call *volatile handed;
+
+static yurzhoad_evaluation evaluate(int evaluation, const call *lent)
+{
+    const call *c;
+    handed = lent;
+    c = handed;
+    subject = evaluation == PLAIN ? "plain" : "snippets";
+    if (evaluation == PLAIN) {
+        return yurzhoad_evaluate_plain(
+            c->document, c->document_length, c->rule, c->rule_length,
+            c->scratch, c->scratch_words, c->marks, c->marks_length);
+    }
+    return yurzhoad_evaluate_snippets(
+        c->document, c->document_length, c->rule, c->rule_length,
+        c->scratch, c->scratch_words, c->marks, c->marks_length);
+}
+
+static yurzhoad_document_answer check_document(const call *lent)
+{
+    handed = lent;
+    subject = "document check";
+    return yurzhoad_check_document(handed->document, handed->document_length);
+}
+
+static yurzhoad_rule_answer check_rule(const call *lent)
+{
+    handed = lent;
+    subject = "rule check";
+    return yurzhoad_check_rule(handed->rule, handed->rule_length);
+}
+
+static int is_refused(yurzhoad_evaluation e, uint16_t number, size_t place)
+{
+    return e.number == number && e.place == place && e.selected == 0 && e.snippets == 0;
+}
+
+/* ---- buffers ---- */
+
+/* Longer than any call needs, so that what lies behind can be looked at. */
+static uint16_t scratch[YURZHOAD_MAX_WORDS + 8];
+static uint8_t marks[YURZHOAD_MAX_NODES + 8];
+
+/* What the buffers hold before a call: no word and no mark that an evaluation leaves. */
+#define WORD 0xA5A5
+#define MARK 0xA5
+
+static void fill(void)
+{
+    size_t i;
+    for (i = 0; i < YURZHOAD_MAX_WORDS + 8; i++) {
+        scratch[i] = WORD;
+    }
+    memset(marks, MARK, sizeof marks);
+}
+
+/* 1 if the words from one to before another all are this. */
+static int words_are(size_t from, size_t to, uint16_t word)
+{
+    size_t i;
+    for (i = from; i < to; i++) {
+        if (scratch[i] != word) {
+            return 0;
+        }
+    }
+    return 1;
+}
+
+static int marks_are(size_t from, size_t to, uint8_t mark)
+{
+    size_t i;
+    for (i = from; i < to; i++) {
+        if (marks[i] != mark) {
+            return 0;
+        }
+    }
+    return 1;
+}
+
+static int untouched(void)
+{
+    return words_are(0, YURZHOAD_MAX_WORDS + 8, WORD) && marks_are(0, YURZHOAD_MAX_NODES + 8, MARK);
+}
+
+/* ---- document X ---- */
+
+#define X_NODES 5
+#define X_WORDS 1600
+
+static const char X[] =
+    "nodes=5\n"
+    "depth=0\nkind=e\nlabel=lib\nvalue=\n"
+    "depth=1\nkind=e\nlabel=drug\nvalue=\n"
+    "depth=2\nkind=a\nlabel=name\nvalue=heparin\n"
+    "depth=1\nkind=e\nlabel=drug\nvalue=\n"
+    "depth=2\nkind=a\nlabel=name\nvalue=heparin\n";
+
+#define X_LENGTH (sizeof X - 1)
+
+/* A call on X with this rule and buffers that are just long enough. */
+static call on_x(const char *rule)
+{
+    call c;
+    c.document = bytes_of(X);
+    c.document_length = X_LENGTH;
+    c.rule = bytes_of(rule);
+    c.rule_length = strlen(rule);
+    c.scratch = scratch;
+    c.scratch_words = X_WORDS;
+    c.marks = marks;
+    c.marks_length = X_NODES;
+    return c;
+}
+
+/* ---- the cases M: rule, marks as digits, snippets ---- */
+
+typedef struct selection {
+    const char *rule;
+    const char *marked;
+    size_t snippets;
+} selection;
+
+static const selection cases[] = {
+    {":drug", "01010", 0},
+    {"!:drug", "10101", 0},
+    {"(e=e)", "11111", 4},
+    {"(e!=e)", "00000", 0},
+    {"(l=\"heparin\")", "01010", 0},
+    {"(e<\"a\")", "11010", 0},
+    {"(*l=\"heparin\")", "11111", 0},
+    {"(.R*R=\"\")", "00010", 0},
+    {"(r=e)", "01000", SIZE_MAX},
+    {"(.l[:name]=..r*rl)", "01000", 19},
+};
+
+static void select_one(const selection *s, int evaluation)
+{
+    call c = on_x(s->rule);
+    yurzhoad_evaluation e;
+    size_t selected = 0;
+    size_t v;
+    fill();
+    e = evaluate(evaluation, &c);
+    subject = s->rule;
+    CHECK(e.number == YURZHOAD_ACCEPTED && e.place == 0);
+    for (v = 0; v < X_NODES; v++) {
+        CHECK(marks[v] == s->marked[v] - '0');
+        selected += marks[v];
+    }
+    CHECK(e.selected == selected);
+    if (evaluation == PLAIN) {
+        CHECK(e.snippets == 0);
+    } else if (s->snippets != SIZE_MAX) {
+        CHECK(e.snippets == s->snippets);
+    }
+    CHECK(words_are(0, X_WORDS, 0));
+    CHECK(words_are(X_WORDS, YURZHOAD_MAX_WORDS + 8, WORD));
+    CHECK(marks_are(X_NODES, YURZHOAD_MAX_NODES + 8, MARK));
+}
+
+static void test_cases(void)
+{
+    size_t i;
+    CHECK(sizeof cases / sizeof cases[0] == 10);
+    for (i = 0; i < sizeof cases / sizeof cases[0]; i++) {
+        call c = on_x(cases[i].rule);
+        yurzhoad_document_answer d = check_document(&c);
+        yurzhoad_rule_answer r = check_rule(&c);
+        subject = cases[i].rule;
+        CHECK(d.number == YURZHOAD_ACCEPTED && d.place == 0 && d.nodes == X_NODES);
+        CHECK(r.number == YURZHOAD_ACCEPTED && r.place == 0);
+        select_one(&cases[i], PLAIN);
+        select_one(&cases[i], SNIPPETS);
+    }
+}
+
+/* ---- refusals ---- */
+
+static int refused[YURZHOAD_MARKS_LENGTH + 1];
+
+/* The checks refuse what is theirs, and accept the rest. */
+static void refuse_checks(const call *c, uint16_t number, size_t place)
+{
+    int of_document = number >= YURZHOAD_DOCUMENT_LENGTH && number <= YURZHOAD_TREE_RULE;
+    int of_rule = number >= YURZHOAD_RULE_LENGTH && number <= YURZHOAD_STEPS;
+    yurzhoad_document_answer d = check_document(c);
+    yurzhoad_rule_answer r;
+    CHECK(d.number == (of_document ? number : YURZHOAD_ACCEPTED));
+    CHECK(d.place == (of_document ? place : 0));
+    CHECK(d.nodes == (of_document ? 0 : X_NODES));
+    r = check_rule(c);
+    CHECK(r.number == (of_rule ? number : YURZHOAD_ACCEPTED));
+    CHECK(r.place == (of_rule ? place : 0));
+    r = second_check_rule(c->rule, c->rule_length);
+    CHECK(r.number == (of_rule ? number : YURZHOAD_ACCEPTED));
+}
+
+static void refuse(const call *c, uint16_t number, size_t place)
+{
+    int evaluation;
+    refuse_checks(c, number, place);
+    for (evaluation = PLAIN; evaluation < EVALUATIONS; evaluation++) {
+        fill();
+        CHECK(is_refused(evaluate(evaluation, c), number, place));
+        CHECK(untouched());
+    }
+    refused[number] = 1;
+}
+
+/* A document for a refusal, in the place of X. */
+static void refuse_document(const char *document, size_t length, uint16_t number, size_t place)
+{
+    call c = on_x(":drug");
+    c.document = bytes_of(document);
+    c.document_length = length;
+    refuse(&c, number, place);
+}
+
+static void refuse_rule(const char *rule, uint16_t number, size_t place)
+{
+    call c = on_x(rule);
+    refuse(&c, number, place);
+}
+
+/* X with the line of this number changed, to one of the same length. */
+static void refuse_changed(size_t line, const char *changed, uint16_t number)
+{
+    static char document[sizeof X];
+    char *at = document;
+    size_t i;
+    memcpy(document, X, sizeof X);
+    for (i = 1; i < line; i++) {
+        at = strchr(at, '\n') + 1;
+    }
+    memcpy(at, changed, strlen(changed));
+    refuse_document(document, X_LENGTH, number, line);
+}
+
+static char long_document[YURZHOAD_MAX_DOCUMENT_BYTES + 1];
+
+static void test_documents(void)
+{
+    memset(long_document, 'x', sizeof long_document);
+    refuse_document(long_document, YURZHOAD_MAX_DOCUMENT_BYTES + 1, YURZHOAD_DOCUMENT_LENGTH, 0);
+    refuse_document(long_document, YURZHOAD_MAX_DOCUMENT_BYTES, YURZHOAD_LINE_FORM, 1);
+    refuse_document("", 0, YURZHOAD_LINE_FORM, 1);
+    refuse_document(X, X_LENGTH - 1, YURZHOAD_LINE_FORM, 21);
+    refuse_document(X, X_LENGTH + 1, YURZHOAD_LINE_FORM, 22);
+    refuse_changed(7, "kind=x", YURZHOAD_LINE_FORM);
+    refuse_document("nodes=0\n", 8, YURZHOAD_NODE_COUNT, 1);
+    refuse_document("nodes=4097\n", 11, YURZHOAD_NODE_COUNT, 1);
+    refuse_changed(3, "kind=a", YURZHOAD_TREE_RULE);
+    refuse_changed(6, "depth=2", YURZHOAD_TREE_RULE);
+    refuse_changed(10, "depth=3", YURZHOAD_TREE_RULE);
+}
+
+/* Puts a text so many times behind what is there. */
+static void append(char *rule, size_t times, const char *text)
+{
+    while (times-- > 0) {
+        strcat(rule, text);
+    }
+}
+
+static void test_rules(void)
+{
+    static char rule[YURZHOAD_MAX_RULE_BYTES + 2];
+    append(rule, YURZHOAD_MAX_RULE_BYTES + 1, "x");
+    refuse_rule(rule, YURZHOAD_RULE_LENGTH, 0);
+    rule[YURZHOAD_MAX_RULE_BYTES] = 0;
+    refuse_rule(rule, YURZHOAD_UNREADABLE, 0);
+    refuse_rule("", YURZHOAD_UNREADABLE, 0);
+    refuse_rule(":a!", YURZHOAD_UNREADABLE, 2);
+    refuse_rule("(e=\"c)", YURZHOAD_UNREADABLE, 6);
+    rule[0] = 0;
+    append(rule, YURZHOAD_MAX_NESTING, "!");
+    append(rule, 1, ":a");
+    refuse_rule(rule, YURZHOAD_NESTING, YURZHOAD_MAX_NESTING);
+    strcpy(rule, "!");
+    append(rule, 21, "&!:a");
+    append(rule, 1, ":a");
+    refuse_rule(rule, YURZHOAD_TESTS, 85);
+    strcpy(rule, "(");
+    append(rule, YURZHOAD_MAX_STEPS, ".");
+    append(rule, YURZHOAD_MAX_STEPS + 1, "l");
+    append(rule, 1, "=e)");
+    refuse_rule(rule, YURZHOAD_STEPS, 0);
+    strcpy(rule, "!(");
+    append(rule, YURZHOAD_MAX_STEPS, ".");
+    append(rule, YURZHOAD_MAX_STEPS + 1, "l");
+    append(rule, 1, "=e)");
+    refuse_rule(rule, YURZHOAD_STEPS, 1);
+}
+
+/* One short of each buffer is refused; just enough, which the cases have, is not. */
+static void test_lengths(void)
+{
+    uint16_t number;
+    call c = on_x(":a");
+    c.scratch_words = X_WORDS - 1;
+    refuse(&c, YURZHOAD_SCRATCH_LENGTH, 0);
+    c.marks_length = X_NODES - 1;
+    refuse(&c, YURZHOAD_SCRATCH_LENGTH, 0);
+    c.scratch_words = X_WORDS;
+    refuse(&c, YURZHOAD_MARKS_LENGTH, 0);
+    c.marks_length = X_NODES;
+    CHECK(evaluate(PLAIN, &c).number == YURZHOAD_ACCEPTED);
+    CHECK(evaluate(SNIPPETS, &c).number == YURZHOAD_ACCEPTED);
+    subject = "each number is refused once or more";
+    for (number = YURZHOAD_DOCUMENT_LENGTH; number <= YURZHOAD_MARKS_LENGTH; number++) {
+        CHECK(refused[number]);
+    }
+}
+
+/* ---- null pointers and lengths that no buffer has ---- */
+
+static void expect(const call *c, uint16_t number, size_t place)
+{
+    int evaluation;
+    for (evaluation = PLAIN; evaluation < EVALUATIONS; evaluation++) {
+        fill();
+        CHECK(is_refused(evaluate(evaluation, c), number, place));
+        CHECK(untouched());
+    }
+}
+
+/* A null pointer is misuse with a length, and an empty buffer without. */
+static void test_null(void)
+{
+    call c = on_x(":drug");
+    c.document = NULL;
+    expect(&c, YURZHOAD_MISUSE, 1);
+    c.document_length = 0;
+    expect(&c, YURZHOAD_LINE_FORM, 1);
+    CHECK(check_document(&c).number == YURZHOAD_LINE_FORM && check_document(&c).place == 1);
+    c = on_x(":drug");
+    c.rule = NULL;
+    expect(&c, YURZHOAD_MISUSE, 2);
+    c.rule_length = 0;
+    expect(&c, YURZHOAD_UNREADABLE, 0);
+    CHECK(check_rule(&c).number == YURZHOAD_UNREADABLE && check_rule(&c).place == 0);
+    c = on_x(":drug");
+    c.scratch = NULL;
+    expect(&c, YURZHOAD_MISUSE, 3);
+    c.scratch_words = 0;
+    expect(&c, YURZHOAD_SCRATCH_LENGTH, 0);
+    c = on_x(":drug");
+    c.marks = NULL;
+    expect(&c, YURZHOAD_MISUSE, 4);
+    c.marks_length = 0;
+    expect(&c, YURZHOAD_MARKS_LENGTH, 0);
+    memset(&c, 0, sizeof c);
+    expect(&c, YURZHOAD_LINE_FORM, 1);
+}
+
+/* The checks: null with a length, and a length that goes beyond the last address. */
+static void test_misused_checks(void)
+{
+    call c = on_x(":drug");
+    yurzhoad_document_answer d;
+    yurzhoad_rule_answer r;
+    int turn;
+    for (turn = 0; turn < 2; turn++) {
+        c.document = turn == 0 ? NULL : bytes_of(X);
+        c.document_length = turn == 0 ? 1 : SIZE_MAX;
+        d = check_document(&c);
+        CHECK(d.number == YURZHOAD_MISUSE && d.place == 1 && d.nodes == 0);
+        c.rule = turn == 0 ? NULL : bytes_of(X);
+        c.rule_length = turn == 0 ? 1 : SIZE_MAX;
+        r = check_rule(&c);
+        CHECK(r.number == YURZHOAD_MISUSE && r.place == 2);
+    }
+}
+
+/* Lengths that go beyond the last address, a product that does not fit, and an odd scratch. */
+static void test_astray(void)
+{
+    call c = on_x(":drug");
+    c.document_length = SIZE_MAX;
+    expect(&c, YURZHOAD_MISUSE, 1);
+    c = on_x(":drug");
+    c.rule_length = SIZE_MAX;
+    expect(&c, YURZHOAD_MISUSE, 2);
+    c = on_x(":drug");
+    c.scratch_words = SIZE_MAX;
+    expect(&c, YURZHOAD_MISUSE, 3);
+    c.scratch_words = SIZE_MAX / 2;
+    expect(&c, YURZHOAD_MISUSE, 3);
+    c.scratch_words = SIZE_MAX / 2 + 1;
+    expect(&c, YURZHOAD_MISUSE, 3);
+    c = on_x(":drug");
+    c.marks_length = SIZE_MAX;
+    expect(&c, YURZHOAD_MISUSE, 4);
+    c = on_x(":drug");
+    c.scratch = (uint16_t *)((uintptr_t)scratch + 1);
+    expect(&c, YURZHOAD_MISUSE, 3);
+    c.document = NULL;
+    expect(&c, YURZHOAD_MISUSE, 1);
+}
+
+/* ---- buffers that overlap ---- */
+
+/* One piece of memory for all four buffers. Apart, they lie so many bytes from each other. */
+#define APART 4000
+
+static uint16_t arena[5 * APART / 2];
+static uint16_t before[5 * APART / 2];
+
+/* The buffers by the numbers that misuse has for them. */
+enum { DOCUMENT = 1, RULE, SCRATCH, MARKS };
+
+static const char arena_rule[] = "(.l[:name]=..r*rl)";
+
+static size_t length_of(int buffer)
+{
+    switch (buffer) {
+    case DOCUMENT: return X_LENGTH;
+    case RULE: return sizeof arena_rule - 1;
+    case SCRATCH: return X_WORDS * sizeof(uint16_t);
+    default: return X_NODES;
+    }
+}
+
+/* Fills the memory, and writes document and rule at their offsets. */
+static call lay(const size_t *offsets)
+{
+    uint8_t *bytes = (uint8_t *)arena;
+    call c = on_x(arena_rule);
+    memset(arena, MARK, sizeof arena);
+    memcpy(bytes + offsets[DOCUMENT], X, X_LENGTH);
+    memcpy(bytes + offsets[RULE], arena_rule, sizeof arena_rule - 1);
+    memcpy(before, arena, sizeof arena);
+    c.document = bytes + offsets[DOCUMENT];
+    c.rule = bytes + offsets[RULE];
+    c.scratch = arena + offsets[SCRATCH] / sizeof(uint16_t);
+    c.marks = bytes + offsets[MARKS];
+    return c;
+}
+
+/* All four apart, but one of them at this offset: the misused buffer, or 0 if there is none. */
+static void try_at(int moved, size_t offset, size_t misused)
+{
+    size_t offsets[MARKS + 1] = {0, 0, APART, 2 * APART, 4 * APART - 500};
+    int evaluation;
+    offsets[moved] = offset;
+    for (evaluation = PLAIN; evaluation < EVALUATIONS; evaluation++) {
+        call c = lay(offsets);
+        yurzhoad_evaluation e = evaluate(evaluation, &c);
+        if (misused != 0) {
+            CHECK(is_refused(e, YURZHOAD_MISUSE, misused));
+            CHECK(memcmp(arena, before, sizeof arena) == 0);
+        } else {
+            CHECK(e.number == YURZHOAD_ACCEPTED && e.place == 0 && e.selected == 1);
+            CHECK(e.snippets == (evaluation == PLAIN ? 0 : 19));
+            CHECK(memcmp(c.marks, "\0\1\0\0\0", X_NODES) == 0);
+        }
+    }
+}
+
+/* Moves one buffer along another, which lies at this offset: beside it, and into it by a byte. */
+static void try_pair(int moved, int other, size_t at)
+{
+    size_t later = (size_t)(moved > other ? moved : other);
+    size_t end = at + length_of(other);
+    size_t before_it = at - length_of(moved);
+    try_at(moved, end, 0);
+    try_at(moved, end - 1, later);
+    try_at(moved, before_it, 0);
+    try_at(moved, before_it + 1, later);
+    try_at(moved, at, later);
+}
+
+static void test_overlap(void)
+{
+    try_pair(DOCUMENT, SCRATCH, 2 * APART);
+    try_pair(RULE, SCRATCH, 2 * APART);
+    try_pair(MARKS, SCRATCH, 2 * APART);
+    try_pair(MARKS, RULE, APART);
+    /* The document at 0 has nothing in front of it. */
+    try_at(MARKS, X_LENGTH, 0);
+    try_at(MARKS, X_LENGTH - 1, MARKS);
+    try_at(MARKS, 0, MARKS);
+    /* The scratch around another. */
+    try_at(SCRATCH, APART - 2, SCRATCH);
+    try_at(SCRATCH, 0, SCRATCH);
+}
+
+/* The document and the rule may overlap: here the rule is a value in the document. */
+static void test_rule_in_document(void)
+{
+    static const char document[] =
+        "nodes=2\ndepth=0\nkind=e\nlabel=drug\nvalue=\ndepth=1\nkind=a\nlabel=rule\nvalue=:drug\n";
+    call c = on_x("");
+    int evaluation;
+    c.document = bytes_of(document);
+    c.document_length = sizeof document - 1;
+    c.rule = bytes_of(strchr(document, ':'));
+    c.rule_length = 5;
+    for (evaluation = PLAIN; evaluation < EVALUATIONS; evaluation++) {
+        yurzhoad_evaluation e;
+        fill();
+        e = evaluate(evaluation, &c);
+        CHECK(e.number == YURZHOAD_ACCEPTED && e.selected == 1 && e.snippets == 0);
+        CHECK(marks[0] == 1 && marks[1] == 0);
+    }
+}
+
+/* Empty buffers overlap nothing, wherever they point. */
+static void test_empty(void)
+{
+    call c = on_x(":drug");
+    c.marks = (uint8_t *)scratch + 1;
+    c.marks_length = 0;
+    expect(&c, YURZHOAD_MARKS_LENGTH, 0);
+    c = on_x(":drug");
+    c.rule = marks + 1;
+    c.rule_length = 0;
+    expect(&c, YURZHOAD_UNREADABLE, 0);
+}
+
+/* ---- the bare functions ---- */
+
+static void test_bare(void)
+{
+    call c = on_x("(e=e)");
+    yurzhoad_evaluation e;
+    yurzhoad_evaluation (*pointer)(
+        const uint8_t *, size_t, const uint8_t *, size_t,
+        uint16_t *, size_t, uint8_t *, size_t) = yurzhoad_evaluate_plain;
+    subject = "bare";
+    CHECK((yurzhoad_check_document)(c.document, c.document_length).nodes == X_NODES);
+    CHECK((yurzhoad_check_rule)(c.rule, c.rule_length).number == YURZHOAD_ACCEPTED);
+    e = pointer(
+        c.document, c.document_length, c.rule, c.rule_length,
+        scratch, X_WORDS, marks, X_NODES);
+    CHECK(e.number == YURZHOAD_ACCEPTED && e.selected == X_NODES && e.snippets == 0);
+    e = (yurzhoad_evaluate_snippets)(
+        c.document, c.document_length, c.rule, c.rule_length,
+        scratch, X_WORDS, marks, X_NODES);
+    CHECK(e.number == YURZHOAD_ACCEPTED && e.selected == X_NODES && e.snippets == 4);
+}
+
+/* ---- words for numbers, and words of scratch ---- */
+
+/* 1 if two numbers have the same words. No compiler knows them beforehand. */
+static int same_words(uint16_t a, uint16_t b)
+{
+    volatile uint16_t first = a;
+    volatile uint16_t second = b;
+    return strcmp(yurzhoad_words(first), yurzhoad_words(second)) == 0;
+}
+
+static void test_words(void)
+{
+    static const uint16_t others[] = {12, 255, 256, 0xFFFE};
+    uint16_t a;
+    uint16_t b;
+    size_t i;
+    subject = "words";
+    for (i = 0; i < sizeof others / sizeof others[0]; i++) {
+        CHECK(strcmp(yurzhoad_words(others[i]), "unknown number") == 0);
+    }
+    CHECK(!same_words(YURZHOAD_MISUSE, 12));
+    for (a = YURZHOAD_ACCEPTED; a <= YURZHOAD_MARKS_LENGTH; a++) {
+        CHECK(strlen(yurzhoad_words(a)) > 0);
+        CHECK(!same_words(a, 12));
+        CHECK(!same_words(a, YURZHOAD_MISUSE));
+        for (b = YURZHOAD_ACCEPTED; b < a; b++) {
+            CHECK(!same_words(a, b));
+        }
+    }
+}
+
+/* The same by adding: 128 words a node, and 64 for each power of two up to the number of nodes. */
+static size_t words_otherwise(size_t nodes)
+{
+    size_t of_node = 128;
+    size_t power;
+    size_t sum = 0;
+    size_t i;
+    for (power = 1; power <= nodes; power += power) {
+        of_node += 64;
+    }
+    for (i = 0; i < nodes; i++) {
+        sum += of_node;
+    }
+    return sum;
+}
+
+static void test_needed_words(void)
+{
+    size_t nodes;
+    subject = "needed words";
+    for (nodes = 0; nodes <= YURZHOAD_MAX_NODES; nodes++) {
+        CHECK(yurzhoad_needed_words(nodes) == words_otherwise(nodes));
+    }
+    CHECK(yurzhoad_needed_words(0) == 0);
+    CHECK(yurzhoad_needed_words(1) == 192);
+    CHECK(yurzhoad_needed_words(2) == 512);
+    CHECK(yurzhoad_needed_words(3) == 768);
+    CHECK(yurzhoad_needed_words(4) == 1280);
+    CHECK(yurzhoad_needed_words(5) == X_WORDS);
+    CHECK(yurzhoad_needed_words(63) == 32256);
+    CHECK(yurzhoad_needed_words(64) == 36864);
+    CHECK(yurzhoad_needed_words(4095) == 3669120);
+    CHECK(yurzhoad_needed_words(4096) == 3932160);
+    CHECK(yurzhoad_needed_words(YURZHOAD_MAX_NODES) == YURZHOAD_MAX_WORDS);
+    CHECK(yurzhoad_needed_words(YURZHOAD_MAX_NODES + 1) == YURZHOAD_MAX_WORDS);
+    CHECK(yurzhoad_needed_words(SIZE_MAX) == YURZHOAD_MAX_WORDS);
+}
+
+/* ---- a document of the most nodes: a root and its children ---- */
+
+static size_t write_large(char *document)
+{
+    static const char child[] = "depth=1\nkind=e\nlabel=a\nvalue=\n";
+    char *end = document;
+    size_t v;
+    strcpy(document, "nodes=4096\ndepth=0\nkind=e\nlabel=a\nvalue=\n");
+    end += strlen(document);
+    for (v = 1; v < YURZHOAD_MAX_NODES; v++) {
+        memcpy(end, child, sizeof child - 1);
+        end += sizeof child - 1;
+    }
+    return (size_t)(end - document);
+}
+
+/* (r=e) selects every child but the last: the root has no right child. */
+static void test_large(void)
+{
+    call c = on_x("(r=e)");
+    int evaluation;
+    size_t v;
+    c.document = bytes_of(long_document);
+    c.document_length = write_large(long_document);
+    c.scratch_words = YURZHOAD_MAX_WORDS;
+    c.marks_length = YURZHOAD_MAX_NODES;
+    CHECK(check_document(&c).nodes == YURZHOAD_MAX_NODES);
+    for (evaluation = PLAIN; evaluation < EVALUATIONS; evaluation++) {
+        yurzhoad_evaluation e;
+        fill();
+        e = evaluate(evaluation, &c);
+        CHECK(e.number == YURZHOAD_ACCEPTED && e.place == 0);
+        CHECK(e.selected == YURZHOAD_MAX_NODES - 2);
+        CHECK((e.snippets == 0) == (evaluation == PLAIN));
+        for (v = 0; v < YURZHOAD_MAX_NODES; v++) {
+            CHECK(marks[v] == (v == 0 || v == YURZHOAD_MAX_NODES - 1 ? 0 : 1));
+        }
+        CHECK(words_are(0, YURZHOAD_MAX_WORDS, 0));
+        CHECK(words_are(YURZHOAD_MAX_WORDS, YURZHOAD_MAX_WORDS + 8, WORD));
+        CHECK(marks_are(YURZHOAD_MAX_NODES, YURZHOAD_MAX_NODES + 8, MARK));
+    }
+    c.scratch_words = YURZHOAD_MAX_WORDS - 1;
+    expect(&c, YURZHOAD_SCRATCH_LENGTH, 0);
+}
+
+int main(void)
+{
+    test_cases();
+    test_documents();
+    test_rules();
+    test_lengths();
+    test_null();
+    test_misused_checks();
+    test_astray();
+    test_overlap();
+    test_rule_in_document();
+    test_empty();
+    test_bare();
+    test_words();
+    test_needed_words();
+    test_large();
+    printf("c: %lu checks, %lu failed\n", checks, failures);
+    return failures > 0 || checks == 0;
+}
