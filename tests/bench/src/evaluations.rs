@@ -8,9 +8,10 @@ use std::time::Duration;
 use crate::libraries::{LibraryShape, LIBRARY_SHAPES};
 use crate::straightforward::{plain, snippets, Answer};
 use crate::timing::{time_for, Subject, Times};
-use archive::{evaluate_plain, evaluate_snippets, needed_words, Evaluation};
 use evaluator::document::spell;
 use evaluator::samples::selections::SESSION;
+use yurzhoad::archive::{evaluate_plain, evaluate_snippets, Evaluation};
+use yurzhoad::limits::needed_words;
 
 /// So many nodes have the documents.
 const SIZES: [usize; 3] = [256, 1_024, 4_096];
