@@ -58,12 +58,12 @@ fn field(line: usize) -> Field {
 /// What is due at a line that is not of its form.
 fn due(line: usize, document: &[u8]) -> String {
     let form = match (line, count(document)) {
-        (1, _) => format!("`nodes=` and a number of 1 to {MAX_COUNT_DIGITS} digits"),
+        (1, _) => numeral("nodes", MAX_COUNT_DIGITS),
         (_, Some(nodes)) if line > 4 * nodes + 1 => {
             return format!("nothing is due here: the lines of all {nodes} nodes are above")
         }
         _ => match field(line) {
-            Field::Depth => format!("`depth=` and a number of 1 to {MAX_DEPTH_DIGITS} digits"),
+            Field::Depth => numeral("depth", MAX_DEPTH_DIGITS),
             Field::Kind => "`kind=` and one of `e`, `a` and `t`".to_string(),
             Field::Label => {
                 format!("`label=` and 1 to {MAX_LABEL} of a-z, 0-9 and hyphen, the first a letter")
@@ -74,14 +74,19 @@ fn due(line: usize, document: &[u8]) -> String {
     format!("due here is {form}")
 }
 
+/// The form of a line with a number.
+fn numeral(key: &str, most: usize) -> String {
+    format!("`{key}=` and a number of 1 to {most} digits without leading zeros")
+}
+
 /// What the tree rules ask of this line.
 fn tree_rule(line: usize) -> &'static str {
     match (line, field(line)) {
         (2, _) => "the first node has depth 0",
         (3, _) => "the first node is an element",
         (_, Field::Depth) => {
-            "a later node has at least depth 1, and is at most one deeper than the node before it, \
-             and not deeper than a text or an attribute before it"
+            "depth 0 is for the first node alone; a node is at most one deeper than the node \
+             before it, and deeper only if that is an element"
         }
         (_, Field::Kind) => {
             "an attribute stands directly behind its element, one deeper, \
