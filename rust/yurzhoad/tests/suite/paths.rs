@@ -118,42 +118,33 @@ fn paths_and_values_of_every_shape_are_right() {
     assert!(met.numbered > 100 && met.joined > 100);
 }
 
+/// A node, and its path as it must be spelled.
+type Spelled = ((char, usize, &'static str, &'static str), &'static str);
+
+const SPELLED: [Spelled; 13] = [
+    (('e', 0, "lib", ""), "/lib"),
+    (('e', 1, "drug", ""), "/lib/drug[1]"),
+    (('a', 2, "name", "heparin"), "/lib/drug[1]/@name[1]"),
+    (('a', 2, "area", "icu"), "/lib/drug[1]/@area"),
+    (('a', 2, "name", "again"), "/lib/drug[1]/@name[2]"),
+    (('t', 2, "text", "a"), "/lib/drug[1]/text()[1]"),
+    (('e', 2, "unit", ""), "/lib/drug[1]/unit"),
+    (('t', 3, "text", "b"), "/lib/drug[1]/unit/text()"),
+    (('t', 2, "text", "c"), "/lib/drug[1]/text()[2]"),
+    (('e', 1, "text", ""), "/lib/text"),
+    (('e', 1, "drug", ""), "/lib/drug[2]"),
+    (('e', 2, "drug", ""), "/lib/drug[2]/drug"),
+    (('e', 1, "name", ""), "/lib/name"),
+];
+
 #[test]
 fn paths_are_spelled_as_written() {
-    let bytes = document(&[
-        ('e', 0, "lib", ""),
-        ('e', 1, "drug", ""),
-        ('a', 2, "name", "heparin"),
-        ('a', 2, "area", "icu"),
-        ('a', 2, "name", "again"),
-        ('t', 2, "text", "a"),
-        ('e', 2, "unit", ""),
-        ('t', 3, "text", "b"),
-        ('t', 2, "text", "c"),
-        ('e', 1, "text", ""),
-        ('e', 1, "drug", ""),
-        ('e', 2, "drug", ""),
-        ('e', 1, "name", ""),
-    ]);
+    let bytes = document(&SPELLED.map(|(node, _)| node));
     let library = Library::check(&bytes).expect("an accepted document");
     let table = library.table();
-    let due = [
-        "/lib",
-        "/lib/drug[1]",
-        "/lib/drug[1]/@name[1]",
-        "/lib/drug[1]/@area",
-        "/lib/drug[1]/@name[2]",
-        "/lib/drug[1]/text()[1]",
-        "/lib/drug[1]/unit",
-        "/lib/drug[1]/unit/text()",
-        "/lib/drug[1]/text()[2]",
-        "/lib/text",
-        "/lib/drug[2]",
-        "/lib/drug[2]/drug",
-        "/lib/name",
-    ];
-    let paths: Vec<String> = (0..due.len()).map(|node| table.path(node)).collect();
-    assert_eq!(paths, due);
+    for (node, (_, due)) in SPELLED.iter().enumerate() {
+        assert_eq!(table.path(node), *due);
+    }
     assert_eq!(table.value(0), "abc");
     assert_eq!(table.value(1), "abc");
     assert_eq!(table.value(6), "b");

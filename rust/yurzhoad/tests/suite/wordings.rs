@@ -69,7 +69,7 @@ fn number_2_by_what_is_due() {
 fn number_2_behind_the_last_line() {
     assert_printed(
         document(format!("{X}depth=1\n")),
-        "the document is refused: number 2 at line 22: nothing is due here: the lines of all 5 nodes are above",
+        "the document is refused: number 2 at line 22: nothing is due here: the lines of its 5 nodes are above",
         "\n  22 | depth=1",
     );
 }
@@ -188,7 +188,7 @@ fn number_10() {
 fn number_11() {
     assert_printed(
         lent(1_600, 4),
-        "the call is refused: number 11 at place 0: there are too few marks: 5 are needed, one for each node",
+        "the call is refused: number 11 at place 0: there are too few marks: the document has 5 nodes",
         "",
     );
 }
