@@ -5,7 +5,7 @@ use std::hint::black_box;
 use crate::scan;
 use crate::shapes::{Shape, SHAPES};
 use crate::timing::{time, Subject, Times};
-use archive::check_document;
+use yurzhoad::archive::check_document;
 
 pub fn print() {
     for shape in SHAPES {

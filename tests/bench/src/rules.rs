@@ -4,9 +4,9 @@ use std::hint::black_box;
 
 use crate::rule_shapes::{RuleShape, RULE_SHAPES};
 use crate::timing::{time, Subject, Times};
-use archive::check_rule;
 use evaluator::rule_check::BYTE_LIMIT;
 use evaluator::samples::rules::MARKED;
+use yurzhoad::archive::check_rule;
 
 pub fn print() {
     print_short();

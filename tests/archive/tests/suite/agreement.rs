@@ -1,9 +1,9 @@
 //! Asks the archive and the evaluator the same, and reports a difference with
 //! a small input.
 
-use archive::{check_document, DocumentAnswer};
 use evaluator::document::{check, DocumentRecord};
 use evaluator::shrink::shrink_document;
+use yurzhoad::archive::{check_document, DocumentAnswer};
 
 /// What the archive hands back, as the evaluator's record.
 pub fn archive_record(document: &[u8]) -> DocumentRecord {

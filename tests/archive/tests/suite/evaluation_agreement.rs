@@ -6,12 +6,13 @@ use std::panic::catch_unwind;
 use std::thread::panicking;
 use std::time::{Duration, Instant};
 
-use archive::needed_words;
 use evaluator::evaluate::{evaluate_plain, evaluate_snippets, most_snippets};
 use evaluator::evaluate::{Evaluation, Outcome};
 use evaluator::random::Random;
 use evaluator::shrink::{shrink_nodes, shrink_rule};
 use evaluator::{backward, document, meaning, reader};
+use yurzhoad::archive;
+use yurzhoad::limits::needed_words;
 
 /// Every call is made to both.
 pub const EVALUATIONS: [Evaluation; 2] = [Evaluation::Plain, Evaluation::Snippets];

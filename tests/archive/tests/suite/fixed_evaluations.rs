@@ -2,11 +2,11 @@
 //! each construct means; and the same inside larger buffers.
 
 use crate::evaluation_agreement::{assert_marked, called, needed, Buffers, Length, EVALUATIONS};
-use archive::needed_words;
 use evaluator::document::NODE_LIMIT;
 use evaluator::evaluate::{Evaluation, Outcome};
 use evaluator::samples::selections::{CASES_ON_X, GROUPS, SESSION};
 use evaluator::samples::X;
+use yurzhoad::limits::needed_words;
 
 /// Buffers that are accepted, each with something else in it.
 fn accepted_buffers(seed: u64) -> [Buffers; 3] {

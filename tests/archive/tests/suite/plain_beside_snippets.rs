@@ -3,7 +3,6 @@
 //! Their counts are not compared here; they only keep the bound.
 
 use crate::evaluation_agreement::called;
-use archive::needed_words;
 use evaluator::document::{spell, Library, NODE_LIMIT};
 use evaluator::evaluate::{most_snippets, Evaluation, Outcome};
 use evaluator::random::{library, rule_about, Random};
@@ -11,6 +10,7 @@ use evaluator::reader;
 use evaluator::samples::libraries::{catalogue, chain, formulary, ladder, level};
 use evaluator::samples::selections::SESSION;
 use evaluator::tree::Tree;
+use yurzhoad::limits::needed_words;
 
 /// The outcome of an accepted call, with the marks; its buffers held something
 /// else before, and the words are 0 afterwards.

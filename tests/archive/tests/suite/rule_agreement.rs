@@ -1,10 +1,10 @@
 //! Asks the archive and the evaluator the same about a rule, and reports a
 //! difference with a small rule.
 
-use archive::{check_rule, RuleAnswer};
 use evaluator::rule_check::check;
 use evaluator::shrink::shrink;
 use evaluator::Refusal;
+use yurzhoad::archive::{check_rule, RuleAnswer};
 
 /// What the archive hands back, as the evaluator's record.
 pub fn archive_refusal(rule: &[u8]) -> Refusal {

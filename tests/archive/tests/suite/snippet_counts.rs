@@ -4,12 +4,12 @@
 use std::collections::BTreeSet;
 
 use crate::evaluation_agreement::{assert_agreement, called, needed, BY_DEFINITION};
-use archive::needed_words;
 use evaluator::document::{self, spell, NODE_LIMIT};
 use evaluator::evaluate::{most_snippets, Evaluation, Outcome};
 use evaluator::reader;
 use evaluator::samples::counts::{row, EVERYWHERE, GROUPS, PAIRS};
 use evaluator::samples::libraries::chain;
+use yurzhoad::limits::needed_words;
 
 fn accepted(origin: &str, outcome: Outcome) -> usize {
     assert_eq!(outcome.number, 0, "{origin}");

@@ -1,0 +1,173 @@
+//! Evaluations with buffers that are kept.
+
+use std::fmt;
+
+use crate::archive::{self, Evaluation};
+use crate::library::Library;
+use crate::limits::needed_words;
+use crate::rule::Rule;
+
+/// Which of the two evaluations is made. Both select the same nodes.
+#[derive(Clone, Copy, Debug, PartialEq, Eq, Hash)]
+pub enum Method {
+    /// Follows the paths of the rule from each node.
+    Plain,
+    /// Goes by snippets, and counts them.
+    Snippets,
+}
+
+/// Selects nodes by one evaluation, and keeps the buffers that it needs.
+///
+/// The buffers grow to what the largest library so far needs, and are used
+/// again by each call.
+///
+/// ```
+/// use yurzhoad::{Library, Method, Rule, Selector};
+///
+/// let library = Library::check("nodes=1\ndepth=0\nkind=e\nlabel=lib\nvalue=\n")?;
+/// let mut selector = Selector::new(Method::Plain);
+/// for (rule, selected) in [(":lib", 1), (":drug", 0), ("(e=\"\")", 1)] {
+///     let rule = Rule::check(rule)?;
+///     assert_eq!(selector.select(&library, &rule).selected(), selected);
+/// }
+/// # Ok::<(), yurzhoad::Refusal>(())
+/// ```
+pub struct Selector {
+    method: Method,
+    scratch: Vec<u16>,
+    marks: Vec<u8>,
+}
+
+impl Selector {
+    /// A selector without buffers; they come with the first call.
+    pub fn new(method: Method) -> Selector {
+        Selector {
+            method,
+            scratch: Vec::new(),
+            marks: Vec::new(),
+        }
+    }
+
+    /// The evaluation that is made.
+    pub fn method(&self) -> Method {
+        self.method
+    }
+
+    /// The most nodes for which the buffers do without growing.
+    pub fn room(&self) -> usize {
+        self.marks.len()
+    }
+
+    /// Grows the buffers for libraries of so many nodes, so that no later call
+    /// of such a library allocates memory.
+    pub fn reserve(&mut self, nodes: usize) {
+        if nodes > self.marks.len() {
+            self.scratch.resize(needed_words(nodes), 0);
+            self.marks.resize(nodes, 0);
+        }
+    }
+
+    /// Selects the nodes of a library at which a rule holds.
+    ///
+    /// The selection borrows the selector: it ends before the next call.
+    ///
+    /// # Panics
+    ///
+    /// If the archive refuses the call. The proved evaluations accept every
+    /// checked library and rule with these buffers, so this can happen only
+    /// with another archive.
+    pub fn select(&mut self, library: &Library<'_>, rule: &Rule<'_>) -> Selection<'_> {
+        let nodes = library.nodes();
+        self.reserve(nodes);
+        let evaluate = match self.method {
+            Method::Plain => archive::evaluate_plain,
+            Method::Snippets => archive::evaluate_snippets,
+        };
+        // Just as long as the library needs: what a call does to its buffers
+        // does not depend on the calls before.
+        let scratch = &mut self.scratch[..needed_words(nodes)];
+        let marks = &mut self.marks[..nodes];
+        let evaluation = evaluate(library.bytes(), rule.bytes(), scratch, marks);
+        assert_eq!(
+            evaluation.number, 0,
+            "the archive refuses a library and a rule that it accepted: it is not the proved one"
+        );
+        Selection {
+            method: self.method,
+            evaluation,
+            marks,
+        }
+    }
+}
+
+/// Short: the buffers may have millions of words.
+impl fmt::Debug for Selector {
+    fn fmt(&self, f: &mut fmt::Formatter<'_>) -> fmt::Result {
+        f.debug_struct("Selector")
+            .field("method", &self.method)
+            .field("room", &self.room())
+            .finish()
+    }
+}
+
+/// The nodes that a rule selects in a library.
+///
+/// ```
+/// use yurzhoad::{Library, Method, Rule, Selector};
+///
+/// let document = "nodes=2\ndepth=0\nkind=e\nlabel=lib\nvalue=\n\
+///                 depth=1\nkind=e\nlabel=drug\nvalue=\n";
+/// let library = Library::check(document)?;
+/// let rule = Rule::check(":drug")?;
+/// let mut selector = Selector::new(Method::Snippets);
+/// let selection = selector.select(&library, &rule);
+/// assert_eq!(selection.selected(), 1);
+/// assert_eq!(selection.snippets(), Some(0));
+/// assert!(selection.contains(1) && !selection.contains(0));
+/// assert_eq!(selection.nodes().collect::<Vec<_>>(), [1]);
+/// assert_eq!(selection.marks(), [0, 1]);
+/// # Ok::<(), yurzhoad::Refusal>(())
+/// ```
+#[derive(Clone, Copy, Debug, PartialEq, Eq)]
+pub struct Selection<'s> {
+    method: Method,
+    evaluation: Evaluation,
+    marks: &'s [u8],
+}
+
+impl<'s> Selection<'s> {
+    /// How many nodes are selected.
+    pub fn selected(&self) -> usize {
+        self.evaluation.selected
+    }
+
+    /// How many snippets were counted. The plain evaluation counts none.
+    pub fn snippets(&self) -> Option<usize> {
+        match self.method {
+            Method::Plain => None,
+            Method::Snippets => Some(self.evaluation.snippets),
+        }
+    }
+
+    /// Whether a node is selected. A node that the library does not have is
+    /// not.
+    pub fn contains(&self, node: usize) -> bool {
+        self.marks.get(node) == Some(&1)
+    }
+
+    /// The numbers of the selected nodes, rising.
+    pub fn nodes(&self) -> impl Iterator<Item = usize> + 's {
+        let marks = self.marks;
+        (0..marks.len()).filter(move |node| marks[*node] == 1)
+    }
+
+    /// The record that the archive handed back.
+    pub fn evaluation(&self) -> Evaluation {
+        self.evaluation
+    }
+
+    /// A byte for each node: 1 if it is selected, and 0 if not.
+    pub fn marks(&self) -> &'s [u8] {
+        self.marks
+    }
+}
