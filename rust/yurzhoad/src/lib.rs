@@ -196,3 +196,8 @@ pub use refusal::{Ground, Refusal};
 pub use rule::Rule;
 pub use selector::{Method, Selection, Selector};
 pub use table::Table;
+
+/// The Rust that README shows, run as a test.
+#[cfg(doctest)]
+#[doc = include_str!("../../../README.md")]
+struct Readme;
