@@ -31,6 +31,7 @@ use Rattle.evaluators.specs.declared.Evaluator.{Evaluator}
 use Rattle.evaluators.specs.Evaluators.{Adds}
 use Rattle.evaluators.specs.declared.Evaluator.the-variants.{Plain, Snippets}
 
+-- ── What a test finds ──
 -- the scratch holds the tree of the accepted document and the ranks of its values
 pub record Scene (s : List ℕ) (ns : List Node) (n : ℕ) (t : List ℕ) : Type 0 where
   pub library : Document.Accepts s ns
@@ -52,6 +53,7 @@ pub record Task (s rule : List ℕ) (ns : List Node) (T : Test) (n at k : ℕ) (
   pub stands : TestAt rule (test (testsOf T) k) at end
   pub inner : (i : ℕ) → k < i → i < length (testsOf T) → Tells ns n i (test (testsOf T) i) t
 
+-- ── What a test is ──
 -- what a test of a kind looks like
 abbrev pub Shape : TestKind → Test → Type 0
 Shape Named T = (a : List ℕ) × (T ≡ named a)
@@ -85,6 +87,7 @@ pub record Constant (s rule : List ℕ) (ns : List Node) (T : Test) (n at k : �
   pub ordered : start ≤ stop
   pub inside : stop ≤ length rule
 
+-- ── What a test leaves ──
 -- only the part behind the tree's own words may be different
 abbrev pub Apart : ℕ → List ℕ → List ℕ → Type 0
 Apart n t t′ = Frame (COLUMNS * n) (scratchWords n) t t′
@@ -109,6 +112,7 @@ pub record Settles (e : Evaluator) (ns : List Node) (n k : ℕ) (T : Test) (t t�
   pub decided : Decided ns n k T t t′
   pub adds : Adds e (treeOf ns) T r
 
+-- ── All tests of a rule ──
 -- all tests from k on are settled
 pub record Settling (ns : List Node) (n k : ℕ) (T : Test) (t t′ : List ℕ) : Type 0 where
   pub tells : (i : ℕ) → k ≤ i → i < length (testsOf T) → Tells ns n i (test (testsOf T) i) t′

@@ -9,6 +9,7 @@ use Rattle.limits.specs.Limits.{labelBytes, constantBytes}
 use Rattle.xpath.specs.Syntax.{Op, eq, ne, lt, le, gt, ge, Test, named, not, and, or, compare, compareTo, XPath, empty, one, seq, union, star, toLeft, toRight, fromLeft, fromRight, stay}
 use Rattle.rule_spec.specs.Bytes.{choose, isLetter, isNameByte, isPrintable}
 
+-- ── The stack ──
 -- test n and path n have nesting n; tail i is up to i more bytes of a name, quoted i up to i bytes of a constant and the quote that ends it;
 -- signed is a comparison from its sign to its closing bracket, operand from behind its sign, orEqual from behind the first byte of a sign with < or >
 pub data Symbol : Type 0 where
@@ -41,6 +42,7 @@ abbrev pub Values : Stack → Type 0
 Values [] = Unit {0}
 Values (x ∷ st) = Value x × Values st
 
+-- ── One byte ──
 -- one byte read: the stack after it, how the values of that stack make those of the stack before, and the nesting of the part that begins at the byte, if one does
 pub record Move (st : Stack) : Type 0 where
   pub after : Stack
@@ -68,6 +70,7 @@ module _ {st : Stack} where
   abbrev pub pass : {st′ : Stack} → (Values st′ → Values st) → Move st′ → Move st
   pass f m = record { after = m .after; build = λ v. f (m .build v); begins = m .begins }
 
+-- ── What each byte begins ──
 -- : ! & | (
 abbrev pub testMoves : (n : ℕ) (st : Stack) → List (ℕ × Move (test n ∷ st))
 testMoves n st =
@@ -107,6 +110,7 @@ operandMove n st b =
     (some (go (quoted constantBytes ∷ byte 41 ∷ st) (λ v. (inr (v .0), v .1 .1))))
     (Option·map (pass (λ v. (inl (v .0), v .1 .1))) (look b (pathMoves n (byte 41 ∷ st))))
 
+-- ── The machine ──
 -- the machine: what it does at a byte, if it does not refuse it
 unfoldable pub move : (st : Stack) → ℕ → Option (Move st)
 move [] b = none
@@ -138,6 +142,7 @@ rest (signed n ∷ st) = none
 rest (orEqual n ∷ st) = none
 rest (operand n ∷ st) = none
 
+-- ── A whole text ──
 -- the offset and the nesting of a part
 abbrev pub Key : Type 0
 Key = ℕ × ℕ
