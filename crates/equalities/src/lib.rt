@@ -16,11 +16,12 @@ ghost use Rattle.limits.specs.Limits.{documentNodes, nodeDigits, wordsPerDigit}
 ghost use Rattle.xpath.specs.Syntax.{XPath};
 ghost use Rattle.xpath.specs.Tree.{Tree};
 ghost use Rattle.loops.specs.Loops.{Stage};
+ghost use Rattle.powers.specs.Powers.{Founded};
 ghost use Rattle.layout.specs.Blocks.{BLOCKS};
 ghost use Rattle.skeletons.specs.Shape.{Shape};
 ghost use Rattle.first_snippets.specs.Groups.{Enough, Sizes};
 ghost use Rattle.equalities.specs.Equalities.{Evaluated};
-ghost use Rattle.equalities.specs.Steps.{Empty, Founded, Prepares, Gathers};
+ghost use Rattle.equalities.specs.Steps.{Empty, Prepares, Gathers};
 
 // The loops and the powers, and no snippets yet.
 fn prepare(p: &mut [u16], n: usize, b: usize, m: Machine)
@@ -34,7 +35,7 @@ fn prepare(p: &mut [u16], n: usize, b: usize, m: Machine)
 
 // All snippets, and how many there are: those that the first snippets of each value yield, and then their halves.
 fn gather(p: &mut [u16], n: usize, b: usize, m: Machine) -> usize
-    requires { ⌜ ((P R : XPath) × (t : Tree) × Founded P R t m n b (now p)) × (0 < b) × Empty n b (now p) × Sizes n b (now p) ⌝ }
+    requires { ⌜ ((P R : XPath) × (t : Tree) × Founded P R t m n b (now p) × Enough t b) × (0 < b) × Empty n b (now p) × Sizes n b (now p) ⌝ }
     ensures { λ r. ⌜ Gathers m n b (now (p .entry)) (now (p .exit)) r ⌝ }
 {
     buckets(p, n);
