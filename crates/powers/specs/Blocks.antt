@@ -1,5 +1,5 @@
 -- What is written for an exponent and a node.
-use Prim.Native.Nat.{ℕ, _+_, _≤_, _<_}
+use Prim.Native.Nat.{ℕ, _+_, _*_, _≤_, _<_}
 use mathlib.Core.Path.{_≡_}
 use mathlib.Core.Logic.{_↔_}
 use mathlib.Core.Bool.{true}
@@ -11,10 +11,16 @@ use Rattle.xpath.specs.Syntax.{XPath, size}
 use Rattle.xpath.specs.Tree.{Tree, WellFormed}
 use Rattle.matrices.specs.Matrices.{Related, Composed}
 use Rattle.machine.specs.declared.Machine.{Machine}
-use Rattle.layout.specs.Blocks.{blockAt, downAt, upAt, upperAt}
+use Rattle.layout.specs.Blocks.{BLOCKS, blockAt, downAt, upAt, upperAt}
 use Rattle.layout.specs.Part.{loopAt}
 use Rattle.layout.specs.Words.{Frame}
 use Rattle.powers.specs.Powers.{Power, Powers, Ready}
+
+-- the part has room for the blocks of n nodes and all exponents below b
+pub record BlockRoom (n b : ℕ) (p : List ℕ) : Type 0 where
+  pub few : n ≤ documentNodes
+  pub low : b ≤ nodeDigits
+  pub room : (BLOCKS + wordsPerDigit * b) * n ≤ length p
 
 -- there is room for the words of exponent k and node y
 pub record Fits (n k y : ℕ) (p : List ℕ) : Type 0 where
