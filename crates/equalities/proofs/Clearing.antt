@@ -1,16 +1,16 @@
 -- Laws of the rows that become 0.
 use Prim.Native.Nat.{ℕ, suc, _+_, _*_, _/_, _%_, _≤_, _<_}
-use mathlib.Core.Path.{_≡_, refl, sym, ap, _∙_, subst}
+use mathlib.Core.Path.{_≡_, sym, ap, _∙_, subst}
 use mathlib.Core.Logic.{_≢_, _⊎_, inl, inr}
 use mathlib.Core.List.{List}
 use native.Mathlib.Nat.{eq-or-lt-of-le, mul-le-mul-right, div-add-mod', div-lt-iff-lt-mul, mod-lt}
 use native.Mathlib.Omega.{arith}
-use lib.ListN.{length, getD, set, length-set}
+use lib.ListN.{length, getD, set}
 use lib.Seq.{getD-set-same, getD-set-other}
-use Rattle.layout.proofs.Frames.{frame-none, frame-then, frame-wider}
-use Rattle.matrices.proofs.Drawing.{redrawn-other}
-use Rattle.first_snippets.specs.Groups.{Aside, Rest}
-use Rattle.layout.specs.Blocks.{rowsAt}
+use Rattle.layout.proofs.Frames.{frame-none, frame-then, frame-wider, set-frame, same-none, same-then, same-wider}
+use Rattle.matrices.proofs.Drawing.{redrawn-same}
+use Rattle.first_snippets.specs.Groups.{Rest}
+use Rattle.layout.specs.Blocks.{rowsAt, Aside}
 use Rattle.equalities.specs.Steps.{Zeroed, Cleared, Empty}
 
 -- ── Words from an offset on ──
@@ -19,11 +19,7 @@ zeroed-none at p = record { frame = frame-none p; zero = λ i h. absurd (omega a
 
 pub zeroed-step : {at k : ℕ} {p q : List ℕ} → Zeroed at k p q → at + k < length p → Zeroed at (k + 1) p (set q (at + k) 0)
 zeroed-step {at} {k} {p} {q} z room = record {
-  frame = frame-then (frame-wider (omega arith) (omega arith) (z .frame)) (record {
-    long = length-set q (at + k) 0;
-    front = λ l h. getD-set-other q (at + k) l 0 0 (omega arith);
-    behind = λ l h. getD-set-other q (at + k) l 0 0 (omega arith);
-  });
+  frame = frame-then (frame-wider (omega arith) (omega arith) (z .frame)) (frame-wider (omega arith) (omega arith) (set-frame q (at + k) 0));
   zero = λ i h. go i (eq-or-lt-of-le (omega arith));
 }
   where
@@ -36,12 +32,11 @@ zeroed-to {at} {p = p} {q} e z = subst (λ (x : ℕ). Zeroed at x p q) e z
 
 -- ── The rows of the blocks ──
 pub cleared-none : (n : ℕ) (p : List ℕ) → Cleared n 0 p p
-cleared-none n p = record { long = refl; other = λ k h. refl; zero = λ l i h. absurd (omega arith) }
+cleared-none n p = record { same = same-none p; zero = λ l i h. absurd (omega arith) }
 
 pub cleared-step : {n c : ℕ} {p q q′ : List ℕ} → Cleared n c p q → Zeroed (rowsAt n c) 16 q q′ → Cleared n (c + 1) p q′
 cleared-step {n} {c} {p} {q} {q′} f z = record {
-  long = z .frame .long ∙ f .long;
-  other = λ k h. redrawn-other (z .frame) k (λ i r. h c i (omega arith) r) ∙ f .other k (λ l i r s. h l i (omega arith) s);
+  same = same-then (same-wider (λ k h l i r. h l i (omega arith)) (f .same)) (redrawn-same (λ k h i. h c i (omega arith)) (z .frame));
   zero = λ l i h r. go l i r (eq-or-lt-of-le (omega arith));
 }
   where
@@ -56,9 +51,9 @@ module _ {n b : ℕ} {p p′ : List ℕ} (f : Cleared n (b * n) p p′) where
   -- all else stays
   pub cleared-rest : 0 < n → Rest 16 n b p p′
   cleared-rest some = record {
-    long = f .long;
-    front = λ k h. f .other k (λ l i r s e. omega arith);
-    behind = λ k h aside. f .other k (λ l i r s. place k aside l i r s);
+    long = f .same .long;
+    front = λ k h. f .same .same k (λ l i r s e. omega arith);
+    behind = λ k h aside. f .same .same k (place k aside);
   }
     where
       place : (k : ℕ) → Aside n b k → (l i : ℕ) → l < b * n → i < 16 → k ≢ rowsAt n l + i

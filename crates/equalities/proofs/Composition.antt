@@ -26,10 +26,10 @@ use Rattle.layout.specs.Part.{STAYS, ANSWER}
 use Rattle.layout.specs.Words.{word}
 use Rattle.machine.specs.declared.Machine.{Machine}
 use Rattle.matrices.specs.Matrices.{Related}
-use Rattle.loops.specs.Loops.{Stage, Loops, Looped}
+use Rattle.loops.specs.Loops.{Stage, Looped}
 use Rattle.loops.proofs.Kept.{stage-kept}
-use Rattle.powers.specs.Powers.{Powers, Powered}
-use Rattle.powers.proofs.Kept.{ladder-of}
+use Rattle.powers.specs.Powers.{Powers, Ready, Founded, Powered}
+use Rattle.powers.proofs.Kept.{founded-of, founded-less}
 use Rattle.settling.specs.Settled.{Settled}
 use Rattle.settling.specs.Settled as pairs
 use Rattle.settling.proofs.Finding.{answers-hold}
@@ -42,7 +42,7 @@ use Rattle.first_snippets.specs.Groups.{Enough, Sizes, Rest, Gains, Base, Added
 use Rattle.first_snippets.proofs.Rest.{rest-within, powers-rest, loops-rest, stage-rest, stage-shape, sizes-rest}
 use Rattle.first_snippets.proofs.Lengths.{exponent-below}
 use Rattle.equalities.specs.Equalities.{Answers, Evaluated}
-use Rattle.equalities.specs.Steps.{Cleared, Empty, Founded, Prepares, FromFirst, Gathers}
+use Rattle.equalities.specs.Steps.{Cleared, Empty, Prepares, FromFirst, Gathers}
 use Rattle.equalities.proofs.Clearing.{cleared-empty, cleared-rest}
 
 -- ── All snippets are yielded by first snippets and halving ──
@@ -69,10 +69,10 @@ module _ {P R : XPath} {t : Tree} where
 
 -- ── What stays ──
 founded-rest : {P R : XPath} {t : Tree} {m : Machine} {c n b : ℕ} {p p′ : List ℕ} → STAYS < c → Rest c n b p p′ → Founded P R t m n b p → Founded P R t m n b p′
-founded-rest late r f = record { stage = stage-rest r late (f .stage); loops = loops-rest r (f .loops); powers = powers-rest r (f .powers); enough = f .enough }
+founded-rest late r f = record { stage = stage-rest r late (f .stage); loops = loops-rest r (f .loops); powers = powers-rest r (f .powers) }
 
 halving-rest : {n b : ℕ} {p p′ : List ℕ} → Halving n b p p′ → Rest 16 n b p p′
-halving-rest h = record { long = h .long; front = λ k l. h .other k (λ e y i a c d z. omega arith); behind = λ k l aside. h .other k aside }
+halving-rest h = let s = h .same in record { long = s .long; front = λ k l. s .same k (λ e y i a c d z. omega arith); behind = λ k l. s .same k }
 
 bucketed-rest : {n b : ℕ} {p p′ : List ℕ} → Bucketed n p p′ → Rest 9 n b p p′
 bucketed-rest g = rest-within (omega arith) (g .within)
@@ -83,28 +83,25 @@ bucketed-empty {n} g f k y i l r s = g .within .behind (snippetAt n k y + i) (om
 -- ── Before the snippets ──
 module _ {m : Machine} {n : ℕ} {p p₁ : List ℕ} (given : (P R : XPath) × (t : Tree) × Stage P R t m n p) (loops : (P R : XPath) (t : Tree) → Stage P R t m n p → Looped P R t n p p₁) where
   -- p₁ is the part with its loops
-  pub looped : ((P R : XPath) × (t : Tree) × Stage P R t m n p₁ × Loops P R t n p₁) × (length p₁ ≡ length p)
-  looped = let (P, R, t, stage) = given in let l = loops P R t stage in ((P, R, t, stage-kept (l .frame .front) stage, l .loops), l .frame .long)
+  ready : (P R : XPath) (t : Tree) → Stage P R t m n p → Ready P R t m n p₁
+  ready P R t stage = let l = loops P R t stage in record { stage = stage-kept (l .frame .front) stage; loops = l .loops }
+
+  pub looped : ((P R : XPath) × (t : Tree) × Ready P R t m n p₁) × (length p₁ ≡ length p)
+  looped = let (P, R, t, stage) = given in ((P, R, t, ready P R t stage), loops P R t stage .frame .long)
 
   -- p₂ has its powers too, and p₃ has no snippets
-  pub prepared : {b : ℕ} {p₂ p₃ : List ℕ} → 0 < n → ((P R : XPath) (t : Tree) → Stage P R t m n p₁ → Loops P R t n p₁ → Powered P R t n b p₁ p₂) → Cleared n (b * n) p₂ p₃ → Prepares m n b p p₃
+  pub prepared : {b : ℕ} {p₂ p₃ : List ℕ} → 0 < n → ((P R : XPath) (t : Tree) → Ready P R t m n p₁ → Powered P R t n b p₁ p₂) → Cleared n (b * n) p₂ p₃ → Prepares m n b p p₃
   prepared some powers cleared = record {
-    long = cleared .long ∙ (let ((P, R, t, stage, found), long) = looped in powers P R t stage found .long ∙ long);
-    founded = λ P R t stage enough.
-        let l = loops P R t stage in
-        let stage₁ = stage-kept (l .frame .front) stage in
-        let powered = powers P R t stage₁ (l .loops) in
-        let ladder = ladder-of stage₁ (l .loops) powered in
-        founded-rest (omega arith) (cleared-rest cleared some)
-        (record { stage = stage-kept (λ k h. powered .front k (omega arith)) stage₁; loops = ladder .loops; powers = ladder .powers; enough = enough });
+    long = cleared .same .long ∙ (let ((P, R, t, found), long) = looped in powers P R t found .frame .long ∙ long);
+    founded = λ P R t stage. let r = ready P R t stage in founded-rest (omega arith) (cleared-rest cleared some) (founded-of r (powers P R t r));
     empty = cleared-empty cleared;
   }
 
 -- ── The snippets ──
 -- p is the part with its buckets and without snippets, p′ with what the first snippets yield
-module _ {P R : XPath} {t : Tree} {m : Machine} {n b : ℕ} {p p′ : List ℕ} (f : Founded P R t m n b p) (some : 0 < b) (empty : Empty n b p) (g : Gains t n b (FromFirst P R t) p p′) where
+module _ {P R : XPath} {t : Tree} {m : Machine} {n b : ℕ} {p p′ : List ℕ} (f : Founded P R t m n b p) (enough : Enough t b) (some : 0 < b) (empty : Empty n b p) (g : Gains t n b (FromFirst P R t) p p′) where
   all-within : Within t n b (Yielded t P R)
-  all-within = yielded-within (f .stage .formed) (f .stage .drawn .size) (f .enough) (f .stage .machine .few)
+  all-within = yielded-within (f .stage .formed) (f .stage .drawn .size) enough (f .stage .machine .few)
 
   gained-topped : Topped t n b p′
   gained-topped = topped-of t n b p′ (λ k y i l r s none. g .top k y i l r s none ∙ empty k y i l r s)
@@ -159,18 +156,18 @@ module _ {m : Machine} {n b : ℕ} {p p₁ : List ℕ} (g : Bucketed n p p₁) w
   bucketed f = founded-rest (omega arith) (bucketed-rest g) f
 
   -- p₁ is the part with its buckets
-  pub bucketed-base : (P R : XPath) × (t : Tree) × Founded P R t m n b p → Sizes n b p → Base m n b p₁
-  bucketed-base (P, R, t, f) sizes =
+  pub bucketed-base : (P R : XPath) × (t : Tree) × Founded P R t m n b p × Enough t b → Sizes n b p → Base m n b p₁
+  bucketed-base (P, R, t, f, enough) sizes =
       let h = bucketed f in
-      record { first = P; second = R; tree = t; stage = h .stage; loops = h .loops; powers = h .powers; buckets = g .buckets; enough = f .enough; sizes = sizes-rest (bucketed-rest g) sizes }
+      record { first = P; second = R; tree = t; stage = h .stage; loops = h .loops; powers = h .powers; buckets = g .buckets; enough = enough; sizes = sizes-rest (bucketed-rest g) sizes }
 
   -- p₂ has what the first snippets yield, and p₃ all snippets
   pub gathered : {r : ℕ} {p₂ p₃ : List ℕ} → 0 < b → Empty n b p → AddedAll m n b (m .first) p₁ p₂ → Halving n b p₂ p₃ → Counts n b p₃ r → Gathers m n b p p₃ r
   gathered {r} {p₂} {p₃} some empty a h c = record {
-    long = h .long ∙ a .rest .long ∙ g .within .long;
+    long = h .same .long ∙ a .rest .long ∙ g .within .long;
     founded = λ P R t f. founded-rest (omega arith) (halving-rest h) (added f);
-    number = λ P R t f. all-number (bucketed f) some none (gains f) (added f .powers) h c;
-    marked = λ P R t f. edge-marked (bucketed f) some none (gains f) (added f .powers) h;
+    number = λ P R t f enough. all-number (bucketed f) enough some none (gains f) (added f .powers) h c;
+    marked = λ P R t f enough. edge-marked (bucketed f) enough some none (gains f) (added f .powers) h;
   }
     where
       none : Empty n b p₁
@@ -192,27 +189,23 @@ one-or-none {A} w small told = go (ℕ-discrete w 1)
 
 -- some comparison is given at every step
 module _ {m : Machine} {n b : ℕ} {p p₁ : List ℕ} (f : Prepares m n b p p₁) (enough : (t : Tree) → Shape t n p → Enough t b) where
-  founded-at : (P R : XPath) (t : Tree) → Stage P R t m n p → Founded P R t m n b p₁
-  founded-at P R t stage = f .founded P R t stage (enough t (stage-shape stage))
-
-  pub prepared-some : (P R : XPath) × (t : Tree) × Stage P R t m n p → (P R : XPath) × (t : Tree) × Founded P R t m n b p₁
-  prepared-some (P, R, t, stage) = (P, R, t, founded-at P R t stage)
+  pub prepared-some : (P R : XPath) × (t : Tree) × Stage P R t m n p → (P R : XPath) × (t : Tree) × Founded P R t m n b p₁ × Enough t b
+  prepared-some (P, R, t, stage) = (P, R, t, f .founded P R t stage, enough t (stage-shape stage))
 
   pub gathered-some : {r : ℕ} {p₂ : List ℕ} → Gathers m n b p₁ p₂ r → (P R : XPath) × (t : Tree) × Stage P R t m n p → (P R : XPath) × (t : Tree) × Stage P R t m n p₂
-  gathered-some g (P, R, t, stage) = (P, R, t, g .founded P R t (founded-at P R t stage) .stage)
+  gathered-some g (P, R, t, stage) = (P, R, t, g .founded P R t (f .founded P R t stage) .stage)
 
   -- p is the part at first, p₁ without snippets, p₂ with all snippets, and p₃ with the answers
   pub evaluated : {r : ℕ} {p₂ p₃ : List ℕ} → 0 < b → Gathers m n b p₁ p₂ r → Settled m n p₂ p₃ → Evaluated m n p p₃ r
   evaluated {r} {p₂} {p₃} some g s = record {
-    long = s .long ∙ g .long ∙ f .long;
-    found = λ P R t stage. let founded = founded-at P R t stage in (g .number P R t founded, answers P R t founded);
+    long = s .same .long ∙ g .long ∙ f .long;
+    found = λ P R t stage. let founded = f .founded P R t stage in let e = enough t (stage-shape stage) in (g .number P R t founded e, answers P R t founded e);
   }
     where
-      answers : (P R : XPath) (t : Tree) → Founded P R t m n b p₁ → Answers P R t n p₃
-      answers P R t founded v inside =
-          let last = g .founded P R t founded in
+      answers : (P R : XPath) (t : Tree) → Founded P R t m n b p₁ → Enough t b → Answers P R t n p₃
+      answers P R t founded e v inside =
           one-or-none (word p₃ n ANSWER v) (s .small v inside)
-          (answers-hold (last .stage) (last .loops) (λ k y l q. last .powers k y (omega arith) q) (g .marked P R t founded) s v inside)
+          (answers-hold (founded-less (omega arith) (g .founded P R t founded)) (g .marked P R t founded e) s v inside)
 
 -- there is room for the blocks of exponent 0
 pub edges-fit : (n b l : ℕ) → 0 < b → (BLOCKS + 64 * b) * n ≤ l → 176 * n ≤ l

@@ -12,10 +12,10 @@ use Rattle.snippets.specs.Snippets.{Yielded}
 use Rattle.snippets.specs.Count.{IsSnippet}
 use Rattle.snippets.specs.Direct.{Direct}
 use Rattle.machine.specs.declared.Machine.{Machine}
-use Rattle.loops.specs.Loops.{Stage, Loops}
+use Rattle.loops.specs.Loops.{Stage}
 use Rattle.layout.specs.Blocks.{snippetAt, rowsAt}
-use Rattle.layout.specs.Words.{Frame}
-use Rattle.powers.specs.Powers.{Powers}
+use Rattle.layout.specs.Words.{Frame, Same}
+use Rattle.powers.specs.Powers.{Founded}
 use Rattle.settling.specs.Settled.{Marked}
 use Rattle.first_snippets.specs.Groups.{Enough}
 
@@ -27,8 +27,7 @@ pub record Zeroed (at k : ℕ) (p p′ : List ℕ) : Type 0 where
 
 -- the rows of the first c blocks become 0, and all other words are as before
 pub record Cleared (n c : ℕ) (p p′ : List ℕ) : Type 0 where
-  pub long : length p′ ≡ length p
-  pub other : (k : ℕ) → ((l i : ℕ) → l < c → i < positions → k ≢ rowsAt n l + i) → getD p′ k 0 ≡ getD p k 0
+  pub same : Same (λ k. (l i : ℕ) → l < c → i < positions → k ≢ rowsAt n l + i) p p′
   pub zero : (l i : ℕ) → l < c → i < positions → getD p′ (rowsAt n l + i) 0 ≡ 0
 
 -- there are no snippets
@@ -36,17 +35,10 @@ abbrev pub Empty : ℕ → ℕ → List ℕ → Type 0
 Empty n b p = (k y i : ℕ) → k < b → y < n → i < positions → getD p (snippetAt n k y + i) 0 ≡ 0
 
 -- ── Before the snippets ──
--- a comparison of two paths on a tree, with its loops and its powers, which are enough
-pub record Founded (P R : XPath) (t : Tree) (m : Machine) (n b : ℕ) (p : List ℕ) : Type 0 where
-  pub stage : Stage P R t m n p
-  pub loops : Loops P R t n p
-  pub powers : Powers P R t n p b
-  pub enough : Enough t b
-
--- these are found, and there are no snippets yet
+-- the loops and the powers are found, and there are no snippets yet
 pub record Prepares (m : Machine) (n b : ℕ) (p p′ : List ℕ) : Type 0 where
   pub long : length p′ ≡ length p
-  pub founded : (P R : XPath) (t : Tree) → Stage P R t m n p → Enough t b → Founded P R t m n b p′
+  pub founded : (P R : XPath) (t : Tree) → Stage P R t m n p → Founded P R t m n b p′
   pub empty : Empty n b p′
 
 -- ── The snippets ──
@@ -54,9 +46,9 @@ pub record Prepares (m : Machine) (n b : ℕ) (p p′ : List ℕ) : Type 0 where
 abbrev pub FromFirst : XPath → XPath → Tree → ℕ → ℕ → ℕ → ℕ → ℕ → Type 0
 FromFirst P R t k x y i j = (d : List ℕ) × Direct t P R d k x y i j
 
--- they are found, r in all; those of power 0 are in the rows
+-- they are found, r in all, where the powers are enough; those of power 0 are in the rows
 pub record Gathers (m : Machine) (n b : ℕ) (p p′ : List ℕ) (r : ℕ) : Type 0 where
   pub long : length p′ ≡ length p
   pub founded : (P R : XPath) (t : Tree) → Founded P R t m n b p → Founded P R t m n b p′
-  pub number : (P R : XPath) (t : Tree) → Founded P R t m n b p → Number (IsSnippet t (record { first = P; second = R })) r
-  pub marked : (P R : XPath) (t : Tree) → Founded P R t m n b p → (x y i j : ℕ) → Marked t n p′ x y i j ↔ Yielded t P R 0 x y i j
+  pub number : (P R : XPath) (t : Tree) → Founded P R t m n b p → Enough t b → Number (IsSnippet t (record { first = P; second = R })) r
+  pub marked : (P R : XPath) (t : Tree) → Founded P R t m n b p → Enough t b → (x y i j : ℕ) → Marked t n p′ x y i j ↔ Yielded t P R 0 x y i j

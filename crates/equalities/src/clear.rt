@@ -4,7 +4,7 @@ use limits::Rule;
 ghost use Prim.Native.Nat.{_+_, _*_, _≤_, _<_};
 ghost use lib.ListN.{length};
 ghost use Rattle.limits.specs.Limits.{positions};
-ghost use Rattle.halving.specs.Halving.{BlockRoom};
+ghost use Rattle.powers.specs.Blocks.{BlockRoom};
 ghost use Rattle.equalities.specs.Steps.{Zeroed, Cleared};
 
 // The 16 rows at `at`.

@@ -10,21 +10,20 @@ use machine::Machine;
 use powers::find_powers;
 use settling::settle;
 use skeletons::buckets::buckets;
-ghost use Prim.Native.Nat.{_+_, _*_, _≤_, _<_};
-ghost use lib.ListN.{length};
-ghost use Rattle.limits.specs.Limits.{documentNodes, nodeDigits, wordsPerDigit};
+ghost use Prim.Native.Nat.{_<_};
 ghost use Rattle.xpath.specs.Syntax.{XPath};
 ghost use Rattle.xpath.specs.Tree.{Tree};
 ghost use Rattle.loops.specs.Loops.{Stage};
-ghost use Rattle.layout.specs.Blocks.{BLOCKS};
+ghost use Rattle.powers.specs.Powers.{Founded};
+ghost use Rattle.powers.specs.Blocks.{BlockRoom};
 ghost use Rattle.skeletons.specs.Shape.{Shape};
 ghost use Rattle.first_snippets.specs.Groups.{Enough, Sizes};
 ghost use Rattle.equalities.specs.Equalities.{Evaluated};
-ghost use Rattle.equalities.specs.Steps.{Empty, Founded, Prepares, Gathers};
+ghost use Rattle.equalities.specs.Steps.{Empty, Prepares, Gathers};
 
 // The loops and the powers, and no snippets yet.
 fn prepare(p: &mut [u16], n: usize, b: usize, m: Machine)
-    requires { ⌜ ((P R : XPath) × (t : Tree) × Stage P R t m n (now p)) × (0 < n) × (n ≤ documentNodes) × (b ≤ nodeDigits) × ((BLOCKS + wordsPerDigit * b) * n ≤ length (now p)) ⌝ }
+    requires { ⌜ ((P R : XPath) × (t : Tree) × Stage P R t m n (now p)) × (0 < n) × BlockRoom n b (now p) ⌝ }
     ensures { λ _. ⌜ Prepares m n b (now (p .entry)) (now (p .exit)) ⌝ }
 {
     find_loops(p, n, m);
@@ -34,7 +33,7 @@ fn prepare(p: &mut [u16], n: usize, b: usize, m: Machine)
 
 // All snippets, and how many there are: those that the first snippets of each value yield, and then their halves.
 fn gather(p: &mut [u16], n: usize, b: usize, m: Machine) -> usize
-    requires { ⌜ ((P R : XPath) × (t : Tree) × Founded P R t m n b (now p)) × (0 < b) × Empty n b (now p) × Sizes n b (now p) ⌝ }
+    requires { ⌜ ((P R : XPath) × (t : Tree) × Founded P R t m n b (now p) × Enough t b) × (0 < b) × Empty n b (now p) × Sizes n b (now p) ⌝ }
     ensures { λ r. ⌜ Gathers m n b (now (p .entry)) (now (p .exit)) r ⌝ }
 {
     buckets(p, n);
@@ -45,7 +44,7 @@ fn gather(p: &mut [u16], n: usize, b: usize, m: Machine) -> usize
 
 // The number of snippets is handed back; the answers stand in the first column.
 pub fn compare_equal(p: &mut [u16], n: usize, b: usize, m: Machine) -> usize
-    requires { ⌜ ((P R : XPath) × (t : Tree) × Stage P R t m n (now p)) × ((t : Tree) → Shape t n (now p) → Enough t b) × (0 < n) × (n ≤ documentNodes) × (0 < b) × (b ≤ nodeDigits) × ((BLOCKS + wordsPerDigit * b) * n ≤ length (now p)) ⌝ }
+    requires { ⌜ ((P R : XPath) × (t : Tree) × Stage P R t m n (now p)) × ((t : Tree) → Shape t n (now p) → Enough t b) × (0 < n) × (0 < b) × BlockRoom n b (now p) ⌝ }
     ensures { λ r. ⌜ Evaluated m n (now (p .entry)) (now (p .exit)) r ⌝ }
 {
     prepare(p, n, b, m);

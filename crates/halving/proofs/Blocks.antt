@@ -8,7 +8,7 @@ use native.Mathlib.Omega.{arith}
 use native.Mathlib.Nat.{mul-le-mul-right}
 use native.Mathlib.Decide.{decLe}
 use Rattle.matrices.specs.Matrices.{Apart}
-use Rattle.halving.specs.Halving.{BlockRoom}
+use Rattle.powers.specs.Blocks.{BlockRoom}
 use Rattle.powers.proofs.Places.{block-before}
 use Rattle.layout.specs.Blocks.{BLOCKS, blockAt, downAt, upAt, snippetAt, upperAt}
 

@@ -1,7 +1,7 @@
 -- Sets of snippets and their words, and what halving makes of a set.
 use Prim.Native.Nat.{ℕ, zero, suc, _+_, _^_, _≤_, _<_}
 use mathlib.Core.Path.{_≡_, sym, ap, _∙_, subst}
-use mathlib.Core.Bool.{true, false≢true}
+use mathlib.Core.Bool.{false≢true}
 use mathlib.Core.Logic.{_↔_}
 use mathlib.Core.List.{List}
 use native.Mathlib.Omega.{arith}
@@ -11,10 +11,9 @@ use Rattle.bits.specs.Sets.{bit}
 use Rattle.bits.proofs.SetLaws.{bit-none}
 use Rattle.xpath.specs.Syntax.{XPath, size}
 use Rattle.xpath.specs.Tree.{Tree, WellFormed, Down, here, deeper}
-use Rattle.xpath.proofs.Trees.{parent-of, down-le}
+use Rattle.xpath.proofs.Trees.{parent-of}
 use Rattle.positions.specs.Positions.{Comes}
 use Rattle.snippets.specs.Snippets.{First, Yielded}
-use Rattle.snippets.proofs.Counting.{follows-small}
 use Rattle.matrices.specs.Matrices.{Related}
 use Rattle.layout.specs.Blocks.{snippetAt}
 use Rattle.powers.proofs.Ancestors.{one-above}
@@ -66,16 +65,6 @@ module _ {t : Tree} {n b : ℕ} {p : List ℕ} where
       λ s. let o = w k x y i j s in record { inside = o; marked = sets-at wf k x y i j o .1 s },
     )
 
-  -- the other way: from the words of each lower node that has an upper node, where those of the others are 0
-  pub sets-of : (S : Family) → Topped t n b p
-      → ((k x y i j : ℕ) → Inside t n b k x y i j → Related p (snippetAt n k y) i j ↔ S k x y i j) → Sets t n b p S
-  sets-of S h f = record {
-    same = λ k y i j a c d e. (
-      λ r. let (x, o) = h .top k y i j a c d e r in (x, o, f k x y i j (record { power = a; lower = c; apart = o; first = d; second = e }) .0 r),
-      λ (x, o, m). f k x y i j (record { power = a; lower = c; apart = o; first = d; second = e }) .1 m,
-    );
-  }
-
 pub topped-of : (t : Tree) (n b : ℕ) (p : List ℕ)
     → ((k y i : ℕ) → k < b → y < n → i < 16 → ((x : ℕ) → ¬ Down t x y (2 ^ k)) → getD p (snippetAt n k y + i) 0 ≡ 0) → Topped t n b p
 topped-of t n b p zero-words = record { top = λ k y i j a c d e r. go k y i j a c d r (dec-above t (2 ^ k) y) }
@@ -86,33 +75,11 @@ topped-of t n b p zero-words = record { top = λ k y i j a c d e r. go k y i j a
 
 -- ── Halving ──
 module _ {P R : XPath} {t : Tree} where
-  pub halved-mono : {D E : Family} → ((k x y i j : ℕ) → D k x y i j → E k x y i j) → {k x y i j : ℕ} → Halved P R t D k x y i j → Halved P R t E k x y i j
-  halved-mono f (direct d) = direct (f _ _ _ _ _ d)
-  halved-mono f (upperHalf h a c e) = upperHalf (halved-mono f h) a c e
-  halved-mono f (lowerHalf h a c e) = lowerHalf (halved-mono f h) a c e
-
   -- the exponents go down
   pub halved-below : {D : Family} {b : ℕ} → ((k x y i j : ℕ) → D k x y i j → k < b) → {k x y i j : ℕ} → Halved P R t D k x y i j → k < b
   halved-below f (direct d) = f _ _ _ _ _ d
   halved-below f (upperHalf h a c e) = let r = halved-below f h in omega arith
   halved-below f (lowerHalf h a c e) = let r = halved-below f h in omega arith
-
-  -- where a chain comes from is a position of the two paths, or where it ends
-  comes-from : size P + size R ≤ 14 → {i v j w : ℕ} → Comes P R t i v j w → j < 16 → i < 16
-  comes-from few Comes.here l = l
-  comes-from few {i} (Comes.on {j = j} s f a m c) l = let h = follows-small P R i j f in omega arith
-
-  -- halves keep to the bounds, too
-  pub halved-within : {n b : ℕ} {D : Family} → WellFormed t → size P + size R ≤ 14 → Within t n b D → Within t n b (Halved P R t D)
-  halved-within wf few w k x y i j (direct d) = w k x y i j d
-  halved-within wf few w k x h i j (upperHalf {y = y} {q = q} g a c e) =
-      let o = halved-within wf few w (suc k) x y i q g in
-      let l = down-le t wf c in let m = o .power in let r = o .lower in
-      record { power = omega arith; lower = omega arith; apart = a; first = o .first; second = comes-from few e (o .second) }
-  halved-within wf few w k h y i j (lowerHalf {x = x} {p = p} g a c e) =
-      let o = halved-within wf few w (suc k) x y p j g in
-      let m = o .power in
-      record { power = omega arith; lower = o .lower; apart = c; first = comes-from few e (o .first); second = o .second }
 
 -- if D has just what the first snippets yield, D and its halves are all that is yielded
 module _ {P R : XPath} {t : Tree} {D : Family} where

@@ -8,15 +8,17 @@ use native.Mathlib.Nat.{eq-or-lt-of-le}
 use native.Mathlib.Decide.{ℕ-discrete}
 use lib.ListN.{getD}
 use Rattle.matrices.specs.Matrices.{Related, Drawing}
-use Rattle.matrices.proofs.Drawing.{redrawn-other}
+use Rattle.layout.proofs.Frames.{same-none, same-then, same-back}
+use Rattle.matrices.proofs.Drawing.{redrawn-other, redrawn-same}
 use Rattle.layout.specs.Blocks.{blockAt, downAt, upAt, snippetAt}
+use Rattle.layout.specs.Words.{Same}
 use Rattle.halving.specs.Passes.{Upper, Lower, With, middle, Hands, upper, lower, Elsewhere, Grown, Handed}
 use Rattle.halving.proofs.Adding.{bit-same, upper-same, lower-same}
 use Rattle.halving.proofs.Blocks.{down-apart, up-apart, upper-apart, power-apart}
 
 module _ (n k : ℕ) where
   pub grown-none : (N : ℕ → ℕ → ℕ → Type 0) (p : List ℕ) → ((z i j : ℕ) → z < n → i < 16 → ¬ N z i j) → Grown n k N p p
-  grown-none N p none = record { long = refl; other = λ l e. refl; rows = λ z i j h a b. (λ r. inl r, λ c. back z i j h a c) }
+  grown-none N p none = record { same = same-none p; rows = λ z i j h a b. (λ r. inl r, λ c. back z i j h a c) }
     where
       back : (z i j : ℕ) → z < n → i < 16 → Related p (snippetAt n k z) i j ⊎ N z i j → Related p (snippetAt n k z) i j
       back z i j h a (inl r) = r
@@ -25,15 +27,13 @@ module _ (n k : ℕ) where
   module _ {N M : ℕ → ℕ → ℕ → Type 0} where
     pub grown-iff : {p q : List ℕ} → ((z i j : ℕ) → z < n → i < 16 → j < 16 → N z i j ↔ M z i j) → Grown n k N p q → Grown n k M p q
     grown-iff e g = record {
-      long = g .long;
-      other = g .other;
+      same = g .same;
       rows = λ z i j h a b. (λ r. ⊎-map (λ x. x) (e z i j h a b .0) (g .rows z i j h a b .0 r), λ c. g .rows z i j h a b .1 (⊎-map (λ x. x) (e z i j h a b .1) c));
     }
 
     pub grown-then : {p q r : List ℕ} → Grown n k N p q → Grown n k M q r → Grown n k (λ z i j. N z i j ⊎ M z i j) p r
     grown-then {p} {q} {r} g h = record {
-      long = h .long ∙ g .long;
-      other = λ l e. h .other l e ∙ g .other l e;
+      same = same-then (g .same) (h .same);
       rows = λ z i j l a b. (λ c. to z i j l a b (h .rows z i j l a b .0 c), from z i j l a b);
     }
       where
@@ -50,8 +50,7 @@ module _ (n k : ℕ) where
   pub grown-drawn : (u : ℕ) (M : ℕ → ℕ → Type 0) {p q : List ℕ} → Drawing (With p (snippetAt n k u) M) (snippetAt n k u) 16 p q → u < n
       → Grown n k (λ z i j. (u ≡ z) × M i j) p q
   grown-drawn u M {p} {q} d h = record {
-    long = d .frame .long;
-    other = λ l e. redrawn-other (d .frame) l (λ i a. e u i h a);
+    same = redrawn-same (λ l e i a. e u i h a) (d .frame);
     rows = λ z i j l a b. go z i j l a b (ℕ-discrete u z);
   }
     where
@@ -69,19 +68,19 @@ module _ (n k : ℕ) where
           back (inr (e, m)) = absurd (f e)
 
   -- ── What is handed down is not read off the snippets of power k ──
-  module _ (p q : List ℕ) (same : (l : ℕ) → Elsewhere n k l → getD q l 0 ≡ getD p l 0) where
+  module _ {p q : List ℕ} (s : Same (Elsewhere n k) p q) where
     above-same : (y i : ℕ) → i < 16 → getD q (snippetAt n (suc k) y + i) 0 ≡ getD p (snippetAt n (suc k) y + i) 0
-    above-same y i a = same _ (λ z c l m. power-apart n (suc k) y k z c m i a l (omega arith))
+    above-same y i a = s .same _ (λ z c l m. power-apart n (suc k) y k z c m i a l (omega arith))
 
     handed-lower : (y u i j : ℕ) → i < 16 → Lower p (snippetAt n (suc k) y) (upAt n k u) i j → Lower q (snippetAt n (suc k) y) (upAt n k u) i j
-    handed-lower y u i j a = lower-same p q (snippetAt n (suc k) y) (upAt n k u) i j (same _ (λ z x l f. up-apart n k u k z x f i a)) (above-same y)
+    handed-lower y u i j a = lower-same p q (snippetAt n (suc k) y) (upAt n k u) i j (s .same _ (λ z x l f. up-apart n k u k z x f i a)) (above-same y)
 
     middle-same : (y : ℕ) → middle n k q y ≡ middle n k p y
-    middle-same y = same _ (λ z x l f. upper-apart n k y k z x f)
+    middle-same y = s .same _ (λ z x l f. upper-apart n k y k z x f)
 
     hands-same : (y z i j : ℕ) → i < 16 → j < 16 → Hands n k p y z i j → Hands n k q y z i j
     hands-same y z i j a b (upper e r) =
-        upper (middle-same y ∙ e) (upper-same p q (snippetAt n (suc k) y) (downAt n k y) i j (above-same y i a) (same _ (λ z x l f. down-apart n k y k z x f j b)) r)
+        upper (middle-same y ∙ e) (upper-same p q (snippetAt n (suc k) y) (downAt n k y) i j (above-same y i a) (s .same _ (λ z x l f. down-apart n k y k z x f j b)) r)
     hands-same y z i j a b (lower m e r) =
         let o = sym (middle-same y) in
         lower (subst (λ u. u < n) o m) e (handed-lower y (middle n k q y) i j a (subst (λ u. Lower p (snippetAt n (suc k) y) (upAt n k u) i j) o r))
@@ -112,16 +111,16 @@ module _ (n k : ℕ) where
       → Grown n k (Hands n k p y) p r
   hands-both y h {p} {q} {r} l m e d f =
       let g = grown-drawn h (Upper p (snippetAt n (suc k) y) (downAt n k y)) d m in
-      grown-iff (λ z i j x a b. (to z i j a b (λ s. g .other s), from z i j a b (λ s. g .other s))) (grown-then g (grown-drawn y (Lower q (snippetAt n (suc k) y) (upAt n k h)) f l))
+      grown-iff (λ z i j x a b. (to z i j a b (g .same), from z i j a b (g .same))) (grown-then g (grown-drawn y (Lower q (snippetAt n (suc k) y) (upAt n k h)) f l))
     where
-      to : (z i j : ℕ) → i < 16 → j < 16 → ((s : ℕ) → Elsewhere n k s → getD q s 0 ≡ getD p s 0) → Either p q y h z i j → Hands n k p y z i j
+      to : (z i j : ℕ) → i < 16 → j < 16 → Same (Elsewhere n k) p q → Either p q y h z i j → Hands n k p y z i j
       to z i j a b same (inl (o, c)) = upper (e ∙ o) c
       to z i j a b same (inr (o, c)) =
-          lower (omega arith) o (subst (λ u. Lower p (snippetAt n (suc k) y) (upAt n k u) i j) (sym e) (handed-lower q p (λ s x. sym (same s x)) y h i j a c))
+          lower (omega arith) o (subst (λ u. Lower p (snippetAt n (suc k) y) (upAt n k u) i j) (sym e) (handed-lower (same-back same) y h i j a c))
 
-      from : (z i j : ℕ) → i < 16 → j < 16 → ((s : ℕ) → Elsewhere n k s → getD q s 0 ≡ getD p s 0) → Hands n k p y z i j → Either p q y h z i j
+      from : (z i j : ℕ) → i < 16 → j < 16 → Same (Elsewhere n k) p q → Hands n k p y z i j → Either p q y h z i j
       from z i j a b same (upper o c) = inl (sym e ∙ o, c)
-      from z i j a b same (lower x o c) = inr (o, handed-lower p q same y h i j a (subst (λ u. Lower p (snippetAt n (suc k) y) (upAt n k u) i j) e c))
+      from z i j a b same (lower x o c) = inr (o, handed-lower same y h i j a (subst (λ u. Lower p (snippetAt n (suc k) y) (upAt n k u) i j) e c))
 
   -- the same, where the offsets were computed
   pub hands-placed : (y h source low high : ℕ) {p q r : List ℕ} → source ≡ blockAt n (k + 1) y → low ≡ blockAt n k y → high ≡ blockAt n k h → y < n → h < n → middle n k p y ≡ h
@@ -148,11 +147,11 @@ module _ (n k : ℕ) where
     where
       to : (z i j : ℕ) → i < 16 → j < 16 → Handed n k p m z i j ⊎ Hands n k q m z i j → Handed n k p (m + 1) z i j
       to z i j a b (inl (y, l, c)) = (y, omega arith, c)
-      to z i j a b (inr c) = (m, omega arith, hands-same q p (λ s x. sym (g .other s x)) m z i j a b c)
+      to z i j a b (inr c) = (m, omega arith, hands-same (same-back (g .same)) m z i j a b c)
 
       from : (z i j : ℕ) → i < 16 → j < 16 → Handed n k p (m + 1) z i j → Handed n k p m z i j ⊎ Hands n k q m z i j
       from z i j a b (y, l, c) = go (eq-or-lt-of-le (omega arith))
         where
           go : (y ≡ m) ⊎ (y < m) → Handed n k p m z i j ⊎ Hands n k q m z i j
-          go (inl e) = inr (hands-same p q (g .other) m z i j a b (subst (λ u. Hands n k p u z i j) e c))
+          go (inl e) = inr (hands-same (g .same) m z i j a b (subst (λ u. Hands n k p u z i j) e c))
           go (inr r) = inl (y, r, c)

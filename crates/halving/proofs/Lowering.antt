@@ -1,13 +1,12 @@
 -- From exponent to exponent: once exponent k + 1 is handed down, the sets of exponent k are complete.
-use Prim.Native.Nat.{ℕ, suc, _+_, _*_, _^_, _≤_, _<_}
-use mathlib.Core.Path.{_≡_, refl, sym, _∙_, subst}
+use Prim.Native.Nat.{ℕ, suc, _+_, _^_, _≤_, _<_}
+use mathlib.Core.Path.{_≡_, refl, sym, subst}
 use mathlib.Core.Bool.{true}
 use mathlib.Core.Logic.{_≢_, _⊎_, inl, inr, _↔_}
 use mathlib.Core.List.{List}
 use native.Mathlib.Omega.{arith}
 use native.Mathlib.Nat.{eq-or-lt-of-le}
 use native.Mathlib.Numerals.{add-one}
-use lib.ListN.{length, getD}
 use lib.Pow.{pow-pos}
 use Rattle.bits.specs.Sets.{bit}
 use Rattle.xpath.specs.Syntax.{XPath, size}
@@ -17,15 +16,17 @@ use Rattle.snippets.proofs.Counting.{down-inside}
 use Rattle.snippets.proofs.Edges.{comes-few}
 use Rattle.table.specs.Links.{Points}
 use Rattle.matrices.specs.Matrices.{Related}
-use Rattle.layout.specs.Blocks.{BLOCKS, upAt, snippetAt, upperAt}
+use Rattle.layout.specs.Blocks.{upAt, snippetAt, upperAt}
+use Rattle.layout.specs.Words.{Same}
+use Rattle.layout.proofs.Frames.{same-none, same-then, same-wider}
 use Rattle.powers.specs.Powers.{Power, Powers}
 use Rattle.powers.proofs.Kept.{power-kept}
 use Rattle.powers.proofs.Ancestors.{one-above, power-join, power-over}
 use Rattle.powers.proofs.Doubling.{upper-near}
-use Rattle.halving.specs.Halving.{Family, Within, Sets, Marked, Halved, direct, upperHalf, lowerHalf, Prepared, Halving}
+use Rattle.halving.specs.Halving.{Family, Marked, Halved, direct, upperHalf, lowerHalf, Prepared, Halving}
 use Rattle.halving.specs.Passes.{middle, Hands, upper, lower, Grown, Handed}
 use Rattle.halving.proofs.Blocks.{upper-apart, power-apart}
-use Rattle.halving.proofs.Families.{topped-sets, sets-topped, sets-marked, halved-mono, halved-below}
+use Rattle.halving.proofs.Families.{topped-sets, halved-below}
 
 -- the words of one exponent are those of S
 abbrev Says : Tree → ℕ → List ℕ → Family → ℕ → Type 0
@@ -36,9 +37,9 @@ abbrev Outside : ℕ → ℕ → ℕ → ℕ → Type 0
 Outside n b e l = (k y i : ℕ) → e ≤ k → k < b → y < n → i < 16 → l ≢ snippetAt n k y + i
 
 -- ── The powers stand elsewhere ──
-pub powers-kept : {P R : XPath} {t : Tree} {n b : ℕ} (p q : List ℕ) → ((l : ℕ) → Outside n b 0 l → getD q l 0 ≡ getD p l 0) → Powers P R t n p b → Powers P R t n q b
-powers-kept {n = n} p q same h k y a c =
-    power-kept (λ l r s. same l (λ m z i u v o f e. omega arith)) (same (upperAt n k y) (λ m z i u v o f. upper-apart n k y m z i f)) (h k y a c)
+powers-kept : {P R : XPath} {t : Tree} {n b e : ℕ} {p q : List ℕ} → Same (Outside n b e) p q → Powers P R t n p b → Powers P R t n q b
+powers-kept {n = n} s h k y a c =
+    power-kept (λ l r q. s .same l (λ m z i u v o f e. omega arith)) (s .same (upperAt n k y) (λ m z i u v o f. upper-apart n k y m z i f)) (h k y a c)
 
 -- ── One pass ──
 module _ {t : Tree} (wf : WellFormed t) where
@@ -107,14 +108,13 @@ module _ {t : Tree} (wf : WellFormed t) where
 -- ── The passes, one after the other ──
 -- the sets of the exponents from e on are complete, and the others are as before
 pub record Lowered (n b e : ℕ) (p q : List ℕ) : Type 0 where
-  pub long : length q ≡ length p
-  pub other : (l : ℕ) → Outside n b e l → getD q l 0 ≡ getD p l 0
+  pub same : Same (Outside n b e) p q
   pub sets : (P R : XPath) (t : Tree) → Prepared P R t n b p → (k : ℕ) → e ≤ k → k < b → Says t n q (Halved P R t (Marked t n b p)) k
 
 module _ {n b : ℕ} where
   -- nothing is handed down to the largest exponent
   pub lowered-none : (e : ℕ) (p : List ℕ) → b ≤ e + 1 → Lowered n b e p p
-  lowered-none e p r = record { long = refl; other = λ l o. refl; sets = λ P R t h k a c y i j l u v. says P R t h k y i j a c l u v }
+  lowered-none e p r = record { same = same-none p; sets = λ P R t h k a c y i j l u v. says P R t h k y i j a c l u v }
     where
       says : (P R : XPath) (t : Tree) → Prepared P R t n b p → (k y i j : ℕ) → e ≤ k → k < b → y < n → i < 16 → j < 16
           → Related p (snippetAt n k y) i j ↔ ((x : ℕ) × Down t x y (2 ^ k) × Halved P R t (Marked t n b p) k x y i j)
@@ -136,15 +136,14 @@ module _ {n b : ℕ} where
 
   pub lowered-step : (e : ℕ) {p q r : List ℕ} → n ≤ 4096 → suc e < b → Lowered n b (suc e) p q → Grown n e (Handed n e q n) q r → Lowered n b e p r
   lowered-step e {p} {q} {r} small s h g = record {
-    long = g .long ∙ h .long;
-    other = λ l o. g .other l (λ z i u v. o e z i (omega arith) (omega arith) u v) ∙ h .other l (λ k y i u. o k y i (omega arith));
+    same = same-then (same-wider (λ l o k y i u. o k y i (omega arith)) (h .same)) (same-wider (λ l o z i. o e z i (omega arith) (omega arith)) (g .same));
     sets = λ P R t f k a c. says P R t f k c (eq-or-lt-of-le a);
   }
     where
       -- the words of exponent e were not touched before
       before : (P R : XPath) (t : Tree) → Prepared P R t n b p → Says t n q (Marked t n b p) e
       before P R t f y i j l a c =
-          subst (λ w. (bit w j ≡ true) ↔ ((x : ℕ) × Down t x y (2 ^ e) × Marked t n b p e x y i j)) (sym (h .other (snippetAt n e y + i) apart))
+          subst (λ w. (bit w j ≡ true) ↔ ((x : ℕ) × Down t x y (2 ^ e) × Marked t n b p e x y i j)) (sym (h .same .same (snippetAt n e y + i) apart))
           (topped-sets (f .topped) .same e y i j (omega arith) l a c)
         where
           apart : Outside n b (suc e) (snippetAt n e y + i)
@@ -154,38 +153,14 @@ module _ {n b : ℕ} where
       says P R t f k c (inl o) =
           subst (λ m. Says t n r (Halved P R t (Marked t n b p)) m) o
           (pass-says (f .formed) (f .whole) small (f .few) e
-          (λ y l. powers-kept p q (λ l u. h .other l (λ k y i v. u k y i (omega arith))) (f .powers) e y (omega arith) l)
+          (λ y l. powers-kept (h .same) (f .powers) e y (omega arith) l)
           (h .sets P R t f (suc e) (omega arith) s) (before P R t f) g)
       says P R t f k c (inr m) = λ y i j l a d.
           subst (λ w. (bit w j ≡ true) ↔ ((x : ℕ) × Down t x y (2 ^ k) × Halved P R t (Marked t n b p) k x y i j))
-          (sym (g .other (snippetAt n k y + i) (λ z x u v. power-apart n k y e z x v i a u m))) (h .sets P R t f k m c y i j l a d)
+          (sym (g .same .same (snippetAt n k y + i) (λ z x u v. power-apart n k y e z x v i a u m))) (h .sets P R t f k m c y i j l a d)
 
   pub lowered-all : {p q : List ℕ} → Lowered n b 0 p q → Halving n b p q
   lowered-all h = record {
-    long = h .long;
-    other = λ l o. h .other l (λ k y i u. o k y i);
+    same = same-wider (λ l o k y i u. o k y i) (h .same);
     sets = λ P R t f. record { same = λ k y i j a c d e. h .sets P R t f k (omega arith) a y i j c d e };
   }
-
--- ── What callers want of halving ──
-module _ {n b : ℕ} {p q : List ℕ} (h : Halving n b p q) where
-  -- all before the blocks is as before
-  pub halving-front : (l : ℕ) → l < BLOCKS * n → getD q l 0 ≡ getD p l 0
-  halving-front l r = h .other l (λ k y i a c d e. omega arith)
-
-  -- the powers are as before
-  pub halving-powers : {P R : XPath} {t : Tree} → Powers P R t n p b → Powers P R t n q b
-  halving-powers = powers-kept p q (λ l o. h .other l (λ k y i. o k y i (omega arith)))
-
-  -- if the words were those of D, they are now those of D and its halves
-  pub halving-sets : {P R : XPath} {t : Tree} {D : Family} → WellFormed t → t .size ≡ n → size P + size R ≤ 14 → Powers P R t n p b → Within t n b D
-      → Sets t n b p D → Sets t n b q (Halved P R t D)
-  halving-sets {P} {R} {t} {D} wf whole few powers w s = record {
-    same = λ k y i j a c d e. (
-      λ r. let (x, o, m) = done .same k y i j a c d e .0 r in (x, o, halved-mono (λ k x y i j. sets-marked s wf w k x y i j .0) m),
-      λ (x, o, m). done .same k y i j a c d e .1 (x, o, halved-mono (λ k x y i j. sets-marked s wf w k x y i j .1) m),
-    );
-  }
-    where
-      done : Sets t n b q (Halved P R t (Marked t n b p))
-      done = h .sets P R t (record { formed = wf; whole = whole; few = few; powers = powers; topped = sets-topped s })

@@ -1,28 +1,22 @@
 -- A set of snippets of all powers, as it stands in the blocks: what it grows to by halving, and how many snippets it has.
-use Prim.Native.Nat.{ℕ, suc, _+_, _*_, _^_, _≤_, _<_}
+use Prim.Native.Nat.{ℕ, suc, _+_, _^_, _≤_, _<_}
 use mathlib.Core.Path.{_≡_}
-use mathlib.Core.Logic.{_≢_, _↔_}
+use mathlib.Core.Logic.{_↔_}
 use mathlib.Core.List.{List}
-use lib.ListN.{length, getD}
 use Rattle.lists.specs.Lists.{Number}
-use Rattle.limits.specs.Limits.{documentNodes, positions, nodeDigits, comparisonSteps, wordsPerDigit}
+use Rattle.limits.specs.Limits.{positions, comparisonSteps}
 use Rattle.xpath.specs.Syntax.{XPath, size}
 use Rattle.xpath.specs.Tree.{Tree, WellFormed, Down}
 use Rattle.positions.specs.Positions.{Comes}
 use Rattle.snippets.specs.Count.{Snippet}
 use Rattle.matrices.specs.Matrices.{Related}
-use Rattle.layout.specs.Blocks.{BLOCKS, snippetAt}
+use Rattle.layout.specs.Blocks.{snippetAt, Aside}
+use Rattle.layout.specs.Words.{Same}
 use Rattle.powers.specs.Powers.{Powers}
 
 -- S k x y i j: the snippet (x, y, i, j) of power k is in S
 abbrev pub Family : Type 1
 Family = ℕ → ℕ → ℕ → ℕ → ℕ → Type 0
-
--- the part has room for the blocks of n nodes and all exponents below b
-pub record BlockRoom (n b : ℕ) (p : List ℕ) : Type 0 where
-  pub few : n ≤ documentNodes
-  pub low : b ≤ nodeDigits
-  pub room : (BLOCKS + wordsPerDigit * b) * n ≤ length p
 
 -- ── A set and its words ──
 module _ (t : Tree) (n b : ℕ) where
@@ -72,8 +66,7 @@ pub record Prepared (P R : XPath) (t : Tree) (n b : ℕ) (p : List ℕ) : Type 0
 
 -- the snippets that stand in p are halved in p′, and no word but theirs may be different
 pub record Halving (n b : ℕ) (p p′ : List ℕ) : Type 0 where
-  pub long : length p′ ≡ length p
-  pub other : (l : ℕ) → ((k y i : ℕ) → k < b → y < n → i < positions → l ≢ snippetAt n k y + i) → getD p′ l 0 ≡ getD p l 0
+  pub same : Same (Aside n b) p p′
   pub sets : (P R : XPath) (t : Tree) → Prepared P R t n b p → Sets t n b p′ (Halved P R t (Marked t n b p))
 
 -- ── The number of snippets ──

@@ -3,10 +3,11 @@ use Prim.Native.Nat.{ℕ, suc, _+_, _<_}
 use mathlib.Core.Path.{_≡_}
 use mathlib.Core.Logic.{_≢_, _⊎_, _↔_}
 use mathlib.Core.List.{List}
-use lib.ListN.{length, getD}
+use lib.ListN.{getD}
 use Rattle.limits.specs.Limits.{positions}
 use Rattle.matrices.specs.Matrices.{Related, Image, Before}
 use Rattle.layout.specs.Blocks.{downAt, upAt, snippetAt, upperAt}
+use Rattle.layout.specs.Words.{Same}
 
 -- The matrix at `source` holds the snippets that are halved: from a position at the upper node to one at the lower node.
 -- (i, j) belongs to the upper half: j comes down, by the matrix at `down`, to a position that i has at the lower node
@@ -37,8 +38,7 @@ module _ (n k : ℕ) where
 
   -- the snippets of power k have N added, and all other words are as before
   pub record Grown (N : ℕ → ℕ → ℕ → Type 0) (p p′ : List ℕ) : Type 0 where
-    pub long : length p′ ≡ length p
-    pub other : (l : ℕ) → Elsewhere l → getD p′ l 0 ≡ getD p l 0
+    pub same : Same Elsewhere p p′
     pub rows : (z i j : ℕ) → z < n → i < positions → j < positions → Related p′ (snippetAt n k z) i j ↔ (Related p (snippetAt n k z) i j ⊎ N z i j)
 
   -- what the nodes below m hand down

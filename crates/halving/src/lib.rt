@@ -4,7 +4,8 @@ mod passes;
 use layout::Blocks;
 use matrices::size;
 use passes::pass;
-ghost use Rattle.halving.specs.Halving.{BlockRoom, Halving, Counts};
+ghost use Rattle.powers.specs.Blocks.{BlockRoom};
+ghost use Rattle.halving.specs.Halving.{Halving, Counts};
 
 // The snippets of every power yield those of all lower powers: the exponents go down, so that what is handed down is handed on.
 pub fn halve(p: &mut [u16], n: usize, b: usize)

@@ -11,7 +11,7 @@ ghost use Prim.Native.Nat.{_+_, _≤_, _<_};
 ghost use lib.ListN.{length};
 ghost use Rattle.limits.specs.Limits.{positions};
 ghost use Rattle.matrices.specs.Matrices.{Apart, Drawing};
-ghost use Rattle.halving.specs.Halving.{BlockRoom};
+ghost use Rattle.powers.specs.Blocks.{BlockRoom};
 ghost use Rattle.halving.specs.Passes.{Upper, Lower, With, Hands, Grown, Handed};
 
 // Within a block, between the rows that lead up and the upper node.

@@ -3,7 +3,8 @@ use Prim.Native.Nat.{ℕ, suc, _*_, _≤_, _<_}
 use mathlib.Core.Path.{_≡_, refl, sym, _∙_}
 use mathlib.Core.Logic.{_⊎_, inl, inr}
 use mathlib.Core.List.{List, [], _∷_}
-use lib.ListN.{getD}
+use lib.ListN.{getD, set, length-set}
+use lib.Seq.{getD-set-other}
 use native.Mathlib.Nat.{mul-le-mul-right}
 use native.Mathlib.Omega.{arith}
 use Rattle.layout.specs.Words.{cell, word, Wrote, Frame, Within, Same}
@@ -21,6 +22,13 @@ frame-back h = record { long = sym (h .long); front = λ k r. sym (h .front k r)
 
 pub frame-wider : {a b c d : ℕ} {t t′ : List ℕ} → a ≤ c → d ≤ b → Frame c d t t′ → Frame a b t t′
 frame-wider l r h = record { long = h .long; front = λ k q. h .front k (omega arith); behind = λ k q. h .behind k (omega arith) }
+
+-- one word
+pub set-frame : (t : List ℕ) (k x : ℕ) → Frame k (suc k) t (set t k x)
+set-frame t k x = record { long = length-set t k x; front = λ l h. getD-set-other t k l x 0 (omega arith); behind = λ l h. getD-set-other t k l x 0 (omega arith) }
+
+pub wrote-frame : {k x : ℕ} {t t′ : List ℕ} → Wrote ((k, x) ∷ []) t t′ → Frame k (suc k) t t′
+wrote-frame w = record { long = w .long; front = λ l h. w .other l (omega arith, tt); behind = λ l h. w .other l (omega arith, tt) }
 
 -- ── Columns ──
 pub within-frame : {n c d : ℕ} {t t′ : List ℕ} → Within n c d t t′ → Frame (c * n) (d * n) t t′
@@ -46,7 +54,7 @@ within-more {n} {c} {d} {a} {b} l r h = frame-within n a b (frame-wider (mul-le-
 pub within-put : {n c d a v x : ℕ} {t t′ : List ℕ} → c ≤ a → a < d → v < n → Wrote ((cell n a v, x) ∷ []) t t′ → Within n c d t t′
 within-put {n} {c} {d} {a} {v} l r q w =
     let x : c * n ≤ a * n = mul-le-mul-right n l in let y : suc a * n ≤ d * n = mul-le-mul-right n r in
-    record { long = w .long; front = λ k h. w .other k (omega arith, tt); behind = λ k h. w .other k (omega arith, tt) }
+    frame-within n c d (frame-wider (omega arith) (omega arith) (wrote-frame w))
 
 -- the columns before them
 pub before-within : {n c d : ℕ} {t t′ : List ℕ} → Within n c d t t′ → (a v : ℕ) → a < c → v < n → word t′ n a v ≡ word t n a v

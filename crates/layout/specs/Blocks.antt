@@ -1,5 +1,6 @@
 -- The blocks at the end of a comparison's part: so many words for each exponent and node.
-use Prim.Native.Nat.{ℕ, _+_, _*_}
+use Prim.Native.Nat.{ℕ, _+_, _*_, _<_}
+use mathlib.Core.Logic.{_≢_}
 use Rattle.limits.specs.Limits.{positions, wordsPerDigit, partWords}
 
 abbrev pub BLOCKS : ℕ
@@ -19,6 +20,10 @@ upAt n k y = blockAt n k y + positions
 -- the snippets of power k whose lower node is y: p at the upper node and q at y
 abbrev pub snippetAt : ℕ → ℕ → ℕ → ℕ
 snippetAt n k y = blockAt n k y + 2 * positions
+
+-- l is no word of the snippets of the powers below b
+abbrev pub Aside : ℕ → ℕ → ℕ → Type 0
+Aside n b l = (k y i : ℕ) → k < b → y < n → i < positions → l ≢ snippetAt n k y + i
 
 -- the upper node, or none
 abbrev pub upperAt : ℕ → ℕ → ℕ → ℕ

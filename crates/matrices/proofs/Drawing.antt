@@ -1,5 +1,5 @@
 -- A matrix that is drawn row by row.
-use Prim.Native.Nat.{ℕ, _+_, _-_, _≤_, _<_}
+use Prim.Native.Nat.{ℕ, suc, _+_, _-_, _≤_, _<_}
 use mathlib.Core.Path.{_≡_, sym, ap, _∙_, subst}
 use mathlib.Core.Bool.{true, false, false≢true}
 use mathlib.Core.Logic.{_≢_, _⊎_, inl, inr, _↔_}
@@ -7,11 +7,12 @@ use mathlib.Core.List.{List}
 use native.Mathlib.Decide.{decLt}
 use native.Mathlib.Nat.{eq-or-lt-of-le}
 use native.Mathlib.Omega.{arith}
-use lib.ListN.{length, getD, set, length-set}
-use lib.Seq.{getD-set-same, getD-set-other}
+use lib.ListN.{length, getD, set}
+use lib.Seq.{getD-set-same}
 use borrow.Author.Tests.{eqb-true, eq-eqb}
 use Rattle.bits.specs.Sets.{bit, or, is}
-use Rattle.layout.proofs.Frames.{frame-none, frame-then, frame-wider}
+use Rattle.layout.specs.Words.{Frame, Same}
+use Rattle.layout.proofs.Frames.{frame-none, frame-then, frame-wider, set-frame}
 use Rattle.matrices.specs.Matrices.{Exactly, Related, Image, Redrawn, Apart, Drawing, Reflexive, Through, Composed}
 use Rattle.matrices.proofs.Members.{or-cases, or-left, or-right, union-iff}
 
@@ -20,20 +21,19 @@ drawing-none A at p = record { frame = frame-none p; done = λ i j h. absurd (le
 
 module _ {A : ℕ → ℕ → Type 0} {at k : ℕ} {p q : List ℕ} (d : Drawing A at k p q) where
   -- one row more
-  pub drawing-more : {q′ : List ℕ} → length q′ ≡ length q → ((l : ℕ) → l ≢ at + k → getD q′ l 0 ≡ getD q l 0)
-      → ((j : ℕ) → j < 16 → Related q′ at k j ↔ A k j) → Drawing A at (k + 1) p q′
-  drawing-more {q′} long other row = record {
-    frame = frame-then (frame-wider (omega arith) (omega arith) (d .frame)) (record { long = long; front = λ l h. other l (omega arith); behind = λ l h. other l (omega arith) });
+  pub drawing-more : {q′ : List ℕ} → Frame (at + k) (suc (at + k)) q q′ → ((j : ℕ) → j < 16 → Related q′ at k j ↔ A k j) → Drawing A at (k + 1) p q′
+  drawing-more {q′} f row = record {
+    frame = frame-then (frame-wider (omega arith) (omega arith) (d .frame)) (frame-wider (omega arith) (omega arith) f);
     done = λ i j h l. go i j l (eq-or-lt-of-le (omega arith));
   }
     where
       go : (i j : ℕ) → j < 16 → (i ≡ k) ⊎ (i < k) → Related q′ at i j ↔ A i j
       go i j l (inl e) = subst (λ (n : ℕ). Related q′ at n j ↔ A n j) (sym e) (row j l)
-      go i j l (inr h) = subst (λ (y : ℕ). (bit y j ≡ true) ↔ A i j) (sym (other (at + i) (omega arith))) (d .done i j h l)
+      go i j l (inr h) = subst (λ (y : ℕ). (bit y j ≡ true) ↔ A i j) (sym (f .front (at + i) (omega arith))) (d .done i j h l)
 
   pub drawing-step : (x : ℕ) → at + k < length p → Exactly x (A k) → Drawing A at (k + 1) p (set q (at + k) x)
   drawing-step x room row =
-      drawing-more (length-set q (at + k) x) (λ l h. getD-set-other q (at + k) l x 0 h)
+      drawing-more (set-frame q (at + k) x)
       (λ j l. subst (λ (y : ℕ). (bit y j ≡ true) ↔ A k j) (sym (getD-set-same q (at + k) x 0 (omega (arith, d .frame .long)))) (row j l))
 
   -- a row that is not drawn yet
@@ -53,6 +53,9 @@ redrawn-other {at} {p} {q} f l e = go (decLt l at) (decLt l (at + 16))
     go (yes h) d = f .front l h
     go (no h) (no g) = f .behind l (omega arith)
     go (no h) (yes g) = absurd (e (l - at) (omega arith) (omega arith))
+
+pub redrawn-same : {K : ℕ → Type 0} {at : ℕ} {p q : List ℕ} → ((l : ℕ) → K l → (i : ℕ) → i < 16 → l ≢ at + i) → Redrawn at p q → Same K p q
+redrawn-same apart f = record { long = f .long; same = λ l h. redrawn-other f l (apart l h) }
 
 pub drawing-to : {A : ℕ → ℕ → Type 0} {at k m : ℕ} {p q : List ℕ} → k ≡ m → Drawing A at k p q → Drawing A at m p q
 drawing-to {A} {at} {k} {m} {p} {q} e d = subst (λ (x : ℕ). Drawing A at x p q) e d

@@ -6,10 +6,11 @@ use mathlib.Core.Bool.{Bool, true, false, not, false≢true}
 use mathlib.Core.List.{List}
 use native.Mathlib.Omega.{arith}
 use lib.Count.{trailingZeros}
-use lib.ListN.{length, getD, set, length-set}
-use lib.Seq.{getD-set-same, getD-set-other}
+use lib.ListN.{length, getD, set}
+use lib.Seq.{getD-set-same}
 use Rattle.bits.specs.Sets.{bit, or, and, size}
 use Rattle.bits.proofs.SetLaws.{bit-none}
+use Rattle.layout.proofs.Frames.{frame-none, set-frame}
 use Rattle.matrices.specs.Matrices.{Exactly, Related, pairs}
 use Rattle.matrices.specs.Widening.{Joined, Widening}
 use Rattle.matrices.proofs.Members.{and-parts, or-left, lowest, size-less, union-iff}
@@ -21,9 +22,8 @@ module _ (at w : ℕ) (p : List ℕ) (new : ℕ) (fresh : (j : ℕ) → bit new 
   -- no member is new
   pub joined-none : new ≡ 0 → Joined at w p p 0
   joined-none e = record {
-    long = refl;
+    frame = frame-none p;
     here = λ j. known (bit (getD p at 0) j) (bit w j) (sym (fresh j) ∙ ap (λ (x : ℕ). bit x j) e ∙ bit-none j);
-    other = λ k h. refl;
     small = zero-le;
     count = omega arith;
     still = λ z. refl;
@@ -37,9 +37,8 @@ module _ (at w : ℕ) (p : List ℕ) (new : ℕ) (fresh : (j : ℕ) → bit new 
   -- one is
   pub joined-some : (row : ℕ) → new ≢ 0 → new < 2 ^ 16 → at < length p → ((j : ℕ) → bit row j ≡ or (bit (getD p at 0) j) (bit w j)) → Joined at w p (set p at row) 1
   joined-some row some fits room union = record {
-    long = length-set p at row;
+    frame = set-frame p at row;
     here = λ j. ap (λ (x : ℕ). bit x j) here ∙ union j;
-    other = λ k h. getD-set-other p at k row 0 h;
     small = omega arith;
     count = subst (λ (x : ℕ). 1 + size 16 (getD p at 0) ≤ size 16 x) (sym here) more;
     still = λ z. absurd (let f : ⊥ = omega arith in f);
@@ -69,7 +68,7 @@ module _ {X : ℕ → ℕ → Type 0} {at a r s x : ℕ} {p q q′ : List ℕ} w
   pub widening-more : Exactly x (X a) → Widening (λ a b. Related p at a b ⊎ X a b) at a p q r → Joined (at + a) x q q′ s
       → Widening (λ a b. Related p at a b ⊎ X a b) at (a + 1) p q′ (r + s)
   widening-more row c j = record {
-    drawn = drawing-more (c .drawn) (j .long) (j .other) (λ b h. (λ e. to b h (both b .0 e), λ y. both b .1 (from b h y)));
+    drawn = drawing-more (c .drawn) (j .frame) (λ b h. (λ e. to b h (both b .0 e), λ y. both b .1 (from b h y)));
     small = omega (arith, c .small, j .small);
     count = count;
     still = λ z. j .still (omega arith) ∙ c .still (omega arith);
@@ -93,7 +92,7 @@ module _ {X : ℕ → ℕ → Type 0} {at a r s x : ℕ} {p q q′ : List ℕ} w
       count =
           let e = pairs-more p at a in
           let f = pairs-more q′ at a in
-          let g = pairs-same q q′ at a (λ k h. j .other (at + k) (omega arith)) in
+          let g = pairs-same q q′ at a (λ k h. j .frame .front (at + k) (omega arith)) in
           let h = ap (size 16) same in
           omega (arith, c .count, j .count)
 

@@ -1,18 +1,17 @@
 -- How a matrix grows row by row: what is added, and what is not changed.
-use Prim.Native.Nat.{ℕ, _+_, _≤_}
+use Prim.Native.Nat.{ℕ, suc, _+_, _≤_}
 use mathlib.Core.Path.{_≡_}
-use mathlib.Core.Logic.{_≢_}
 use mathlib.Core.List.{List}
-use lib.ListN.{length, getD}
+use lib.ListN.{getD}
 use Rattle.limits.specs.Limits.{positions}
 use Rattle.bits.specs.Sets.{bit, or, size}
+use Rattle.layout.specs.Words.{Frame}
 use Rattle.matrices.specs.Matrices.{Drawing, pairs}
 
 -- the members of w are added to one word; r is 1 if one of them is new, and else 0
 pub record Joined (at w : ℕ) (p p′ : List ℕ) (r : ℕ) : Type 0 where
-  pub long : length p′ ≡ length p
+  pub frame : Frame at (suc at) p p′
   pub here : (j : ℕ) → bit (getD p′ at 0) j ≡ or (bit (getD p at 0) j) (bit w j)
-  pub other : (k : ℕ) → k ≢ at → getD p′ k 0 ≡ getD p k 0
   pub small : r ≤ 1
   pub count : r + size positions (getD p at 0) ≤ size positions (getD p′ at 0)
   pub still : r ≡ 0 → p′ ≡ p

@@ -21,8 +21,8 @@ use Rattle.machine.proofs.Walking.{step-few}
 use Rattle.loops.specs.Closed.{downs, ups, OnSide, Goes}
 use Rattle.loops.proofs.Sides.{goes-down, goes-up, side-child, parent-before}
 use Rattle.matrices.specs.Matrices.{Related}
-use Rattle.powers.specs.Powers.{Power}
-use Rattle.powers.specs.Blocks.{Crossed, Edge, Ready}
+use Rattle.powers.specs.Powers.{Power, Ready}
+use Rattle.powers.specs.Blocks.{Crossed, Edge}
 use Rattle.powers.proofs.Ancestors.{one-above}
 use Rattle.powers.proofs.Doubling.{none-power}
 

@@ -14,11 +14,9 @@ use Rattle.table.specs.Links.{Points}
 use Rattle.machine.specs.declared.Machine.{Machine}
 use Rattle.layout.specs.Blocks.{BLOCKS, blockAt, downAt, upAt, upperAt}
 use Rattle.layout.specs.Part.{loopAt}
-use Rattle.loops.specs.Loops.{Stage, Loops}
+use Rattle.loops.specs.Loops.{Loops}
 use Rattle.loops.proofs.Kept.{stage-kept}
-use Rattle.powers.specs.Powers.{Power, Powers, Powered}
-use Rattle.powers.specs.Blocks.{Ready}
-use Rattle.powers.specs.Ladder.{Ladder}
+use Rattle.powers.specs.Powers.{Power, Powers, Ready, Founded, Powered}
 use Rattle.powers.proofs.Places.{block-before}
 
 -- a power is told by the two matrices and the upper node: the snippets beside them may change
@@ -49,11 +47,10 @@ pub ready-kept : {P R : XPath} {t : Tree} {m : Machine} {n : ℕ} {p p′ : List
     → Ready P R t m n p → Ready P R t m n p′
 ready-kept {p = p} {p′} front f = record { stage = stage-kept (λ l h. front l (omega arith)) (f .stage); loops = loops-kept p p′ (λ l h. front l (omega arith)) (f .loops) }
 
--- what `find_powers` leaves is what `lift`, `lower` and `above` go by
-pub ladder-of : {P R : XPath} {t : Tree} {m : Machine} {n b : ℕ} {p p′ : List ℕ} → Stage P R t m n p → Loops P R t n p → Powered P R t n b p p′ → Ladder P R t n b p′
-ladder-of {p = p} {p′} stage loops f = record {
-  formed = stage .formed;
-  few = stage .machine .few;
-  loops = loops-kept p p′ (λ l h. f .front l (omega arith)) loops;
-  powers = f .powers;
-}
+-- what `find_powers` leaves
+pub founded-of : {P R : XPath} {t : Tree} {m : Machine} {n b : ℕ} {p p′ : List ℕ} → Ready P R t m n p → Powered P R t n b p p′ → Founded P R t m n b p′
+founded-of ready f = let r = ready-kept (f .frame .front) ready in record { stage = r .stage; loops = r .loops; powers = f .powers }
+
+-- fewer powers
+pub founded-less : {P R : XPath} {t : Tree} {m : Machine} {n b c : ℕ} {p : List ℕ} → c ≤ b → Founded P R t m n b p → Founded P R t m n c p
+founded-less h f = record { stage = f .stage; loops = f .loops; powers = λ k y l r. f .powers k y (omega arith) r }

@@ -4,7 +4,7 @@ use mathlib.Core.Path.{_≡_, sym, _∙_, subst}
 use mathlib.Core.Logic.{_≢_, _↔_, Iff·trans}
 use mathlib.Core.Bool.{true}
 use mathlib.Core.List.{List}
-use lib.ListN.{length, getD, set, length-set}
+use lib.ListN.{length, getD, set}
 use lib.Seq.{getD-set-same, getD-set-other}
 use native.Mathlib.Omega.{arith}
 use Rattle.bits.specs.Sets.{bit}
@@ -12,18 +12,14 @@ use Rattle.matrices.specs.Matrices.{Related, Redrawn, Composed}
 use Rattle.machine.specs.declared.Machine.{Machine}
 use Rattle.layout.specs.Blocks.{blockAt, downAt, upAt, upperAt}
 use Rattle.layout.specs.Part.{loopAt}
-use Rattle.layout.proofs.Frames.{frame-then, frame-wider}
+use Rattle.layout.proofs.Frames.{frame-then, frame-wider, set-frame}
 use Rattle.powers.specs.Blocks.{Fits, Only, Crossed, Block, Edge, Twice}
 use Rattle.powers.proofs.Places.{block-before}
 use Rattle.powers.proofs.Crossing.{composed-kept, crossed-kept}
 
 -- the upper node alone
 pub only-upper : (n k y : ℕ) (p : List ℕ) (x : ℕ) → Only n k y p (set p (upperAt n k y) x)
-only-upper n k y p x = record {
-  long = length-set p (upperAt n k y) x;
-  front = λ l h. getD-set-other p (upperAt n k y) l x 0 (omega arith);
-  behind = λ l h. getD-set-other p (upperAt n k y) l x 0 (omega arith);
-}
+only-upper n k y p x = frame-wider (omega arith) (omega arith) (set-frame p (upperAt n k y) x)
 
 pub upper-set : (n k y : ℕ) (p : List ℕ) (x : ℕ) → Fits n k y p → getD (set p (upperAt n k y) x) (upperAt n k y) 0 ≡ x
 upper-set n k y p x f = let r = f .room in getD-set-same p (upperAt n k y) x 0 (omega arith)

@@ -1,22 +1,22 @@
 -- The passes: one exponent after the other, and for each one node after the other.
 use Prim.Native.Nat.{ℕ, _+_, _*_, _^_, _≤_, _<_}
-use mathlib.Core.Path.{_≡_, refl, sym, ap, _∙_, subst}
+use mathlib.Core.Path.{_≡_, sym, ap, _∙_, subst}
 use mathlib.Core.Logic.{_⊎_, inl, inr}
 use mathlib.Core.Bool.{Bool, true, false}
 use mathlib.Core.List.{List}
-use lib.ListN.{length, getD}
+use lib.ListN.{getD}
 use native.Mathlib.Nat.{eq-or-lt-of-le}
 use native.Mathlib.Omega.{arith}
 use Rattle.xpath.specs.Syntax.{XPath}
 use Rattle.xpath.specs.Tree.{Tree, Down}
 use Rattle.layout.specs.Blocks.{BLOCKS, blockAt, upperAt}
 use Rattle.layout.specs.Table.{LEFT, PARENT}
-use Rattle.layout.specs.Words.{NONE, word}
+use Rattle.layout.specs.Words.{NONE, word, Frame}
+use Rattle.layout.proofs.Frames.{frame-none, frame-then, frame-wider}
 use Rattle.machine.specs.declared.Machine.{Machine}
-use Rattle.loops.specs.Loops.{Stage, Loops}
 use Rattle.loops.specs.Closed.{downs, ups, OnSide}
-use Rattle.powers.specs.Powers.{Power, Powers, Powered}
-use Rattle.powers.specs.Blocks.{Fits, Only, Edge, Twice, Ready, Doubled, Found, Passed}
+use Rattle.powers.specs.Powers.{Power, Powers, Ready, Powered}
+use Rattle.powers.specs.Blocks.{Fits, Only, Edge, Twice, Doubled, Found, Passed}
 use Rattle.powers.proofs.Kept.{power-front, powers-front, ready-kept}
 use Rattle.powers.proofs.Doubling.{twice-power, twice-none, upper-near, upper-none}
 use Rattle.powers.proofs.Edges.{parent-power, root-power}
@@ -60,19 +60,18 @@ found-to {m} {n} {j} {k} {y} {p} {p′} e f = subst (λ (i : ℕ). Found m n i y
 
 -- ── The nodes ──
 pub passed-none : (m : Machine) (n k : ℕ) (p : List ℕ) → Passed m n k 0 p p
-passed-none m n k p = record { long = refl; front = λ l h. refl; power = λ P R t ready f v h. absurd (let z : ⊥ = omega arith in z) }
+passed-none m n k p = record { frame = frame-none p; power = λ P R t ready f v h. absurd (let z : ⊥ = omega arith in z) }
 
 pub passed-step : {m : Machine} {n k y : ℕ} {p q r : List ℕ} → Passed m n k y p q → Found m n k y q r → Passed m n k (y + 1) p r
 passed-step {m} {n} {k} {y} {p} {q} {r} c f = record {
-  long = f .only .long ∙ c .long;
-  front = λ l h. f .only .front l (omega arith) ∙ c .front l h;
+  frame = frame-then (frame-wider (omega arith) (omega arith) (c .frame)) (frame-wider (omega arith) (omega arith) (f .only));
   power = λ P R t ready low v h. go P R t ready low v (eq-or-lt-of-le (omega arith));
 }
   where
     go : (P R : XPath) (t : Tree) → Ready P R t m n p → Powers P R t n p k → (v : ℕ) → (v ≡ y) ⊎ (v < y) → Power P R t n r k v
     go P R t ready low v (inl e) =
         subst (λ (u : ℕ). Power P R t n r k u) (sym e)
-        (f .power P R t (ready-kept (λ l h. c .front l (omega arith)) ready) (powers-front (c .front) low))
+        (f .power P R t (ready-kept (λ l h. c .frame .front l (omega arith)) ready) (powers-front (c .frame .front) low))
     go P R t ready low v (inr h) = power-front (blockAt n k y) (omega arith) (f .only .front) (c .power P R t ready low v h)
 
 pub passed-to : {m : Machine} {n k y z : ℕ} {p p′ : List ℕ} → y ≡ z → Passed m n k y p p′ → Passed m n k z p p′
@@ -81,26 +80,22 @@ passed-to {m} {n} {k} {y} {z} {p} {p′} e f = subst (λ (v : ℕ). Passed m n k
 -- ── The exponents ──
 -- the powers below k are found
 pub record Rising (m : Machine) (n k : ℕ) (p p′ : List ℕ) : Type 0 where
-  pub long : length p′ ≡ length p
-  pub front : (l : ℕ) → l < BLOCKS * n → getD p′ l 0 ≡ getD p l 0
+  pub frame : Frame (BLOCKS * n) (blockAt n k 0) p p′
   pub powers : (P R : XPath) (t : Tree) → Ready P R t m n p → Powers P R t n p′ k
 
 pub rising-none : (m : Machine) (n : ℕ) (p : List ℕ) → Rising m n 0 p p
-rising-none m n p = record { long = refl; front = λ l h. refl; powers = λ P R t ready k y h. absurd (let z : ⊥ = omega arith in z) }
+rising-none m n p = record { frame = frame-none p; powers = λ P R t ready k y h. absurd (let z : ⊥ = omega arith in z) }
 
 pub rising-step : {m : Machine} {n k : ℕ} {p q r : List ℕ} → Rising m n k p q → Passed m n k n q r → Rising m n (k + 1) p r
 rising-step {m} {n} {k} {p} {q} {r} c f = record {
-  long = f .long ∙ c .long;
-  front = λ l h. f .front l (omega arith) ∙ c .front l h;
+  frame = frame-then (frame-wider (omega arith) (omega arith) (c .frame)) (frame-wider (omega arith) (omega arith) (f .frame));
   powers = λ P R t ready j y h l. go P R t ready j y l (eq-or-lt-of-le (omega arith));
 }
   where
     go : (P R : XPath) (t : Tree) → Ready P R t m n p → (j y : ℕ) → y < n → (j ≡ k) ⊎ (j < k) → Power P R t n r j y
     go P R t ready j y l (inl e) =
-        subst (λ (i : ℕ). Power P R t n r i y) (sym e) (f .power P R t (ready-kept (c .front) ready) (c .powers P R t ready) y l)
-    go P R t ready j y l (inr h) = powers-front (f .front) (c .powers P R t ready) j y h l
+        subst (λ (i : ℕ). Power P R t n r i y) (sym e) (f .power P R t (ready-kept (c .frame .front) ready) (c .powers P R t ready) y l)
+    go P R t ready j y l (inr h) = powers-front (f .frame .front) (c .powers P R t ready) j y h l
 
-pub rising-all : {m : Machine} {n k b : ℕ} {p p′ : List ℕ} → k ≡ b → Rising m n k p p′
-    → (P R : XPath) (t : Tree) → Stage P R t m n p → Loops P R t n p → Powered P R t n b p p′
-rising-all {m} {n} {k} {b} {p} {p′} e c P R t stage loops =
-    record { long = c .long; front = c .front; powers = subst (λ (i : ℕ). Powers P R t n p′ i) e (c .powers P R t (record { stage = stage; loops = loops })) }
+pub rising-all : {m : Machine} {n k b : ℕ} {p p′ : List ℕ} → k ≡ b → Rising m n k p p′ → (P R : XPath) (t : Tree) → Ready P R t m n p → Powered P R t n b p p′
+rising-all {n = n} {p = p} {p′} e c P R t ready = subst (λ (i : ℕ). Powered P R t n i p p′) e (record { frame = c .frame; powers = c .powers P R t ready })

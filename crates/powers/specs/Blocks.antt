@@ -1,5 +1,5 @@
 -- What is written for an exponent and a node.
-use Prim.Native.Nat.{ℕ, _+_, _≤_, _<_}
+use Prim.Native.Nat.{ℕ, _+_, _*_, _≤_, _<_}
 use mathlib.Core.Path.{_≡_}
 use mathlib.Core.Logic.{_↔_}
 use mathlib.Core.Bool.{true}
@@ -11,11 +11,16 @@ use Rattle.xpath.specs.Syntax.{XPath, size}
 use Rattle.xpath.specs.Tree.{Tree, WellFormed}
 use Rattle.matrices.specs.Matrices.{Related, Composed}
 use Rattle.machine.specs.declared.Machine.{Machine}
-use Rattle.layout.specs.Blocks.{blockAt, downAt, upAt, upperAt}
+use Rattle.layout.specs.Blocks.{BLOCKS, blockAt, downAt, upAt, upperAt}
 use Rattle.layout.specs.Part.{loopAt}
 use Rattle.layout.specs.Words.{Frame}
-use Rattle.loops.specs.Loops.{Stage, Loops}
-use Rattle.powers.specs.Powers.{Power, Powers}
+use Rattle.powers.specs.Powers.{Power, Powers, Ready}
+
+-- the part has room for the blocks of n nodes and all exponents below b
+pub record BlockRoom (n b : ℕ) (p : List ℕ) : Type 0 where
+  pub few : n ≤ documentNodes
+  pub low : b ≤ nodeDigits
+  pub room : (BLOCKS + wordsPerDigit * b) * n ≤ length p
 
 -- there is room for the words of exponent k and node y
 pub record Fits (n k y : ℕ) (p : List ℕ) : Type 0 where
@@ -51,11 +56,6 @@ Edge m n x y down up p = Block n 0 y x (Crossed (m .rows) p (loopAt n x) down (l
 abbrev pub Twice : ℕ → ℕ → ℕ → ℕ → List ℕ → List ℕ → Type 0
 Twice n k h y p = Block n (k + 1) y (getD p (upperAt n k h) 0) (Composed (Related p (downAt n k h)) (Related p (downAt n k y))) (Composed (Related p (upAt n k y)) (Related p (upAt n k h))) p
 
--- a comparison on a tree with its loops
-pub record Ready (P R : XPath) (t : Tree) (m : Machine) (n : ℕ) (p : List ℕ) : Type 0 where
-  pub stage : Stage P R t m n p
-  pub loops : Loops P R t n p
-
 -- power k + 1 of y is found, by powers k
 pub record Doubled (n k y : ℕ) (p p′ : List ℕ) : Type 0 where
   pub only : Only n (k + 1) y p p′
@@ -68,6 +68,5 @@ pub record Found (m : Machine) (n k y : ℕ) (p p′ : List ℕ) : Type 0 where
 
 -- power k of all nodes below y is found, by the powers below k
 pub record Passed (m : Machine) (n k y : ℕ) (p p′ : List ℕ) : Type 0 where
-  pub long : length p′ ≡ length p
-  pub front : (l : ℕ) → l < blockAt n k 0 → getD p′ l 0 ≡ getD p l 0
+  pub frame : Frame (blockAt n k 0) (blockAt n k y) p p′
   pub power : (P R : XPath) (t : Tree) → Ready P R t m n p → Powers P R t n p k → (v : ℕ) → v < y → Power P R t n p′ k v

@@ -4,7 +4,7 @@ use mathlib.Core.Path.{_≡_}
 use mathlib.Core.Logic.{_↔_}
 use mathlib.Core.Bool.{true}
 use mathlib.Core.List.{List}
-use lib.ListN.{length, getD}
+use lib.ListN.{getD}
 use Rattle.limits.specs.Limits.{positions}
 use Rattle.bits.specs.Sets.{bit}
 use Rattle.xpath.specs.Syntax.{XPath}
@@ -12,7 +12,10 @@ use Rattle.xpath.specs.Tree.{Tree, Down}
 use Rattle.positions.specs.Positions.{Comes}
 use Rattle.table.specs.Links.{Points}
 use Rattle.matrices.specs.Matrices.{Exactly, Related}
-use Rattle.layout.specs.Blocks.{BLOCKS, downAt, upAt, upperAt}
+use Rattle.machine.specs.declared.Machine.{Machine}
+use Rattle.loops.specs.Loops.{Stage, Loops}
+use Rattle.layout.specs.Blocks.{BLOCKS, blockAt, downAt, upAt, upperAt}
+use Rattle.layout.specs.Words.{Frame}
 
 module _ (P R : XPath) (t : Tree) (n : ℕ) (p : List ℕ) where
   -- the words of exponent k and node y
@@ -25,10 +28,20 @@ module _ (P R : XPath) (t : Tree) (n : ℕ) (p : List ℕ) where
   abbrev pub Powers : ℕ → Type 0
   Powers b = (k y : ℕ) → k < b → y < n → Power k y
 
--- all before the blocks is as before
+-- a comparison of two paths on a tree, with its loops
+pub record Ready (P R : XPath) (t : Tree) (m : Machine) (n : ℕ) (p : List ℕ) : Type 0 where
+  pub stage : Stage P R t m n p
+  pub loops : Loops P R t n p
+
+-- with its loops and its powers
+pub record Founded (P R : XPath) (t : Tree) (m : Machine) (n b : ℕ) (p : List ℕ) : Type 0 where
+  pub stage : Stage P R t m n p
+  pub loops : Loops P R t n p
+  pub powers : Powers P R t n p b
+
+-- all words but those of the exponents below b are as before
 pub record Powered (P R : XPath) (t : Tree) (n b : ℕ) (p p′ : List ℕ) : Type 0 where
-  pub long : length p′ ≡ length p
-  pub front : (k : ℕ) → k < BLOCKS * n → getD p′ k 0 ≡ getD p k 0
+  pub frame : Frame (BLOCKS * n) (blockAt n b 0) p p′
   pub powers : Powers P R t n p′ b
 
 -- ── Along a stretch of any length below 2^b ──

@@ -11,20 +11,17 @@ use machine::Machine;
 use matrices::before;
 use passes::pass;
 ghost use mathlib.Core.Path.{_≡_};
-ghost use Prim.Native.Nat.{ℕ, _+_, _*_, _≤_, _<_};
-ghost use lib.ListN.{length};
-ghost use Rattle.limits.specs.Limits.{documentNodes, nodeDigits, wordsPerDigit};
+ghost use Prim.Native.Nat.{ℕ, _<_};
 ghost use Rattle.xpath.specs.Syntax.{XPath};
 ghost use Rattle.xpath.specs.Tree.{Tree, Down};
-ghost use Rattle.loops.specs.Loops.{Stage, Loops};
-ghost use Rattle.layout.specs.Blocks.{BLOCKS};
-ghost use Rattle.powers.specs.Powers.{Powered, Lifts};
+ghost use Rattle.powers.specs.Blocks.{BlockRoom};
+ghost use Rattle.powers.specs.Powers.{Ready, Powered, Lifts};
 ghost use Rattle.powers.specs.Ladder.{Ladder, Stretch};
 
 // The powers of all nodes, for the exponents below `b`.
 pub fn find_powers(p: &mut [u16], n: usize, b: usize, m: Machine)
-    requires { ⌜ ((P R : XPath) × (t : Tree) × Stage P R t m n (now p) × Loops P R t n (now p)) × (0 < n) × (n ≤ documentNodes) × (b ≤ nodeDigits) × ((BLOCKS + wordsPerDigit * b) * n ≤ length (now p)) ⌝ }
-    ensures { λ _. ⌜ ((P R : XPath) (t : Tree) → Stage P R t m n (now (p .entry)) → Loops P R t n (now (p .entry)) → Powered P R t n b (now (p .entry)) (now (p .exit))) ⌝ }
+    requires { ⌜ ((P R : XPath) × (t : Tree) × Ready P R t m n (now p)) × (0 < n) × BlockRoom n b (now p) ⌝ }
+    ensures { λ _. ⌜ ((P R : XPath) (t : Tree) → Ready P R t m n (now (p .entry)) → Powered P R t n b (now (p .entry)) (now (p .exit))) ⌝ }
 {
     let mut k = 0;
     while k < b {

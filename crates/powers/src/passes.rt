@@ -6,11 +6,8 @@ use crate::blocks::upper;
 use layout::words::left;
 use layout::words::parent;
 use machine::Machine;
-ghost use Prim.Native.Nat.{_+_, _*_, _≤_, _<_};
-ghost use lib.ListN.{length};
-ghost use Rattle.limits.specs.Limits.{documentNodes, nodeDigits, wordsPerDigit};
-ghost use Rattle.layout.specs.Blocks.{BLOCKS};
-ghost use Rattle.powers.specs.Blocks.{Fits, Doubled, Found, Passed};
+ghost use Prim.Native.Nat.{_+_};
+ghost use Rattle.powers.specs.Blocks.{BlockRoom, Fits, Doubled, Found, Passed};
 
 // The parent of node `y`, with the steps on the side that `y` is on.
 fn first_power(p: &mut [u16], n: usize, m: Machine, y: usize)
@@ -57,7 +54,7 @@ fn power(p: &mut [u16], n: usize, m: Machine, k: usize, y: usize)
 
 // Power `k` of all nodes.
 pub fn pass(p: &mut [u16], n: usize, m: Machine, k: usize)
-    requires { ⌜ (n ≤ documentNodes) × (k < nodeDigits) × ((BLOCKS + wordsPerDigit * (k + 1)) * n ≤ length (now p)) ⌝ }
+    requires { ⌜ BlockRoom n (k + 1) (now p) ⌝ }
     ensures { λ _. ⌜ Passed m n k n (now (p .entry)) (now (p .exit)) ⌝ }
 {
     let mut y = 0;

@@ -9,7 +9,7 @@ ghost use Rattle.layout.specs.Words.{Wrote};
 ghost use Rattle.reach.specs.Work.{Work, Added, At, entered};
 
 // Entry `len`: node `u` and the positions that are new there. `seen` are all that are seen there now.
-pub fn enter(p: &mut [u16], n: usize, u: usize, seen: u16, new: u16, len: usize)
+fn enter(p: &mut [u16], n: usize, u: usize, seen: u16, new: u16, len: usize)
     requires { ⌜ Space n (now p) × (u < n) × (len < positions * n) ⌝ }
     ensures { λ _. ⌜ Wrote (entered n u seen new len) (now (p .entry)) (now (p .exit)) ⌝ }
 {

@@ -1,7 +1,7 @@
 -- From the start to the answers.
 use Prim.Native.Nat.{ℕ, _+_, _*_, _≤_, _<_}
 use mathlib.Core.Path.{_≡_, refl, sym, ap, _∙_, subst}
-use mathlib.Core.Logic.{_↔_}
+use mathlib.Core.Logic.{inr, _↔_}
 use mathlib.Core.Bool.{Bool, true, false, false≢true}
 use mathlib.Core.List.{List}
 use native.Mathlib.Omega.{arith}
@@ -13,11 +13,11 @@ use Rattle.xpath.specs.Meaning.{Holds}
 use Rattle.snippets.specs.Snippets.{Yielded}
 use Rattle.layout.specs.Part.{ANSWER, pairAt}
 use Rattle.layout.specs.Words.{word}
-use Rattle.layout.proofs.Frames.{within-then}
+use Rattle.layout.proofs.Frames.{within-frame, within-then, same-then, frame-same}
 use Rattle.machine.specs.declared.Machine.{Machine}
-use Rattle.loops.specs.Loops.{Stage, Loops}
+use Rattle.loops.specs.Loops.{Stage}
 use Rattle.loops.proofs.Sides.{parent-before}
-use Rattle.powers.specs.Powers.{Powers}
+use Rattle.powers.specs.Powers.{Founded}
 use Rattle.settling.specs.Pairs.{Settles}
 use Rattle.settling.specs.Growing.{Ready, Framed, Started, Grown, Met, Everywhere, Still, Answering}
 use Rattle.settling.specs.Settled.{Marked, Settled}
@@ -47,11 +47,9 @@ one-small false = omega arith
 pub settled : {m : Machine} {n : ℕ} {p p₁ p₂ q q′ : List ℕ} → Ready n p → Started (m .last) n n p p₁ → Grown n p₁ p₂ × Everywhere (Met n p₂) n
     → Grown n p₂ q × Still n q → Answering (m .second) n n q q′ → Settled m n p q′
 settled {m} {n} {p} {p₁} {p₂} {q} {q′} ready s (g, met) (h, still) a = record {
-  long = a .long ∙ framed .long;
-  columns = λ k h l. a .other k h ∙ framed .front k l;
-  behind = λ k h. a .other k (omega arith) ∙ framed .behind k h;
+  same = same-then (frame-same (λ k h. h .1) (within-frame framed)) (frame-same (λ k h. inr (h .0)) (a .kept));
   small = λ v h. subst (λ (x : ℕ). x ≤ 1) (sym (a .done v h)) (one-small (bit (getD q (pairAt n v) 0) (m .second)));
-  answers = λ P R t stage loops powers v h. answers stage loops powers v h;
+  answers = λ P R t f v h. answers f v h;
 }
   where
     all : Grown n p₁ q
@@ -63,20 +61,20 @@ settled {m} {n} {p} {p₁} {p₂} {q} {q′} ready s (g, met) (h, still) a = rec
     begun : Ready n p₂
     begun = ready-kept (within-then (s .framed) (g .framed)) ready
 
-    answers : {P R : XPath} {t : Tree} → Stage P R t m n p → Loops P R t n p → Powers P R t n p 1 → (v : ℕ) → v < n
-        → (word q′ n ANSWER v ≡ 1) ↔ Settles P R t (Marked t n p) v 0 (m .second)
-    answers {P} {R} {t} stage loops powers v inside =
-        let found = related-settles stage loops powers framed (ended-kept (m .last) all (s .ended)) (λ y i l. met-kept begun h y i l (met y i l)) still (all .sound (m .last) (s .held)) v 0 (m .second) inside (omega arith) (second-few stage) in
+    answers : {P R : XPath} {t : Tree} → Founded P R t m n 1 p → (v : ℕ) → v < n → (word q′ n ANSWER v ≡ 1) ↔ Settles P R t (Marked t n p) v 0 (m .second)
+    answers {P} {R} {t} f v inside =
+        let found = related-settles (f .stage) (f .loops) (f .powers) framed (ended-kept (m .last) all (s .ended)) (λ y i l. met-kept begun h y i l (met y i l)) still (all .sound (m .last) (s .held)) v 0 (m .second) inside (omega arith) (second-few (f .stage)) in
         let told = one-true (bit (getD q (pairAt n v + 0) 0) (m .second)) in
         let same : word q′ n ANSWER v ≡ one (bit (getD q (pairAt n v + 0) 0) (m .second)) = a .done v inside ∙ ap (λ (x : ℕ). one (bit (getD q x 0) (m .second))) (omega arith) in
         (λ e. found .0 (told .0 (sym same ∙ e)), λ z. same ∙ told .1 (found .1 z))
 
 -- where the words have the snippets of power 0, the answers tell where the comparison holds
-pub answers-hold : {P R : XPath} {t : Tree} {m : Machine} {n : ℕ} {p p′ : List ℕ} → Stage P R t m n p → Loops P R t n p → Powers P R t n p 1
+pub answers-hold : {P R : XPath} {t : Tree} {m : Machine} {n : ℕ} {p p′ : List ℕ} → Founded P R t m n 1 p
     → ((x y i j : ℕ) → Marked t n p x y i j ↔ Yielded t P R 0 x y i j) → Settled m n p p′
     → (v : ℕ) → v < n → (word p′ n ANSWER v ≡ 1) ↔ Holds t (compare eq P R) v
-answers-hold {P} {R} {t} {m} {n} {p} stage loops powers snippets s v h =
-    let told = s .answers P R t stage loops powers v h in
+answers-hold {P} {R} {t} {m} {n} {p} f snippets s v h =
+    let stage = f .stage in
+    let told = s .answers P R t f v h in
     let holds = settles-holds {S = Marked t n p} (stage .formed) snippets v (let e = stage .drawn .size in omega arith) in (
       λ e. holds .0 (subst (λ (b : ℕ). Settles P R t (Marked t n p) v 0 b) (stage .machine .start) (told .0 e)),
       λ e. told .1 (subst (λ (b : ℕ). Settles P R t (Marked t n p) v 0 b) (sym (stage .machine .start)) (holds .1 e)),

@@ -10,7 +10,7 @@ use Rattle.bits.specs.Sets.{bit, one}
 use Rattle.layout.specs.Blocks.{downAt, upAt, snippetAt, BLOCKS}
 use Rattle.layout.specs.Part.{ANSWER, PAIRS, REST, pairAt}
 use Rattle.layout.specs.Table.{PARENT}
-use Rattle.layout.specs.Words.{word, Within}
+use Rattle.layout.specs.Words.{word, Within, Kept}
 use Rattle.matrices.specs.Matrices.{Related, pairs}
 use Rattle.settling.specs.Derived.{Turned, Over, MeetsBy, Sees, EndsAt, Derived}
 
@@ -92,6 +92,5 @@ Still n p = Everywhere (Rises n p) n × Everywhere (Falls n p) n
 -- ── The answers ──
 -- those of the nodes below k tell whether 0 and the second start are a pair, and all other words are as before
 pub record Answering (second n k : ℕ) (p p′ : List ℕ) : Type 0 where
-  pub long : length p′ ≡ length p
-  pub other : (l : ℕ) → k ≤ l → getD p′ l 0 ≡ getD p l 0
+  pub kept : Kept k p p′
   pub done : (v : ℕ) → v < k → word p′ n ANSWER v ≡ one (bit (getD p (pairAt n v) 0) second)

@@ -1,20 +1,18 @@
 -- What `settle` leaves: the answer of each node.
 use Prim.Native.Nat.{ℕ, _*_, _≤_, _<_}
 use mathlib.Core.Path.{_≡_}
-use mathlib.Core.Logic.{_↔_}
+use mathlib.Core.Logic.{_⊎_, _↔_}
 use mathlib.Core.Bool.{Bool}
 use mathlib.Core.List.{List}
-use lib.ListN.{length, getD}
 use Rattle.limits.specs.Limits.{positions}
 use Rattle.xpath.specs.Syntax.{XPath}
 use Rattle.xpath.specs.Tree.{Tree, Child}
 use Rattle.layout.specs.Blocks.{snippetAt}
 use Rattle.layout.specs.Part.{ANSWER, PAIRS, REST}
-use Rattle.layout.specs.Words.{word}
+use Rattle.layout.specs.Words.{word, Same}
 use Rattle.matrices.specs.Matrices.{Related}
 use Rattle.machine.specs.declared.Machine.{Machine}
-use Rattle.loops.specs.Loops.{Stage, Loops}
-use Rattle.powers.specs.Powers.{Powers}
+use Rattle.powers.specs.Powers.{Founded}
 use Rattle.settling.specs.Pairs.{Settles}
 
 -- the words have a snippet of power 0 from x down to its child y: i at x and j at y
@@ -25,13 +23,14 @@ pub record Marked (t : Tree) (n : ℕ) (p : List ℕ) (x y i j : ℕ) : Type 0 w
   pub lowerFew : j < positions
   pub marked : Related p (snippetAt n 0 y) i j
 
+-- k is no word of the answers and none of the pairs
+abbrev pub Untouched : ℕ → ℕ → Type 0
+Untouched n k = (n ≤ k) × ((k < PAIRS * n) ⊎ (REST * n ≤ k))
+
 pub record Settled (m : Machine) (n : ℕ) (p p′ : List ℕ) : Type 0 where
-  -- all words but the answers and the pairs are as before
-  pub long : length p′ ≡ length p
-  pub columns : (k : ℕ) → n ≤ k → k < PAIRS * n → getD p′ k 0 ≡ getD p k 0
-  pub behind : (k : ℕ) → REST * n ≤ k → getD p′ k 0 ≡ getD p k 0
+  -- all words but those are as before
+  pub same : Same (Untouched n) p p′
   -- an answer is 0 or 1
   pub small : (v : ℕ) → v < n → word p′ n ANSWER v ≤ 1
   -- it is 1 where the snippets settle the two starts
-  pub answers : (P R : XPath) (t : Tree) → Stage P R t m n p → Loops P R t n p → Powers P R t n p 1
-      → (v : ℕ) → v < n → (word p′ n ANSWER v ≡ 1) ↔ Settles P R t (Marked t n p) v 0 (m .second)
+  pub answers : (P R : XPath) (t : Tree) → Founded P R t m n 1 p → (v : ℕ) → v < n → (word p′ n ANSWER v ≡ 1) ↔ Settles P R t (Marked t n p) v 0 (m .second)

@@ -1,5 +1,5 @@
 -- The loop that marks the nodes of a bucket and all above them.
-use Prim.Native.Nat.{ℕ, suc, _-_, _/_, _%_, _≤_, _<_}
+use Prim.Native.Nat.{ℕ, suc, _-_, _≤_, _<_}
 use mathlib.Core.Path.{_≡_, sym, _∙_, subst}
 use mathlib.Core.Logic.{_⊎_, inl, inr, _↔_, Dec·and}
 use mathlib.Core.Bool.{true, false, true≢false}
@@ -18,7 +18,7 @@ use Rattle.layout.specs.Words.{word, Within, Filled}
 use Rattle.layout.proofs.Frames.{within-none, within-then, before-within}
 use Rattle.table.specs.Links.{Points}
 use Rattle.skeletons.specs.Shape.{Shape}
-use Rattle.skeletons.specs.Skeletons.{IsMarked, IsNoted, Least, Buckets, Ranks, Group, Grouped}
+use Rattle.skeletons.specs.Skeletons.{IsMarked, IsNoted, Least, Buckets, Ranks, Grouped}
 use Rattle.skeletons.specs.Steps.{Closed, Joined}
 use Rattle.skeletons.proofs.Shape.{shape-within, ranks-within, parent-of}
 
@@ -161,13 +161,3 @@ grouping-all {n} {r} {w} {p} {p₀} {p′} f g end =
         go : Has t d v ⊎ BothMarked t d v → IsNoted p′ n v
         go (inl x) = all v (node (x .inside)) (rank v (node (x .inside)) ∙ k v (node (x .inside)) .1 (x .value)) .1
         go (inr (a, b, c, e, x, y)) = met a b c e x y
-
--- a group stays where later columns change
-pub group-within : {t : Tree} {v : List ℕ} {n r c d : ℕ} {p p′ : List ℕ} → MARKED < c → Within n c d p p′ → Group t v n r p → Group t v n r p′
-group-within {t} {v} {n} {p = p} {p′ = p′} l w g =
-    record {
-      shape = shape-within (omega arith) w (g .shape);
-      ranks = ranks-within t (omega arith) w (g .ranks);
-      marks = λ u i. subst (λ (x : ℕ). Marked t v u ↔ (x % 2 ≡ 1)) (sym (before-within w MARKED u l i)) (g .marks u i);
-      noted = λ u k. let i = skeleton-inside t v (g .shape .formed) u k in let e = g .shape .size in subst (λ (x : ℕ). x / 2 ≡ 1) (sym (before-within w MARKED (u / 16) l (omega arith))) (g .noted u k);
-    }

@@ -1,21 +1,20 @@
 -- The links of a tree in a part: what they say, and that they stay where later columns change.
 use Prim.Native.Nat.{ℕ, _≤_, _<_}
 use mathlib.Core.Path.{_≡_, refl, sym, _∙_, subst}
-use mathlib.Core.Logic.{_⊎_, inl, inr, _↔_}
+use mathlib.Core.Logic.{_⊎_, inl, inr}
 use mathlib.Core.Bool.{Bool, true, false}
 use mathlib.Core.List.{List}
 use native.Mathlib.Omega.{arith}
-use Rattle.bits.specs.Sets.{bit}
-use Rattle.xpath.specs.Syntax.{Test, XPath, stay}
+use Rattle.xpath.specs.Syntax.{XPath}
 use Rattle.xpath.specs.Tree.{Tree, Child, WellFormed}
-use Rattle.xpath.specs.Meaning.{Holds}
 use Rattle.xpath.proofs.Trees.{one-child}
 use Rattle.layout.specs.Part.{STAYS}
 use Rattle.layout.specs.Table.{PARENT, RANK, column}
 use Rattle.layout.specs.Words.{NONE, word, Within}
 use Rattle.layout.proofs.Frames.{before-within}
 use Rattle.table.specs.Links.{Points}
-use Rattle.machine.specs.Meaning.{IsStep, Drawn}
+use Rattle.machine.specs.Meaning.{Drawn}
+use Rattle.machine.proofs.Kept.{drawn-same}
 use Rattle.skeletons.specs.Shape.{Shape, Small}
 use Rattle.skeletons.specs.Skeletons.{Ranks}
 
@@ -45,26 +44,9 @@ shape-within {t} l w s =
 
 -- so does all that is drawn
 pub drawn-within : {P R : XPath} {t : Tree} {n c d : ℕ} {p p′ : List ℕ} → STAYS < c → Within n c d p p′ → Drawn P R t n p → Drawn P R t n p′
-drawn-within {P} {R} {t} {n} {c} {p = p} {p′ = p′} l w x =
-    record {
-      size = x .size;
-      few = x .few;
-      children = children-within t (omega arith) w (x .children);
-      parents = parents-within t (omega arith) w (x .parents);
-      small = small-within (omega arith) w (x .small);
-      ordered = λ v u r q. let (f, g) = x .ordered v u r q in let a = rank v r in let b = rank u q in (λ h. f (omega arith), λ h. let k = g h in omega arith);
-      same = λ v u r q. let (f, g) = x .same v u r q in let a = rank v r in let b = rank u q in (λ h. f (omega arith), λ h. let k = g h in omega arith);
-      tests = λ v j r i. subst (λ y. (bit y j ≡ true) ↔ ((T : Test) × IsStep P R j (stay T) × Holds t T v)) (sym (before-within w STAYS v l r)) (x .tests v j r i);
-    }
-  where
-    rank : (v : ℕ) → v < n → word p′ n RANK v ≡ word p n RANK v
-    rank v r = before-within w RANK v (omega arith) r
+drawn-within l w = drawn-same (λ c v q r. before-within w c v (omega arith) r)
 
 -- ── The nodes of a rank ──
--- the nodes of v's rank are those that have v's value
-pub drawn-ranks : {P R : XPath} {t : Tree} {n : ℕ} {p : List ℕ} → Drawn P R t n p → (v : ℕ) → v < n → Ranks t (t .value v) n (word p n RANK v) p
-drawn-ranks d v r w q = d .same w v q r
-
 pub ranks-within : (t : Tree) {v : List ℕ} {n r c d : ℕ} {p p′ : List ℕ} → RANK < c → Within n c d p p′ → Ranks t v n r p → Ranks t v n r p′
 ranks-within t l w k u i = let e = before-within w RANK u l i in (λ h. k u i .0 (sym e ∙ h), λ h. e ∙ k u i .1 h)
 

@@ -13,7 +13,7 @@ gather-requires c κs =
     let s = c .before .before .before .before .before .before .pre in
     let f = c .before .before .before .prepare .ensures in
     let long = f .long in
-    (prepared-some f (s .1) (s .0), s .4, f .empty, record { few = s .3; low = s .5; room = omega arith })
+    let b = s .4 in let room = b .room in (prepared-some f (s .1) (s .0), s .3, f .empty, record { few = b .few; low = b .low; room = omega arith })
 
 settle-requires : tie.Need-settle-requires
 settle-requires c κs =
@@ -21,7 +21,7 @@ settle-requires c κs =
     let f = c .before .before .before .before .before .before .before .prepare .ensures in
     let g = c .before .before .before .gather .ensures in
     let long = f .long in let same = g .long in
-    (gathered-some f (s .1) g (s .0), edges-fit _ _ _ (s .4) (omega arith))
+    let room = s .4 .room in (gathered-some f (s .1) g (s .0), edges-fit _ _ _ (s .3) (omega arith))
 
 same-length : tie.Need-same-length
 same-length c = search needs
@@ -29,7 +29,7 @@ same-length c = search needs
 returns : tie.Need-returns
 returns c =
     let s = c .before .before .before .before .before .before .before .before .before .before .before .before .before .pre in
-    evaluated (c .before .before .before .before .before .before .before .before .before .before .prepare .ensures) (s .1) (s .4) (c .before .before .before .before .before .before .gather .ensures) (c .before .before .settle .ensures)
+    evaluated (c .before .before .before .before .before .before .before .before .before .before .prepare .ensures) (s .1) (s .3) (c .before .before .before .before .before .before .gather .ensures) (c .before .before .settle .ensures)
 
 pub compare-equal-spec : {M : Type 1} → statement M
 compare-equal-spec =

@@ -12,7 +12,7 @@ find-powers-requires : tie.Need-find-powers-requires
 find-powers-requires c κs =
     let s = c .before .before .before .before .before .before .pre in
     let (found, long) = looped (s .0) (c .before .before .before .find-loops .ensures) in
-    (found, s .1, s .2, s .3, omega arith)
+    let room = s .2 in (found, s .1, omega arith)
 
 clear-snippets-requires : tie.Need-clear-snippets-requires
 clear-snippets-requires c κs = search needs

@@ -23,7 +23,7 @@ compare-equal-requires : tie.Need-compare-equal-requires
 compare-equal-requires c κs =
     let x = c .before .before .before .before .before .before .before .before .before .pre in let l = c .before .before .before .before .levels .ensures in
     let d = digits-asked (x .0 .3) l (c .before .digits .ensures) (x .1) in
-    ((x .0 .0, x .0 .1, x .0 .2, stage-levelled (x .0 .3) l), d .0, d .1, d .2, d .3, d .4, d .5)
+    ((x .0 .0, x .0 .1, x .0 .2, stage-levelled (x .0 .3) l), d .0, d .1, d .3, record { few = d .2; low = d .4; room = d .5 })
 
 compare-order-requires : tie.Need-compare-order-requires
 compare-order-requires c κs = let x = c .before .before .before .pre in let h = x .0 .3 in (stage-space h (x .1), h .drawn .small, stage-second h, linked-drawn (h .drawn))

@@ -26,7 +26,7 @@ pass-requires : tie.Need-pass-requires Inv-loop μ-loop
 pass-requires c κs =
     let x = c .before .before .before .before in
     let l = c .before .before .loop in
-    room-less _ _ _ (x .args .p .now) (l .p) (omega arith) (l .inv .1 .long) (x .pre)
+    room-less _ _ _ (x .args .p .now) (l .p) (omega arith) (l .inv .1 .same .long) (x .pre)
 
 loop-less : tie.Need-loop-less Inv-loop μ-loop
 loop-less c = omega arith
@@ -40,7 +40,7 @@ loop-again c =
     (omega arith, lowered-step _ (x .pre .few) (omega arith) done (c .before .before .pass .ensures))
 
 same-length : tie.Need-same-length Inv-loop μ-loop
-same-length c = c .before .loop .inv .1 .long
+same-length c = c .before .loop .inv .1 .same .long
 
 returns : tie.Need-returns Inv-loop μ-loop
 returns c =

@@ -17,7 +17,7 @@ loop-holds c = (omega arith, rising-none _ _ _)
 
 pass-requires : tie.Need-pass-requires Inv-loop μ-loop
 pass-requires c κs =
-    let s = c .before .before .before .before in let l = c .before .before .loop .inv .1 .long in
+    let s = c .before .before .before .before in let l = c .before .before .loop .inv .1 .frame .long in
     let wide : (c .before .before .loop .k + 1) * s .args .n ≤ s .args .b * s .args .n = mul-le-mul-right (s .args .n) (omega arith) in
     omega arith
 
@@ -31,7 +31,7 @@ loop-again : tie.Need-loop-again Inv-loop μ-loop
 loop-again c = (omega arith, rising-step (c .before .before .before .before .before .loop .inv .1) (c .before .before .pass .ensures))
 
 same-length : tie.Need-same-length Inv-loop μ-loop
-same-length c = c .before .loop .inv .1 .long
+same-length c = c .before .loop .inv .1 .frame .long
 
 returns : tie.Need-returns Inv-loop μ-loop
 returns c = rising-all (omega arith) (c .before .loop .inv .1)

@@ -44,7 +44,7 @@ loop-again : tie.Need-loop-again Inv-loop μ-loop
 loop-again c = (omega arith, cleared-step (c .before .before .before .before .before .loop .inv .1) (c .before .before .clear-rows .ensures))
 
 same-length : tie.Need-same-length Inv-loop μ-loop
-same-length c = c .before .loop .inv .1 .long
+same-length c = c .before .loop .inv .1 .same .long
 
 returns : tie.Need-returns Inv-loop μ-loop
 returns c =

@@ -17,7 +17,7 @@ loop-holds : tie.Need-loop-holds Inv-loop μ-loop
 loop-holds c = (omega arith, handed-none _ _ _)
 
 hand-down-requires : tie.Need-hand-down-requires Inv-loop μ-loop
-hand-down-requires c κs = (omega arith, omega (arith, c .before .before .loop .inv .1 .long))
+hand-down-requires c κs = (omega arith, omega (arith, c .before .before .loop .inv .1 .same .long))
 
 add-y : tie.Need-add-y Inv-loop μ-loop
 add-y c = omega arith
@@ -29,7 +29,7 @@ loop-again : tie.Need-loop-again Inv-loop μ-loop
 loop-again c = (omega arith, handed-step _ _ _ (c .before .before .before .before .before .loop .inv .1) (c .before .before .hand-down .ensures))
 
 same-length : tie.Need-same-length Inv-loop μ-loop
-same-length c = c .before .loop .inv .1 .long
+same-length c = c .before .loop .inv .1 .same .long
 
 returns : tie.Need-returns Inv-loop μ-loop
 returns c =

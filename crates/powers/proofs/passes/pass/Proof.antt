@@ -18,8 +18,8 @@ loop-holds c = (omega arith, passed-none _ _ _ _)
 
 power-requires : tie.Need-power-requires Inv-loop μ-loop
 power-requires c κs =
-    let s = c .before .before .before .before in let l = c .before .before .loop .inv .1 .long in let room = s .pre .2 in
-    fits-of {b = s .args .k + 1} (c .before .before .loop .p) (omega arith) (omega arith) (s .pre .0) (omega arith) (omega arith)
+    let s = c .before .before .before .before in let l = c .before .before .loop .inv .1 .frame .long in let room = s .pre .room in
+    fits-of {b = s .args .k + 1} (c .before .before .loop .p) (omega arith) (omega arith) (s .pre .few) (s .pre .low) (omega arith)
 
 add-y : tie.Need-add-y Inv-loop μ-loop
 add-y c = omega arith
@@ -31,7 +31,7 @@ loop-again : tie.Need-loop-again Inv-loop μ-loop
 loop-again c = (omega arith, passed-step (c .before .before .before .before .before .loop .inv .1) (c .before .before .power .ensures))
 
 same-length : tie.Need-same-length Inv-loop μ-loop
-same-length c = c .before .loop .inv .1 .long
+same-length c = c .before .loop .inv .1 .frame .long
 
 returns : tie.Need-returns Inv-loop μ-loop
 returns c = passed-to (omega arith) (c .before .loop .inv .1)
