@@ -12,18 +12,19 @@ use Rattle.layout.specs.Groups.{FIRST, NEXT, MARKED}
 use Rattle.layout.specs.Sweeps.{LEAST, ABOVE}
 use Rattle.layout.specs.Table.{RANK}
 use Rattle.layout.specs.Words.{cell, word, Within}
+use Rattle.layout.proofs.Frames.{within-frame, frame-same}
 use Rattle.table.specs.Links.{Points}
 use Rattle.rule_parts.specs.Kinds.{operator}
 use Rattle.rule_parts.specs.declared.kinds.Operator.{Operator}
 use Rattle.machine.specs.declared.Machine.{Machine}
 use Rattle.machine.specs.Walks.{Stops, Meets}
 use Rattle.skeletons.specs.Skeletons.{Least, Buckets}
-use Rattle.plain.specs.declared.ranges.Range.{Range}
-use Rattle.plain.specs.Plain.{Answered, Small}
-use Rattle.plain.specs.Ends.{Held}
-use Rattle.plain.specs.Ranges.{Ranged, Across}
-use Rattle.plain.proofs.Ranged.{across-some}
-use Rattle.plain.proofs.Steady.{held-then, held-word, held-small}
+use Rattle.rank_sets.specs.declared.ranges.Range.{Range}
+use Rattle.rank_sets.specs.Ends.{Small, Held}
+use Rattle.rank_sets.specs.Ranges.{Ranged, Across}
+use Rattle.rank_sets.proofs.Ranged.{across-some}
+use Rattle.rank_sets.proofs.Steady.{held-then, held-word, held-small}
+use Rattle.plain.specs.Plain.{Answered}
 use Rattle.plain.proofs.Walks.{stops-same, meets-same}
 use Rattle.reach.specs.Work.{Work, Spared}
 use Rattle.backward.specs.Backward.{LinkedBothWays}
@@ -83,7 +84,7 @@ falling-all s l = sweeping-all s (λ w h. omega arith)
 
 -- ── What the sweeps leave ──
 spared-held : {n c : ℕ} {p q : List ℕ} → Spared n c p q → Held n p q
-spared-held s = record { long = s .long; middle = λ k l h. s .front k h }
+spared-held s = record { middle = record { long = s .long; same = λ k (l, h). s .front k h } }
 
 -- the same ranks and buckets
 module _ {n : ℕ} {p q : List ℕ} (rank : (w : ℕ) → w < n → word q n RANK w ≡ word p n RANK w) where
@@ -175,14 +176,14 @@ module _ {m : Machine} {n : ℕ} {p p₁ p₂ p₃ p₄ : List ℕ} (a : Blanked
 -- ── The answers ──
 -- the buckets stand behind what a walk goes by
 pub bucketed-held : {n : ℕ} {p q : List ℕ} → Within n FIRST MARKED p q → Held n p q
-bucketed-held w = record { long = w .long; middle = λ k l h. w .front k (omega arith) }
+bucketed-held w = record { middle = frame-same (λ k h. inl (omega arith)) (within-frame w) }
 
 -- p₁ is the part with the buckets, and p₂ the part with the ranges
 pub order-answered : {m : Machine} {n : ℕ} {o : Operator} {p p₁ p₂ p₃ : List ℕ} → n ≤ 4096 → Small n p → Within n FIRST MARKED p p₁ → Ranges m n p₁ p₂
     → Answered n (λ v. Across o (rangeOf p₂ n 0 v) (rangeOf p₂ n 1 v)) p₂ p₃ → (q : Op) → q ≢ eq → o ≡ operator q → Answered n (Meets m n p q) p p₃
 order-answered {m} {n} {o} {p} {p₁} {p₂} {p₃} few small w g a q d e =
     record {
-      long = a .long ∙ g .held .long ∙ w .long;
+      long = a .long ∙ g .held .middle .long ∙ w .long;
       answers = λ v l. ⊎-elim (λ (s, z). inl (tells v l .0 s, z)) (λ (s, z). inr (λ h. s (tells v l .1 h), z)) (a .answers v l);
     }
   where

@@ -1,7 +1,7 @@
 -- The loop that answers node after node by what stands behind the answers.
 use Prim.Native.Nat.{ℕ, _+_, _≤_, _<_}
 use mathlib.Core.Path.{_≡_, ap₂}
-use mathlib.Core.Logic.{_↔_}
+use mathlib.Core.Logic.{_↔_, inr}
 use mathlib.Core.Bool.{Bool, true}
 use mathlib.Core.List.{List, [], _∷_}
 use native.Mathlib.Omega.{arith}
@@ -9,10 +9,10 @@ use Rattle.bits.specs.Sets.{one}
 use Rattle.layout.specs.Part.{ANSWER, Space}
 use Rattle.layout.specs.Sweeps.{LEAST, ABOVE}
 use Rattle.layout.specs.Words.{cell, Wrote, Kept}
-use Rattle.layout.proofs.Frames.{frame-none, frame-then}
-use Rattle.plain.specs.declared.ranges.Range.{Range}
+use Rattle.layout.proofs.Frames.{frame-none, frame-then, frame-same}
+use Rattle.rank_sets.specs.declared.ranges.Range.{Range}
+use Rattle.rank_sets.proofs.Steady.{steady-none}
 use Rattle.plain.specs.Plain.{Answered}
-use Rattle.plain.proofs.Steady.{steady-none}
 use Rattle.plain.proofs.Answering.{Answers, answers-none, answers-step, answers-all}
 use Rattle.backward.specs.Sweeps.{rangeOf}
 
@@ -43,4 +43,4 @@ module _ {n v : ℕ} {A : ℕ → Type 0} {p₀ p : List ℕ} (g : Telling n A v
       ap₂ r (g .kept .behind (cell n (LEAST + i) u) (omega arith)) (g .kept .behind (cell n (ABOVE + i) u) (omega arith))
 
   pub telling-all : n ≤ v → Answered n A p₀ p
-  telling-all l = answers-all l (record { long = g .kept .long; middle = λ k h r. g .kept .behind k (omega arith) }) (g .answers)
+  telling-all l = answers-all l (record { middle = frame-same (λ k h. inr (omega arith)) (g .kept) }) (g .answers)

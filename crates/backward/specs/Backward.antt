@@ -13,7 +13,7 @@ use Rattle.layout.specs.Words.{word}
 use Rattle.machine.specs.declared.Machine.{Machine}
 use Rattle.machine.specs.Walks.{Leads, Walk, Stops}
 use Rattle.reach.specs.Work.{Seen, Has, nodeOf, Added}
-use Rattle.plain.specs.Ranges.{Some}
+use Rattle.rank_sets.specs.Ranges.{Some}
 
 -- ── The links ──
 -- a child's parent is the node that it is a child of

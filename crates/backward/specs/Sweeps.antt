@@ -9,9 +9,9 @@ use Rattle.layout.specs.Words.{cell, word, Wrote, Frame, NONE}
 use Rattle.machine.specs.declared.Machine.{Machine}
 use Rattle.machine.specs.Walks.{Stops}
 use Rattle.reach.specs.Work.{Work, Spared, Added}
-use Rattle.plain.specs.Ends.{Held}
-use Rattle.plain.specs.Ranges.{Some, Ranged}
-use Rattle.plain.specs.declared.ranges.Range.{Range}
+use Rattle.rank_sets.specs.Ends.{Held}
+use Rattle.rank_sets.specs.Ranges.{Some, Ranged}
+use Rattle.rank_sets.specs.declared.ranges.Range.{Range}
 use Rattle.layout.specs.Sweeps.{LEAST, ABOVE}
 use Rattle.backward.specs.Backward.{New, Ends}
 

@@ -25,7 +25,8 @@ ghost use Rattle.xpath.specs.Syntax.{Op, eq};
 ghost use Rattle.rule_parts.specs.Kinds.{operator};
 ghost use Rattle.layout.specs.Part.{Space};
 ghost use Rattle.machine.specs.Walks.{Meets, Hits};
-ghost use Rattle.plain.specs.Plain.{Answered, Small};
+ghost use Rattle.rank_sets.specs.Ends.{Small};
+ghost use Rattle.plain.specs.Plain.{Answered};
 ghost use Rattle.backward.specs.Backward.{LinkedBothWays};
 
 // The first path and a constant: the nodes whose value is in the relation to it are marked as hits.

@@ -2,16 +2,16 @@
 use layout::Sweeps;
 use layout::words::get;
 use plain::answer;
-use plain::ranges::Range;
-use plain::ranges::ordered;
+use rank_sets::ranges::Range;
+use rank_sets::ranges::ordered;
 use rule_parts::kinds::Operator;
 ghost use mathlib.Core.Path.{_≡_};
 ghost use Prim.Native.Nat.{_≤_, _<_};
 ghost use Rattle.limits.specs.Limits.{wordValues};
 ghost use Rattle.layout.specs.Part.{Space};
 ghost use Rattle.layout.specs.Table.{Room};
+ghost use Rattle.rank_sets.specs.Ranges.{Across};
 ghost use Rattle.plain.specs.Plain.{Answered};
-ghost use Rattle.plain.specs.Ranges.{Across};
 ghost use Rattle.backward.specs.Sweeps.{rangeOf};
 
 // The range of the first path at node `v` if `i` is 0, and of the second if `i` is 1.

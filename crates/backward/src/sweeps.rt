@@ -10,7 +10,7 @@ ghost use Rattle.limits.specs.Limits.{positions, wordValues};
 ghost use Rattle.layout.specs.Part.{Space};
 ghost use Rattle.layout.specs.Sweeps.{LEAST, ABOVE};
 ghost use Rattle.layout.specs.Words.{NONE};
-ghost use Rattle.plain.specs.Plain.{Small};
+ghost use Rattle.rank_sets.specs.Ends.{Small};
 ghost use Rattle.backward.specs.Backward.{LinkedBothWays};
 ghost use Rattle.skeletons.specs.Skeletons.{Buckets};
 ghost use Rattle.backward.specs.Sweeps.{Paired, Blank, Blanked, Risen, Fallen, Ranges};

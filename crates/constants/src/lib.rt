@@ -13,7 +13,8 @@ ghost use Rattle.document_spec.specs.Binary.{stringOf};
 ghost use Rattle.document_spec.specs.Verdict.{Accepts};
 ghost use Rattle.layout.specs.Table.{Room};
 ghost use Rattle.values.specs.Ordered.{Ordered};
-ghost use Rattle.ranks.specs.Ranks.{Tabled, Ranked};
+ghost use Rattle.table.specs.Tabled.{Tabled};
+ghost use Rattle.ranks.specs.Ranks.{Ranked};
 ghost use Rattle.constants.specs.Places.{Nearest, Placed};
 
 // The ranks below `first` belong to smaller values than the constant, those from `behind` on to greater ones, and those between to the constant itself.

@@ -18,7 +18,7 @@ use Rattle.rule_spec.specs.Spelling.{spellTest}
 use Rattle.rule_spec.proofs.Reading.{test-head}
 use Rattle.lexer.proofs.Laws.{slice-of}
 use Rattle.layout.specs.Table.{Room}
-use Rattle.ranks.specs.Ranks.{Tabled}
+use Rattle.table.specs.Tabled.{Tabled}
 use Rattle.rule_parts.specs.Standing.{Spans, TestAt}
 use Rattle.rule_parts.specs.Kinds.{testKind}
 use Rattle.rule_parts.specs.declared.kinds.TestKind.{TestKind}

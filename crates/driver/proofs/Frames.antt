@@ -17,7 +17,7 @@ use Rattle.layout.specs.Table.{COLUMNS, RANK}
 use Rattle.layout.specs.Words.{word, Within}
 use Rattle.layout.proofs.Frames.{frame-wider, within-frame}
 use Rattle.table.proofs.Linked.{linked-same}
-use Rattle.ranks.specs.Ranks.{Tabled}
+use Rattle.table.specs.Tabled.{Tabled}
 use Rattle.test_bits.specs.Columns.{held}
 use Rattle.driver.specs.Tasks.{Scene, Apart}
 

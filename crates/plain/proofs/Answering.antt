@@ -9,9 +9,9 @@ use native.Mathlib.Omega.{arith}
 use Rattle.bits.specs.Sets.{one}
 use Rattle.layout.specs.Part.{ANSWER}
 use Rattle.layout.specs.Words.{cell, word, Wrote}
+use Rattle.rank_sets.specs.Ends.{Held, Steady}
+use Rattle.rank_sets.proofs.Telling.{denied}
 use Rattle.plain.specs.Plain.{Answered}
-use Rattle.plain.specs.Ends.{Held, Steady}
-use Rattle.plain.proofs.Telling.{denied}
 
 -- a word that answers whether A holds
 abbrev Answer : Type 0 → ℕ → Type 0
@@ -35,7 +35,7 @@ answers-step {n} {i} {A} {p} {p₁} {p₂} b l g s t w = record { done = λ v r.
     go : (v : ℕ) → v < i + 1 → Dec (v ≡ i) → Answer (A v) (word p₂ n ANSWER v)
     go v r (yes e) = subst (λ x. Answer (A x) (word p₂ n ANSWER x)) (sym e) (subst (λ y. Answer (A i) y) (sym (w .here .0)) (answer b t))
     go v r (no f) =
-        subst (λ y. Answer (A v) y) (sym (w .other (cell n ANSWER v) (omega arith, tt) ∙ s .answers (cell n ANSWER v) (omega arith))) (g .done v (omega arith))
+        subst (λ y. Answer (A v) y) (sym (w .other (cell n ANSWER v) (omega arith, tt) ∙ s .answers .same (cell n ANSWER v) (omega arith))) (g .done v (omega arith))
 
 pub answers-all : {n i : ℕ} {A : ℕ → Type 0} {p₀ p : List ℕ} → n ≤ i → Held n p₀ p → Answers n A i p → Answered n A p₀ p
-answers-all l h g = record { long = h .long; answers = λ v r. g .done v (omega arith) }
+answers-all l h g = record { long = h .middle .long; answers = λ v r. g .done v (omega arith) }

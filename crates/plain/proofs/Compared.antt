@@ -1,10 +1,15 @@
 -- The comparisons at one node, from what the walks have seen.
-use Prim.Native.Nat.{ℕ, _<_}
+use Prim.Native.Nat.{ℕ, zero, suc, _/_, _^_, _≤_, _<_}
 use mathlib.Core.Path.{_≡_, sym, ap, _∙_, subst}
 use mathlib.Core.Logic.{_↔_, _≢_, Iff·trans, Iff·symm}
-use mathlib.Core.Bool.{Bool, true}
+use mathlib.Core.Bool.{Bool, true, false, false≢true}
 use mathlib.Core.List.{List}
+use native.Mathlib.Decide.{decLt}
+use native.Mathlib.Numerals.{add-one}
 use native.Mathlib.Omega.{arith}
+use lib.Pow.{shr-lt}
+use Rattle.bits.specs.Sets.{bit}
+use Rattle.bits.proofs.SetLaws.{bit-none, bit-suc}
 use Rattle.xpath.specs.Syntax.{Op, eq}
 use Rattle.layout.specs.Part.{MARK, HIT, Space}
 use Rattle.layout.specs.Table.{RANK}
@@ -13,19 +18,31 @@ use Rattle.rule_parts.specs.Kinds.{operator}
 use Rattle.machine.specs.declared.Machine.{Machine}
 use Rattle.machine.specs.Walks.{Stops, Meets, Hits}
 use Rattle.reach.specs.Reached.{Reached}
-use Rattle.plain.specs.declared.ranges.Range.{Range}
-use Rattle.plain.specs.Plain.{Small}
-use Rattle.plain.specs.Ends.{Ended, Held, Steady}
-use Rattle.plain.specs.Marks.{Marked}
-use Rattle.plain.specs.Ranges.{Ranged, Across}
-use Rattle.plain.proofs.Ended.{member-below}
-use Rattle.plain.proofs.Steady.{held-then, held-word, steady-reached, steady-then}
-use Rattle.plain.proofs.Ranged.{ranged-same, ranged-empty, across-some}
+use Rattle.rank_sets.specs.declared.ranges.Range.{Range}
+use Rattle.rank_sets.specs.Ends.{Ended, Small, Held, Steady}
+use Rattle.rank_sets.specs.Marks.{Marked}
+use Rattle.rank_sets.specs.Ranges.{Ranged, Across}
+use Rattle.rank_sets.proofs.Steady.{held-then, held-word, steady-then}
+use Rattle.rank_sets.proofs.Ranged.{ranged-same, ranged-empty, across-some}
+use Rattle.plain.proofs.Steady.{steady-reached}
 use Rattle.plain.proofs.Walks.{stops-same}
+
+-- the members of a word of n digits are below n
+bit-high : (n w j : ℕ) → w < 2 ^ n → n ≤ j → bit w j ≡ false
+bit-high zero w j h l = let e : w ≡ 0 = omega arith in ap (λ (x : ℕ). bit x j) e ∙ bit-none j
+bit-high (suc n) w zero h l = absurd (omega arith)
+bit-high (suc n) w (suc j) h l = bit-suc w j ∙ bit-high n (w / 2) j (shr-lt n 1 (subst (λ (k : ℕ). w < 2 ^ k) (sym (add-one n)) h)) (omega arith)
+
+pub member-below : {w j : ℕ} → w < 65536 → bit w j ≡ true → j < 16
+member-below {w} {j} h e = go (decLt j 16)
+  where
+    go : Dec (j < 16) → j < 16
+    go (yes l) = l
+    go (no l) = absurd (false≢true (sym (bit-high 16 w j h (omega arith)) ∙ e))
 
 -- ── What stays ──
 module _ {m : Machine} {n v : ℕ} {p p₁ p₂ : List ℕ} where
-  pub ordered-steady : Reached m n 0 v p p₁ → Reached m n (m .second) v p₁ p₂ → Steady n p p₂
+  pub ordered-steady : {i : ℕ} → Reached m n 0 v p p₁ → Reached m n i v p₁ p₂ → Steady n p p₂
   ordered-steady f s = steady-then (steady-reached f) (steady-reached s)
 
   pub equal-steady : {p₃ p₄ : List ℕ} → Steady n p p₁ → Reached m n 0 v p₁ p₂ → Marked n (m .last) p₂ p₃ → Reached m n (m .second) v p₃ p₄ → Steady n p p₄

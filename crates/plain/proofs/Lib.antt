@@ -1,8 +1,4 @@
-pub mod Telling
-pub mod Ended
 pub mod Steady
-pub mod Marking
-pub mod Ranged
 pub mod Signs
 pub mod Walks
 pub mod Compared

@@ -10,12 +10,12 @@ use Rattle.layout.specs.Table.{RANK}
 use Rattle.machine.specs.declared.Machine.{Machine}
 use Rattle.machine.specs.Walks.{Compares, Stops, Meets, Hits}
 use Rattle.reach.proofs.Walks.{walk-same}
-use Rattle.plain.specs.Ends.{Held}
-use Rattle.plain.proofs.Steady.{held-back, held-word}
+use Rattle.rank_sets.specs.Ends.{Held}
+use Rattle.rank_sets.proofs.Steady.{held-back, held-at, held-word}
 
 module _ {m : Machine} {n : ℕ} {p p′ : List ℕ} (h : Held n p p′) where
   stops-on : {i v w : ℕ} → v < n → Stops m n p i v w → Stops m n p′ i v w
-  stops-on r (j, b, s) = (j, b, walk-same (h .middle) r s)
+  stops-on r (j, b, s) = (j, b, walk-same (held-at h) r s)
 
 module _ {m : Machine} {n : ℕ} {p p′ : List ℕ} (h : Held n p p′) where
   pub stops-same : {i v w : ℕ} → v < n → Stops m n p i v w ↔ Stops m n p′ i v w

@@ -1,4 +1,1 @@
 pub mod Plain
-pub mod Ends
-pub mod Marks
-pub mod Ranges

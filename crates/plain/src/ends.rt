@@ -1,6 +1,7 @@
-// Where a walk ends: the nodes that it comes to at one of the last positions.
+// Whether a walk ends at a hit.
 use layout::Part;
 use layout::words::get;
+use rank_sets::ends::ends_at;
 ghost use mathlib.Core.Bool.{true};
 ghost use mathlib.Core.Logic.{_↔_};
 ghost use mathlib.Core.Path.{_≡_};
@@ -8,16 +9,7 @@ ghost use Prim.Native.Nat.{ℕ, _<_};
 ghost use Rattle.layout.specs.Part.{HIT};
 ghost use Rattle.layout.specs.Table.{Room};
 ghost use Rattle.layout.specs.Words.{word};
-ghost use Rattle.plain.specs.Ends.{Ended};
-
-// Whether the walk ends at node `w`.
-pub fn ends_at(p: &[u16], n: usize, last: u16, w: usize) -> bool
-    requires { ⌜ (w < n) × Room n (now p) ⌝ }
-    ensures { λ r. ⌜ (r ≡ true) ↔ Ended n last (now (p .entry)) w ⌝ }
-{
-    let seen = get(p, n, Part::SEEN, w);
-    bits::meet(seen as u16, last) != 0
-}
+ghost use Rattle.rank_sets.specs.Ends.{Ended};
 
 // Whether the walk ends at node `w` and `w` is a hit.
 fn hit_at(p: &[u16], n: usize, last: u16, w: usize) -> bool

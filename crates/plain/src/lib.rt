@@ -1,14 +1,14 @@
 // The plain evaluation of one comparison at every node, in the part of the scratch that is lent for it.
-pub mod ends;
-mod marks;
-pub mod ranges;
+mod ends;
+mod equal;
+mod ordered;
 
 use ends::any_hit;
+use equal::equal_at;
 use layout::Part;
 use layout::words::put;
 use machine::Machine;
-use marks::equal_at;
-use ranges::ordered_at;
+use ordered::ordered_at;
 use reach::reach;
 use rule_parts::kinds::Operator;
 ghost use mathlib.Core.Bool.{true};
@@ -23,8 +23,8 @@ ghost use Rattle.layout.specs.Part.{ANSWER, Space};
 ghost use Rattle.layout.specs.Words.{cell, Wrote};
 ghost use Rattle.rule_parts.specs.Kinds.{operator};
 ghost use Rattle.machine.specs.Walks.{Meets, Hits};
-ghost use Rattle.plain.specs.Plain.{Answered, Small};
-ghost use Rattle.plain.specs.Ends.{Steady};
+ghost use Rattle.rank_sets.specs.Ends.{Small, Steady};
+ghost use Rattle.plain.specs.Plain.{Answered};
 
 // Whether the comparison of the two paths holds at node `v`.
 fn meets_at(p: &mut [u16], n: usize, m: Machine, v: usize, o: Operator) -> bool

@@ -1,12 +1,7 @@
 pub mod Less
-pub mod Trees
-pub mod Worked
-pub mod Extents
-pub mod Bounds
 pub mod Values
-pub mod Noting
 pub mod Opening
-pub mod Marking
+pub mod Arranged
 pub mod Insertion
 pub mod Halving
 pub mod Shifting

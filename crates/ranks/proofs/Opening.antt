@@ -12,14 +12,15 @@ use Rattle.document_spec.specs.Verdict.{Accepts}
 use Rattle.document.specs.Entries.{Start}
 use Rattle.layout.specs.Table.{offsetOf}
 use Rattle.layout.specs.Words.{NONE}
+use Rattle.table.proofs.Trees.{tree-size, tree-linked, tree-stands, tree-small}
 use Rattle.values.specs.Comes.{Comes}
 use Rattle.values.proofs.Cursor.{alone-comes}
-use Rattle.ranks.specs.Values.{Inside, Lasts, IsValue}
-use Rattle.ranks.specs.Notes.{noteAt, span, Held, Valued, Marked}
-use Rattle.ranks.specs.declared.notes.Note.{Note}
-use Rattle.ranks.proofs.Trees.{tree-size, tree-linked, tree-stands, tree-small}
-use Rattle.ranks.proofs.Values.{inside-lasts, inside-first, inside-more}
-use Rattle.ranks.proofs.Noting.{text-held}
+use Rattle.value_notes.specs.Values.{Inside, Lasts}
+use Rattle.value_notes.specs.Notes.{noteAt, span, Held, Valued, Marked}
+use Rattle.value_notes.specs.declared.notes.Note.{Note}
+use Rattle.value_notes.proofs.Values.{inside-lasts, inside-first, inside-more}
+use Rattle.value_notes.proofs.Noting.{text-held}
+use Rattle.ranks.specs.Values.{IsValue}
 
 module _ {s : List ℕ} {ns : List Node} {v : ℕ} {x : Note} (h : Valued s ns v x) where
   -- one span

@@ -15,11 +15,14 @@ use Rattle.layout.specs.Table.{RANK}
 use Rattle.layout.specs.Words.{word}
 use Rattle.layout.proofs.Frames.{within-then}
 use Rattle.table.specs.Links.{Linked}
-use Rattle.ranks.specs.Ranks.{Tabled, Ranked, Written}
-use Rattle.ranks.specs.Notes.{Noted}
+use Rattle.table.specs.Tabled.{Tabled}
+use Rattle.table.proofs.Trees.{tree-size}
+use Rattle.table.proofs.Worked.{worked-linked, worked-kept}
+use Rattle.value_notes.specs.Notes.{Noted}
+use Rattle.value_notes.proofs.Marking.{noted-worked}
+use Rattle.ranks.specs.Ranks.{Ranked, Written}
 use Rattle.ranks.specs.Sorting.{entry, Sorted, dense, Sorting, Numbered}
-use Rattle.ranks.proofs.Trees.{tree-size}
-use Rattle.ranks.proofs.Worked.{noted-worked, arranged-worked, worked-linked, worked-kept}
+use Rattle.ranks.proofs.Arranged.{arranged-worked}
 use Rattle.ranks.proofs.Dense.{dense-small, dense-lt, dense-same}
 
 -- ── From one direction to both: values and numbers are each in one of three orders ──

@@ -1,30 +1,17 @@
 -- Ranks: numbers of the nodes that are in the order of their string values.
-use Prim.Native.Nat.{ℕ, _*_, _≤_, _<_}
+use Prim.Native.Nat.{ℕ, _*_, _<_}
 use mathlib.Core.Path.{_≡_}
 use mathlib.Core.Logic.{_↔_}
 use mathlib.Core.Bool.{Bool}
 use mathlib.Core.List.{List}
-use lib.ListN.{length, getD}
+use lib.ListN.{length}
 use Rattle.xpath.specs.Meaning.{Less}
 use Rattle.xpath.specs.Order.{lessb}
 use Rattle.document_spec.specs.Library.{Node}
 use Rattle.document_spec.specs.Binary.{pick, stringOf}
-use Rattle.document_spec.specs.Verdict.{Accepts}
-use Rattle.layout.specs.Table.{COLUMNS, RANK, Room}
-use Rattle.layout.specs.Words.{word, Kept, Within}
+use Rattle.layout.specs.Table.{COLUMNS, RANK}
+use Rattle.layout.specs.Words.{word, Kept}
 use Rattle.table.specs.Links.{Linked}
-
--- t begins with the table of the tree of an accepted document with n nodes
-pub record Tabled (s : List ℕ) (n : ℕ) (t : List ℕ) : Type 0 where
-  pub nodes : List Node
-  pub accepts : Accepts s nodes
-  pub linked : Linked s nodes t
-  pub size : length nodes ≡ n
-  pub room : Room n t
-
--- work in the columns behind the tree's own: the tree stays, and all behind the table too
-abbrev pub Worked : ℕ → List ℕ → List ℕ → Type 0
-Worked n t t′ = Within n RANK COLUMNS t t′
 
 -- ── Ranks ──
 pub record Ranked (ns : List Node) (t : List ℕ) : Type 0 where

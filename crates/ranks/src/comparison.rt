@@ -1,8 +1,8 @@
 // The order of the string values of two nodes. Where both begin at the same node they need not be read: then one begins with the other, and how far they go decides.
-use crate::notes::get_note;
 use layout::Table;
 use layout::words::offset;
 use limits::Scratch;
+use value_notes::notes::get_note;
 use values::order::Order;
 use values::order::compare;
 use values::reading::Reading;
@@ -14,9 +14,10 @@ ghost use Rattle.document_spec.specs.Binary.{stringOf};
 ghost use Rattle.document_spec.specs.Verdict.{Accepts};
 ghost use Rattle.values.specs.Comes.{Comes};
 ghost use Rattle.values.specs.Ordered.{Ordered};
+ghost use Rattle.value_notes.specs.Values.{Inside};
+ghost use Rattle.value_notes.specs.Notes.{Marked};
 ghost use Rattle.ranks.specs.Ranks.{one, isSmaller};
-ghost use Rattle.ranks.specs.Values.{Inside, IsValue};
-ghost use Rattle.ranks.specs.Notes.{Marked};
+ghost use Rattle.ranks.specs.Values.{IsValue};
 
 // A string value: the node where it begins, the last node that gives text to it, and a cursor. An element without text has no such nodes.
 pub struct Value {

@@ -1,20 +1,18 @@
 // Ranks of the nodes of an accepted document: numbers that are in the order of the string values.
 mod comparison;
-mod marks;
 pub mod nodes;
-mod notes;
 mod number;
 mod sort;
-mod texts;
 
-use marks::mark_all;
 use number::number;
 use sort::sort;
+use value_notes::marks::mark_all;
 ghost use mathlib.Core.List.{List};
 ghost use Rattle.document_spec.specs.Library as Library;
 ghost use Rattle.document_spec.specs.Verdict.{Accepts};
 ghost use Rattle.table.specs.Links.{Linked};
-ghost use Rattle.ranks.specs.Ranks.{Tabled, Written};
+ghost use Rattle.table.specs.Tabled.{Tabled};
+ghost use Rattle.ranks.specs.Ranks.{Written};
 
 // The rank of each node, in the column for it: so values are compared here, and behind this only numbers.
 pub fn rank(s: &[u8], t: &mut [u16], n: usize)

@@ -9,7 +9,7 @@ ghost use Rattle.document_spec.specs.Binary.{stringOf};
 ghost use Rattle.document_spec.specs.Verdict.{Accepts};
 ghost use Rattle.table.specs.Links.{Linked};
 ghost use Rattle.values.specs.Comes.{Comes};
-ghost use Rattle.ranks.specs.Ranks.{Tabled};
+ghost use Rattle.table.specs.Tabled.{Tabled};
 
 // The beginning of the value of node `v`.
 pub fn open_node(s: &[u8], t: &[u16], n: usize, v: usize) -> Reading

@@ -6,7 +6,7 @@ use layout::Table;
 use layout::words::get;
 use layout::words::put;
 ghost use Rattle.ranks.specs.Sorting.{Entries, Numbered};
-ghost use Rattle.ranks.specs.Notes.{Marked};
+ghost use Rattle.value_notes.specs.Notes.{Marked};
 
 // The first node is compared with itself, and gets 0.
 pub fn number(s: &[u8], t: &mut [u16], n: usize)

@@ -6,7 +6,7 @@ use mathlib.Core.Bool.{Bool, true}
 use mathlib.Core.List.{List}
 use native.Mathlib.Omega.{arith}
 use native.Mathlib.Decide.{ℕ-discrete}
-use Rattle.ranks.specs.Ranks.{Worked}
+use Rattle.table.specs.Tabled.{Worked}
 use Rattle.layout.specs.Table.{TESTS}
 use Rattle.layout.specs.Words.{Within}
 use Rattle.layout.proofs.Frames.{within-none, within-then, within-more}

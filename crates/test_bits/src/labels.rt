@@ -14,7 +14,7 @@ ghost use Rattle.document_spec.specs.Library as Library;
 ghost use Rattle.document_spec.specs.Library.{at};
 ghost use Rattle.document_spec.specs.Verdict.{Accepts};
 ghost use Rattle.table.specs.Links.{Linked};
-ghost use Rattle.ranks.specs.Ranks.{Tabled};
+ghost use Rattle.table.specs.Tabled.{Tabled};
 ghost use Rattle.test_bits.specs.Columns.{Settled};
 
 // Some bytes of the document are some bytes of the rule.

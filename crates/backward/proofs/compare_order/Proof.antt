@@ -1,5 +1,5 @@
 -- `backward::compare_order` meets its contract.
-use Rattle.plain.proofs.Steady.{held-space, held-small}
+use Rattle.rank_sets.proofs.Steady.{held-at, held-space, held-small}
 use Rattle.backward.proofs.Linked.{linked-same}
 use Rattle.backward.proofs.Ranking.{bucketed-held, order-answered}
 use borrow.Author.Needs.{needs}
@@ -12,7 +12,7 @@ buckets-requires c κs = search needs
 sweep-requires : tie.Need-sweep-requires
 sweep-requires c κs =
     let a = c .before .before .before in let x = a .before .before .before .pre in let b = a .buckets .ensures in let h = bucketed-held (b .within) in
-    (held-space h (x .0), linked-same (h .middle) (x .3), b .buckets, held-small h (x .1), x .2)
+    (held-space h (x .0), linked-same (held-at h) (x .3), b .buckets, held-small h (x .1), x .2)
 
 answer-ordered-requires : tie.Need-answer-ordered-requires
 answer-ordered-requires c κs = search needs

@@ -1,6 +1,6 @@
 -- `constants::compare_value` meets its contract.
 use Rattle.document_spec.specs.Binary.{stringOf}
-use Rattle.ranks.proofs.Trees.{tree-linked}
+use Rattle.table.proofs.Trees.{tree-linked}
 use borrow.Author.Needs.{needs}
 use Rattle.constants.proofs.compare_value.Statement.{statement}
 use Rattle.constants.proofs.compare_value.Tie as tie

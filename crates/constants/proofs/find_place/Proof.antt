@@ -9,7 +9,7 @@ use Rattle.document_spec.specs.Binary.{stringOf}
 use Rattle.document_spec.specs.Verdict.{Accepts}
 use Rattle.values.specs.Ordered.{Ordered}
 use Rattle.ranks.specs.Ranks.{Ranked}
-use Rattle.ranks.proofs.Trees.{tree-size}
+use Rattle.table.proofs.Trees.{tree-size}
 use Rattle.constants.proofs.Placing.{valued, Around, around-all, around-smaller, around-greater, around-none, placed-same, placed-between}
 use borrow.Author.Needs.{needs}
 use Rattle.constants.proofs.find_place.Statement.{statement}

@@ -3,8 +3,9 @@ use Prim.Native.Nat.{_-_}
 use mathlib.Core.Logic.{Iff·trans, Iff·symm}
 use native.Mathlib.Omega.{arith}
 use Rattle.machine.specs.Walks.{Hits}
-use Rattle.plain.specs.Ends.{Held}
-use Rattle.plain.proofs.Steady.{held-none, held-then, held-space, held-answer}
+use Rattle.rank_sets.specs.Ends.{Held}
+use Rattle.rank_sets.proofs.Steady.{held-none, held-then, held-space}
+use Rattle.plain.proofs.Steady.{held-answer}
 use Rattle.plain.proofs.Walks.{hits-same}
 use Rattle.plain.proofs.Answering.{Answers, answers-none, answers-step, answers-all}
 use Rattle.plain.proofs.compare_constant.Statement.{statement}
@@ -38,7 +39,7 @@ loop-again c = let h = c .before .before .before .before .before .before .before
 )
 
 same-length : tie.Need-same-length Inv-loop μ-loop
-same-length c = c .before .loop .inv .0 .long
+same-length c = c .before .loop .inv .0 .middle .long
 
 returns : tie.Need-returns Inv-loop μ-loop
 returns c = let g = c .before .loop .inv in answers-all (c .loop-test .left) (g .0) (g .1)

@@ -6,8 +6,9 @@ use native.Mathlib.Omega.{arith}
 use Rattle.xpath.specs.Syntax.{Op}
 use Rattle.rule_parts.specs.Kinds.{operator}
 use Rattle.machine.specs.Walks.{Meets}
-use Rattle.plain.specs.Ends.{Held}
-use Rattle.plain.proofs.Steady.{held-none, held-then, held-space, held-small, held-answer}
+use Rattle.rank_sets.specs.Ends.{Held}
+use Rattle.rank_sets.proofs.Steady.{held-none, held-then, held-space, held-small}
+use Rattle.plain.proofs.Steady.{held-answer}
 use Rattle.plain.proofs.Walks.{meets-same}
 use Rattle.plain.proofs.Answering.{Answers, answers-none, answers-step, answers-all}
 use Rattle.plain.proofs.compare_paths.Statement.{statement}
@@ -41,7 +42,7 @@ loop-again c = let h = c .before .before .before .before .before .before .before
 )
 
 same-length : tie.Need-same-length Inv-loop μ-loop
-same-length c = c .before .loop .inv .0 .long
+same-length c = c .before .loop .inv .0 .middle .long
 
 returns : tie.Need-returns Inv-loop μ-loop
 returns c = let g = c .before .loop .inv in λ q e. answers-all (c .loop-test .left) (g .0) (g .1 q e)

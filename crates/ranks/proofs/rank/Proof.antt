@@ -1,5 +1,5 @@
 -- `ranks::rank` meets its contract.
-use Rattle.ranks.proofs.Marking.{arranged-marked}
+use Rattle.ranks.proofs.Arranged.{arranged-marked}
 use Rattle.ranks.proofs.Ranked.{written}
 use borrow.Author.Needs.{needs}
 use Rattle.ranks.proofs.rank.Statement.{statement}

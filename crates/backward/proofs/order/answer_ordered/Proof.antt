@@ -4,7 +4,7 @@ use mathlib.Core.Path.{_≡_, _∙_, subst₂}
 use mathlib.Core.Logic.{_↔_}
 use mathlib.Core.Bool.{true}
 use native.Mathlib.Omega.{arith}
-use Rattle.plain.specs.Ranges.{Across}
+use Rattle.rank_sets.specs.Ranges.{Across}
 use Rattle.backward.specs.Sweeps.{rangeOf}
 use Rattle.backward.proofs.Telling.{Telling, telling-none, telling-step, telling-space, telling-range, telling-all}
 use Rattle.backward.proofs.order.answer_ordered.Statement.{statement}

@@ -1,7 +1,7 @@
 -- `backward::order::range_at` meets its contract.
 use Prim.Native.Nat.{ℕ}
 use mathlib.Core.Path.{ap₂}
-use Rattle.plain.specs.declared.ranges.Range.{Range}
+use Rattle.rank_sets.specs.declared.ranges.Range.{Range}
 use borrow.Author.Needs.{needs}
 use Rattle.backward.proofs.order.range_at.Statement.{statement}
 use Rattle.backward.proofs.order.range_at.Tie as tie

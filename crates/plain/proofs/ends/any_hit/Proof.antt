@@ -5,8 +5,8 @@ use borrow.Author.Count.{below-none, below-more}
 use native.Mathlib.Omega.{arith}
 use Rattle.layout.specs.Part.{HIT}
 use Rattle.layout.specs.Words.{word}
-use Rattle.plain.specs.Ends.{Ended}
-use Rattle.plain.proofs.Telling.{tells-yes, tells-no, denied}
+use Rattle.rank_sets.specs.Ends.{Ended}
+use Rattle.rank_sets.proofs.Telling.{tells-yes, tells-no, denied}
 use Rattle.plain.proofs.ends.any_hit.Statement.{statement}
 use Rattle.plain.proofs.ends.any_hit.Tie as tie
 

@@ -1,7 +1,7 @@
 -- `plain::ends::hit_at` meets its contract.
 use mathlib.Core.Path.{_∙_, sym}
 use borrow.Author.Tests.{eqb-true, eq-eqb}
-use Rattle.plain.proofs.Telling.{tells-no, denied}
+use Rattle.rank_sets.proofs.Telling.{tells-no, denied}
 use borrow.Author.Needs.{needs}
 use Rattle.plain.proofs.ends.hit_at.Statement.{statement}
 use Rattle.plain.proofs.ends.hit_at.Tie as tie

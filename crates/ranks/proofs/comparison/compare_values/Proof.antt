@@ -2,7 +2,7 @@
 use mathlib.Core.Path.{sym}
 use native.Mathlib.Omega.{arith}
 use Rattle.document_spec.specs.Binary.{stringOf}
-use Rattle.ranks.proofs.Trees.{tree-small}
+use Rattle.table.proofs.Trees.{tree-small}
 use Rattle.ranks.proofs.Values.{lasts-same, lasts-less}
 use borrow.Author.Needs.{needs}
 use Rattle.ranks.proofs.comparison.compare_values.Statement.{statement}

@@ -5,8 +5,8 @@ use mathlib.Core.List.{List}
 use native.Mathlib.Omega.{arith}
 use Rattle.document_spec.specs.Library.{Node}
 use Rattle.document_spec.specs.Verdict.{Accepts}
-use Rattle.ranks.specs.Notes.{Valued, Marked}
-use Rattle.ranks.proofs.Values.{inside-lasts}
+use Rattle.value_notes.specs.Notes.{Valued, Marked}
+use Rattle.value_notes.proofs.Values.{inside-lasts}
 use Rattle.ranks.proofs.Opening.{note-whole, note-several}
 use borrow.Author.Needs.{needs}
 use Rattle.ranks.proofs.comparison.value_of.Statement.{statement}

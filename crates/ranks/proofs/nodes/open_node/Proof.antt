@@ -2,7 +2,7 @@
 use mathlib.Core.Path.{sym, subst}
 use native.Mathlib.Omega.{arith}
 use Rattle.document.specs.Entries.{Stands}
-use Rattle.ranks.proofs.Trees.{tree-size, tree-stands}
+use Rattle.table.proofs.Trees.{tree-size, tree-stands}
 use borrow.Author.Needs.{needs}
 use Rattle.ranks.proofs.nodes.open_node.Statement.{statement}
 use Rattle.ranks.proofs.nodes.open_node.Tie as tie

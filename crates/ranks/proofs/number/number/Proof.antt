@@ -2,7 +2,7 @@
 use Prim.Native.Nat.{_-_}
 use native.Mathlib.Omega.{arith}
 use native.Mathlib.Numerals.{add-one}
-use Rattle.ranks.proofs.Marking.{arranged-marked}
+use Rattle.ranks.proofs.Arranged.{arranged-marked}
 use Rattle.ranks.proofs.Numbering.{Numbering, numbering-none, numbering-below, numbering-last, numbering-step, numbering-all}
 use Rattle.ranks.proofs.number.number.Statement.{statement}
 use Rattle.ranks.proofs.number.number.Tie as tie

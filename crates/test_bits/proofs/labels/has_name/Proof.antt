@@ -8,7 +8,7 @@ use Rattle.document_spec.specs.Library.{Node}
 use Rattle.document_spec.specs.Verdict.{Accepts}
 use Rattle.document.specs.Entries.{Stands}
 use Rattle.table.specs.Links.{Linked}
-use Rattle.ranks.proofs.Trees.{tree-stands}
+use Rattle.table.proofs.Trees.{tree-stands}
 use Rattle.test_bits.proofs.Inside.{label-inside}
 use borrow.Author.Needs.{needs}
 use Rattle.test_bits.proofs.labels.has_name.Statement.{statement}

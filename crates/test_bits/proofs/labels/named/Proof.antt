@@ -8,8 +8,8 @@ use lib.Seq.{slice}
 use Rattle.document_spec.specs.Library.{Node, at}
 use Rattle.document_spec.specs.Verdict.{Accepts}
 use Rattle.table.specs.Links.{Linked}
-use Rattle.ranks.specs.Ranks.{Worked}
-use Rattle.ranks.proofs.Worked.{worked-linked, worked-tree}
+use Rattle.table.specs.Tabled.{Worked}
+use Rattle.table.proofs.Worked.{worked-linked, worked-tree}
 use Rattle.test_bits.proofs.Settling.{Settling, settling-none, settling-step, settling-all, settling-worked}
 use Rattle.test_bits.proofs.labels.named.Statement.{statement}
 use Rattle.test_bits.proofs.labels.named.Tie as tie

@@ -1,0 +1,5 @@
+pub mod Extents
+pub mod Bounds
+pub mod Values
+pub mod Noting
+pub mod Marking
