@@ -9,7 +9,7 @@ use lib.ListN.{length, getD, set, length-set}
 use lib.Seq.{getD-set-same, getD-set-other}
 use Rattle.layout.proofs.Frames.{frame-none, frame-then, frame-wider}
 use Rattle.matrices.proofs.Drawing.{redrawn-other}
-use Rattle.first_snippets.specs.Groups.{Aside, Rest}
+use Rattle.group_ends.specs.Ends.{Aside, Rest}
 use Rattle.layout.specs.Blocks.{rowsAt}
 use Rattle.equalities.specs.Steps.{Zeroed, Cleared, Empty}
 

@@ -38,8 +38,9 @@ use Rattle.skeletons.specs.Skeletons.{Bucketed}
 use Rattle.halving.specs.Halving.{Family, Inside, Within, Sets, Marked, Topped, Halved, Halving, Counts}
 use Rattle.halving.proofs.Families.{topped-of, sets-marked, halved-yielded, yielded-halved}
 use Rattle.halving.proofs.Counting.{counts-sets}
-use Rattle.first_snippets.specs.Groups.{Enough, Sizes, Rest, Gains, Base, AddedAll}
-use Rattle.first_snippets.proofs.Rest.{rest-within, powers-rest, loops-rest, stage-rest, stage-shape, sizes-rest}
+use Rattle.group_ends.specs.Ends.{Enough, Sizes, Rest}
+use Rattle.first_snippets.specs.Groups.{Gains, Base, AddedAll}
+use Rattle.group_ends.proofs.Rest.{rest-within, powers-rest, loops-rest, stage-rest, stage-shape, sizes-rest}
 use Rattle.first_snippets.proofs.Lengths.{exponent-below}
 use Rattle.equalities.specs.Equalities.{Answers, Evaluated}
 use Rattle.equalities.specs.Steps.{Cleared, Empty, Founded, Prepares, FromFirst, Gathers}

@@ -18,7 +18,7 @@ ghost use Rattle.xpath.specs.Tree.{Tree};
 ghost use Rattle.loops.specs.Loops.{Stage};
 ghost use Rattle.layout.specs.Blocks.{BLOCKS};
 ghost use Rattle.skeletons.specs.Shape.{Shape};
-ghost use Rattle.first_snippets.specs.Groups.{Enough, Sizes};
+ghost use Rattle.group_ends.specs.Ends.{Enough, Sizes};
 ghost use Rattle.equalities.specs.Equalities.{Evaluated};
 ghost use Rattle.equalities.specs.Steps.{Empty, Founded, Prepares, Gathers};
 

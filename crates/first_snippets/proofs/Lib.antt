@@ -1,8 +1,5 @@
-pub mod Rest
 pub mod Gains
 pub mod Crossing
-pub mod Owning
-pub mod Ascending
 pub mod Lengths
 pub mod Yielding
 pub mod Descending

@@ -21,7 +21,7 @@ use Rattle.powers.proofs.Places.{fits-of}
 use Rattle.powers.proofs.Ancestors.{one-above}
 use Rattle.first_snippets.specs.Groups.{Gains}
 use Rattle.first_snippets.specs.Steps.{Opposite, Crossed, EdgeAt, Gained, UpperPart, LowerPart, BothParts}
-use Rattle.first_snippets.proofs.Rest.{rest-then, rest-rows, ladder-rest}
+use Rattle.group_ends.proofs.Rest.{rest-then, rest-rows, ladder-rest}
 use Rattle.first_snippets.proofs.Gains.{gains-then, gains-rows}
 use Rattle.first_snippets.proofs.Crossing.{opposite-iff}
 use Rattle.first_snippets.proofs.Lengths.{exponent-below, exponent-one, one-length, stretch-upper}
