@@ -1,7 +1,7 @@
 -- Laws of the rows that become 0.
 use Prim.Native.Nat.{ℕ, suc, _+_, _*_, _/_, _%_, _≤_, _<_}
 use mathlib.Core.Path.{_≡_, refl, sym, ap, _∙_, subst}
-use mathlib.Core.Logic.{_≢_, _⊎_, inl, inr}
+use mathlib.Core.Logic.{_≢_, _⊎_, inl, inr, ⊎-elim}
 use mathlib.Core.List.{List}
 use native.Mathlib.Nat.{eq-or-lt-of-le, mul-le-mul-right, div-add-mod', div-lt-iff-lt-mul, mod-lt}
 use native.Mathlib.Omega.{arith}
@@ -55,11 +55,8 @@ module _ {n b : ℕ} {p p′ : List ℕ} (f : Cleared n (b * n) p p′) where
 
   -- all else stays
   pub cleared-rest : 0 < n → Rest 16 n b p p′
-  cleared-rest some = record {
-    long = f .long;
-    front = λ k h. f .other k (λ l i r s e. omega arith);
-    behind = λ k h aside. f .other k (λ l i r s. place k aside l i r s);
-  }
+  cleared-rest some =
+      record { same = record { long = f .long; same = λ k. ⊎-elim (λ h. f .other k (λ l i r s e. omega arith)) (λ (h, aside). f .other k (λ l i r s. place k aside l i r s)) } }
     where
       place : (k : ℕ) → Aside n b k → (l i : ℕ) → l < b * n → i < 16 → k ≢ rowsAt n l + i
       place k aside l i r s e =

@@ -1,7 +1,7 @@
 -- From the groups of equal values to all snippets, and from those to the answers.
 use Prim.Native.Nat.{ℕ, _+_, _*_, _^_, _≤_, _<_}
 use mathlib.Core.Path.{_≡_, refl, sym, ap, _∙_, subst}
-use mathlib.Core.Logic.{_⊎_, inl, inr, _↔_}
+use mathlib.Core.Logic.{_⊎_, inl, inr, ⊎-elim, _↔_}
 use mathlib.Core.Bool.{false≢true}
 use mathlib.Core.List.{List}
 use lib.ListN.{length}
@@ -73,7 +73,7 @@ founded-rest : {P R : XPath} {t : Tree} {m : Machine} {c n b : ℕ} {p p′ : Li
 founded-rest late r f = record { stage = stage-rest r late (f .stage); loops = loops-rest r (f .loops); powers = powers-rest r (f .powers); enough = f .enough }
 
 halving-rest : {n b : ℕ} {p p′ : List ℕ} → Halving n b p p′ → Rest 16 n b p p′
-halving-rest h = record { long = h .long; front = λ k l. h .other k (λ e y i a c d z. omega arith); behind = λ k l aside. h .other k aside }
+halving-rest h = record { same = record { long = h .long; same = λ k. ⊎-elim (λ l. h .other k (λ e y i a c d z. omega arith)) (λ (l, aside). h .other k aside) } }
 
 bucketed-rest : {n b : ℕ} {p p′ : List ℕ} → Bucketed n p p′ → Rest 9 n b p p′
 bucketed-rest g = rest-within (omega arith) (g .within)

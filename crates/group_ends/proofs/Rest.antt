@@ -1,7 +1,7 @@
 -- Laws of what may change: columns from one on, and the snippets' rows; and what stays by them.
 use Prim.Native.Nat.{ℕ, suc, _+_, _*_, _/_, _%_, _≤_, _<_}
-use mathlib.Core.Path.{_≡_, refl, sym, _∙_, subst}
-use mathlib.Core.Logic.{_⊎_, inl, inr, _↔_}
+use mathlib.Core.Path.{_≡_, refl, sym, subst}
+use mathlib.Core.Logic.{_⊎_, inl, inr, ⊎-elim, ⊎-map, _↔_}
 use mathlib.Core.Bool.{Bool, true, false}
 use mathlib.Core.List.{List}
 use lib.ListN.{length}
@@ -19,6 +19,7 @@ use Rattle.layout.specs.Groups.{MARKED}
 use Rattle.layout.specs.Part.{STAYS}
 use Rattle.layout.specs.Table.{PARENT, RANK, column}
 use Rattle.layout.specs.Words.{NONE, word, Within}
+use Rattle.layout.proofs.Frames.{within-frame, same-none, same-then, same-wider, frame-same}
 use Rattle.table.specs.Links.{Points}
 use Rattle.machine.specs.declared.Machine.{Machine}
 use Rattle.machine.specs.Meaning.{IsStep, Drawn}
@@ -34,26 +35,23 @@ use Rattle.skeletons.proofs.Shape.{drawn-shape}
 use Rattle.group_ends.specs.Ends.{Setting, Sizes, Given, Aside, Rest}
 
 pub rest-none : (c n b : ℕ) (p : List ℕ) → Rest c n b p p
-rest-none c n b p = record { long = refl; front = λ k h. refl; behind = λ k h f. refl }
+rest-none c n b p = record { same = same-none p }
 
 pub rest-then : {c n b : ℕ} {p p₁ p₂ : List ℕ} → Rest c n b p p₁ → Rest c n b p₁ p₂ → Rest c n b p p₂
-rest-then g h = record { long = h .long ∙ g .long; front = λ k r. h .front k r ∙ g .front k r; behind = λ k r f. h .behind k r f ∙ g .behind k r f }
+rest-then g h = record { same = same-then (g .same) (h .same) }
 
 -- fewer columns are among more
 pub rest-more : {c a n b : ℕ} {p p′ : List ℕ} → a ≤ c → Rest c n b p p′ → Rest a n b p p′
-rest-more {c} {a} {n} l h = let x : a * n ≤ c * n = mul-le-mul-right n l in record { long = h .long; front = λ k q. h .front k (omega arith); behind = h .behind }
+rest-more {c} {a} {n} l h = let x : a * n ≤ c * n = mul-le-mul-right n l in record { same = same-wider (λ k. ⊎-map (λ q. omega arith) (λ q. q)) (h .same) }
 
 -- columns alone
 pub rest-within : {c d n b : ℕ} {p p′ : List ℕ} → d ≤ 16 → Within n c d p p′ → Rest c n b p p′
-rest-within {d = d} {n} l h = let x : d * n ≤ 16 * n = mul-le-mul-right n l in record { long = h .long; front = h .front; behind = λ k q f. h .behind k (omega arith) }
+rest-within {d = d} {n} l h = let x : d * n ≤ 16 * n = mul-le-mul-right n l in record { same = frame-same (λ k. ⊎-map (λ q. q) (λ (q, f). omega arith)) (within-frame h) }
 
 -- the rows of one exponent and node
 pub rest-rows : {n b k y : ℕ} {p p′ : List ℕ} → k < b → y < n → Redrawn (snippetAt n k y) p p′ → Rest 16 n b p p′
-rest-rows {k = k} {y} low node h = record {
-  long = h .long;
-  front = λ l q. h .front l (omega arith);
-  behind = λ l q f. redrawn-other h l (λ i s. f k y i low node s);
-}
+rest-rows {k = k} {y} low node h =
+    record { same = record { long = h .long; same = λ l. ⊎-elim (λ q. h .front l (omega arith)) (λ (q, f). redrawn-other h l (λ i s. f k y i low node s)) } }
 
 -- ── What stays ──
 -- the words of a power are no rows of snippets
@@ -64,21 +62,21 @@ power-aside n b k y l h (inr q) e z i le r s = λ x. absurd (let f : ⊥ = omega
 module _ {c n b : ℕ} {p p′ : List ℕ} (h : Rest c n b p p′) where
   pub powers-rest : {P R : XPath} {t : Tree} → Powers P R t n p b → Powers P R t n p′ b
   powers-rest f k y l r =
-      power-kept (λ i a q. h .behind i (omega arith) (power-aside n b k y i a (inl q)))
-      (h .behind (upperAt n k y) (omega arith) (power-aside n b k y (upperAt n k y) (omega arith) (inr refl))) (f k y l r)
+      power-kept (λ i a q. h .same .same i (inr (omega arith, power-aside n b k y i a (inl q))))
+      (h .same .same (upperAt n k y) (inr (omega arith, power-aside n b k y (upperAt n k y) (omega arith) (inr refl)))) (f k y l r)
 
   -- the loops stand before the powers
   loop-aside : (k : ℕ) → k < 32 * n → Aside n b k
   loop-aside k q e z i l r s = λ x. absurd (let f : ⊥ = omega arith in f)
 
   pub same-word : (a v : ℕ) → a < c → v < n → word p′ n a v ≡ word p n a v
-  same-word a v l r = let y : suc a * n ≤ c * n = mul-le-mul-right n l in h .front (a * n + v) (omega arith)
+  same-word a v l r = let y : suc a * n ≤ c * n = mul-le-mul-right n l in h .same .same (a * n + v) (inl (omega arith))
 
   pub sizes-rest : Sizes n b p → Sizes n b p′
-  sizes-rest s = let r = s .room in let l = h .long in record { few = s .few; low = s .low; room = omega arith }
+  sizes-rest s = let r = s .room in let l = h .same .long in record { few = s .few; low = s .low; room = omega arith }
 
   pub loops-rest : {P R : XPath} {t : Tree} → Loops P R t n p → Loops P R t n p′
-  loops-rest {P} {R} {t} f v i j r l q = subst (λ (w : ℕ). (bit w j ≡ true) ↔ Comes P R t i v j v) (sym (h .behind (16 * n + 16 * v + i) (omega arith) (loop-aside (16 * n + 16 * v + i) (omega arith)))) (f v i j r l q)
+  loops-rest {P} {R} {t} f v i j r l q = subst (λ (w : ℕ). (bit w j ≡ true) ↔ Comes P R t i v j v) (sym (h .same .same (16 * n + 16 * v + i) (inr (omega arith, loop-aside (16 * n + 16 * v + i) (omega arith))))) (f v i j r l q)
 
   pub ranks-rest : (t : Tree) {d : List ℕ} {r : ℕ} → RANK < c → Ranks t d n r p → Ranks t d n r p′
   ranks-rest t {d} {r} l f w q = subst (λ (x : ℕ). (x ≡ r) ↔ (t .value w ≡ d)) (sym (same-word RANK w l q)) (f w q)
@@ -139,7 +137,7 @@ pub ladder-rest : {P R : XPath} {t : Tree} {c n b : ℕ} {p p′ : List ℕ} →
 ladder-rest h l = record { formed = l .formed; few = l .few; loops = loops-rest h (l .loops); powers = powers-rest h (l .powers) }
 
 pub stretch-kept : {c n b y len : ℕ} {p p′ : List ℕ} → Rest c n b p p′ → Stretch n b y len p → Stretch n b y len p′
-stretch-kept h s = let r = s .room in let l = h .long in record {
+stretch-kept h s = let r = s .room in let l = h .same .long in record {
   first = s .first;
   second = s .second;
   tree = s .tree;

@@ -1,10 +1,9 @@
 -- Where a comparison's paths end among the nodes of one value: what is given, what may change, and the positions at each skeleton node that end inside it or beside it.
 use Prim.Native.Nat.{ℕ, _+_, _*_, _^_, _≤_, _<_}
-use mathlib.Core.Path.{_≡_}
-use mathlib.Core.Logic.{_≢_}
+use mathlib.Core.Logic.{_≢_, _⊎_}
 use mathlib.Core.Bool.{Bool, true, false}
 use mathlib.Core.List.{List}
-use lib.ListN.{length, getD}
+use lib.ListN.{length}
 use Rattle.limits.specs.Limits.{documentNodes, positions, nodeDigits, wordsPerDigit}
 use Rattle.xpath.specs.Syntax.{XPath}
 use Rattle.xpath.specs.Tree.{Tree, Down}
@@ -13,7 +12,7 @@ use Rattle.snippets.specs.Ways.{In, FromChild}
 use Rattle.layout.specs.Blocks.{BLOCKS, snippetAt}
 use Rattle.layout.specs.Groups.{IN, LEFTIN, RIGHTIN}
 use Rattle.layout.specs.Table.{COLUMNS}
-use Rattle.layout.specs.Words.{word}
+use Rattle.layout.specs.Words.{word, Same}
 use Rattle.machine.specs.declared.Machine.{Machine}
 use Rattle.matrices.specs.Matrices.{Exactly}
 use Rattle.loops.specs.Loops.{Stage, Loops}
@@ -60,9 +59,7 @@ Aside n b k = (e y i : ℕ) → e < b → y < n → i < positions → k ≢ snip
 
 -- only the columns from c on and the snippets' rows may be different
 pub record Rest (c n b : ℕ) (p p′ : List ℕ) : Type 0 where
-  pub long : length p′ ≡ length p
-  pub front : (k : ℕ) → k < c * n → getD p′ k 0 ≡ getD p k 0
-  pub behind : (k : ℕ) → COLUMNS * n ≤ k → Aside n b k → getD p′ k 0 ≡ getD p k 0
+  pub same : Same (λ k. (k < c * n) ⊎ ((COLUMNS * n ≤ k) × Aside n b k)) p p′
 
 -- ── What is found ──
 module _ (P R : XPath) (t : Tree) (d : List ℕ) (n : ℕ) (p : List ℕ) where

@@ -11,6 +11,7 @@ use lib.ListN.{getD}
 use borrow.Author.Tests.{eqb-true, eq-eqb}
 use Rattle.bits.specs.Sets.{bit, or, and, is}
 use Rattle.bits.proofs.SetLaws.{bit-none}
+use Rattle.matrices.specs.Matrices.{Exactly}
 use Rattle.matrices.proofs.Members.{or-cases, or-left, or-right, and-both, and-parts, lowest}
 use Rattle.retracing.specs.Backward.{Common, Precedes, Sources}
 
@@ -63,7 +64,7 @@ preceding-step {rows} {w} {i} {r} {r′} g l row =
       λ c. row k .1 (inl (g .done k (omega arith) .1 c)),
     )
 
-pub preceding-all : {rows : List ℕ} {w i r : ℕ} → Preceding rows w i r → 16 ≤ i → (k : ℕ) → k < 16 → (bit r k ≡ true) ↔ Precedes rows w k
+pub preceding-all : {rows : List ℕ} {w i r : ℕ} → Preceding rows w i r → 16 ≤ i → Exactly r (Precedes rows w)
 preceding-all g l k h = g .done k (omega arith)
 
 -- ── What precedes the members of two sets ──

@@ -11,6 +11,7 @@ use Rattle.layout.specs.Table.{LEFT, RIGHT, PARENT}
 use Rattle.layout.specs.Words.{word}
 use Rattle.machine.specs.declared.Machine.{Machine}
 use Rattle.machine.specs.Walks.{Leads, left, right, fromLeft, fromRight, stays}
+use Rattle.matrices.specs.Matrices.{Exactly}
 use Rattle.reach.specs.Work.{At, Added}
 use Rattle.retracing.specs.Backward.{LinkedBothWays, Sources, Descends, Into}
 use Rattle.reach.proofs.Adding.{added-then, added-as}
@@ -24,10 +25,10 @@ pub record Ways (m : Machine) (n : ℕ) (p : List ℕ) (u s l r v here fromL fro
   pub down : ℕ
   pub held : brackets ≡ word p n STAYS u
   pub downs : v < n → (j : ℕ) → (bit down j ≡ true) ↔ Descends m n p v u j
-  pub stay : (i : ℕ) → i < 16 → (bit here i ≡ true) ↔ Sources (m .rows) s brackets i
-  pub byLeft : (i : ℕ) → i < 16 → (bit fromL i ≡ true) ↔ Sources (m .rows) s (m .leftup) i
-  pub byRight : (i : ℕ) → i < 16 → (bit fromR i ≡ true) ↔ Sources (m .rows) s (m .rightup) i
-  pub byParent : (i : ℕ) → i < 16 → (bit fromUp i ≡ true) ↔ Sources (m .rows) s down i
+  pub stay : Exactly here (Sources (m .rows) s brackets)
+  pub byLeft : Exactly fromL (Sources (m .rows) s (m .leftup))
+  pub byRight : Exactly fromR (Sources (m .rows) s (m .rightup))
+  pub byParent : Exactly fromUp (Sources (m .rows) s down)
 
 module _ {m : Machine} {n : ℕ} {p : List ℕ} {u s l r v here fromL fromR fromUp : ℕ} (linked : LinkedBothWays n p) (inside : u < n)
     (w : Ways m n p u s l r v here fromL fromR fromUp) where

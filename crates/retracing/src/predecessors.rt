@@ -8,6 +8,7 @@ ghost use mathlib.Core.Path.{_≡_};
 ghost use Prim.Native.Nat.{ℕ, _<_};
 ghost use Rattle.limits.specs.Limits.{positions};
 ghost use Rattle.bits.specs.Sets.{bit};
+ghost use Rattle.matrices.specs.Matrices.{Exactly};
 ghost use Rattle.retracing.specs.Backward.{Common, Precedes};
 
 // The set with `i` too, if a member of `w` is in its row.
@@ -23,7 +24,7 @@ fn with_row(r: u16, row: u16, i: usize, w: u16) -> u16
 
 // The positions that a member of `w` follows.
 pub fn predecessors(rows: [u16; Rule::MAX_POSITIONS], w: u16) -> u16
-    ensures { λ r. ⌜ ((i : ℕ) → i < positions → (bit r i ≡ true) ↔ Precedes rows w i) ⌝ }
+    ensures { λ r. ⌜ Exactly r (Precedes rows w) ⌝ }
 {
     let mut r = 0;
     let mut i = 0;

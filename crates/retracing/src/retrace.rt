@@ -13,8 +13,8 @@ ghost use mathlib.Core.Path.{_≡_};
 ghost use mathlib.Core.Bool.{true};
 ghost use mathlib.Core.Logic.{_↔_};
 ghost use Prim.Native.Nat.{ℕ, _<_};
-ghost use Rattle.limits.specs.Limits.{positions};
 ghost use Rattle.bits.specs.Sets.{bit};
+ghost use Rattle.matrices.specs.Matrices.{Exactly};
 ghost use Rattle.layout.specs.Part.{NODES, Space};
 ghost use Rattle.reach.specs.Work.{Work, Added};
 ghost use Rattle.retracing.specs.Backward.{LinkedBothWays, Descends, Sources, Into, Before};
@@ -34,7 +34,7 @@ fn downward(p: &[u16], n: usize, m: Machine, v: usize, u: usize) -> u16
 
 // The positions that one of `s` follows which is one of `steps` too. Mostly there is none, and then no row is looked at.
 fn sources(rows: [u16; Rule::MAX_POSITIONS], s: u16, steps: u16) -> u16
-    ensures { λ r. ⌜ ((i : ℕ) → i < positions → (bit r i ≡ true) ↔ Sources rows s steps i) ⌝ }
+    ensures { λ r. ⌜ Exactly r (Sources rows s steps) ⌝ }
 {
     let w = meet(s, steps);
     if w == 0 {

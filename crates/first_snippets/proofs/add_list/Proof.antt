@@ -47,7 +47,7 @@ loop-again c =
     (omega arith, listed-step (omega arith) (c .before .before .before .before .get .ensures .0) (c .before .before .before .before .before .before .before .loop .inv .1) (c .before .before .add-rank .ensures))
 
 same-length : tie.Need-same-length Inv-loop μ-loop
-same-length c = c .before .loop .inv .1 .rest .long
+same-length c = c .before .loop .inv .1 .rest .same .long
 
 returns : tie.Need-returns Inv-loop μ-loop
 returns c =
