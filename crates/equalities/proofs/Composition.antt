@@ -39,9 +39,10 @@ use Rattle.halving.specs.Halving.{Family, Inside, Within, Sets, Marked, Topped,
 use Rattle.halving.proofs.Families.{topped-of, sets-marked, halved-yielded, yielded-halved}
 use Rattle.halving.proofs.Counting.{counts-sets}
 use Rattle.group_ends.specs.Ends.{Enough, Sizes, Rest}
-use Rattle.first_snippets.specs.Groups.{Gains, Base, AddedAll}
+use Rattle.edge_snippets.specs.Edges.{Gains}
+use Rattle.first_snippets.specs.Groups.{Base, AddedAll}
 use Rattle.group_ends.proofs.Rest.{rest-within, powers-rest, loops-rest, stage-rest, stage-shape, sizes-rest}
-use Rattle.first_snippets.proofs.Lengths.{exponent-below}
+use Rattle.edge_snippets.proofs.Lengths.{exponent-below}
 use Rattle.equalities.specs.Equalities.{Answers, Evaluated}
 use Rattle.equalities.specs.Steps.{Cleared, Empty, Founded, Prepares, FromFirst, Gathers}
 use Rattle.equalities.proofs.Clearing.{cleared-empty, cleared-rest}

@@ -27,7 +27,7 @@ use Rattle.first_snippets.specs.Groups.{Yields, Base, Grounds, Added, Of
 use Rattle.group_ends.specs.Steps.{Rose}
 use Rattle.first_snippets.specs.Steps.{Sank}
 use Rattle.group_ends.proofs.Rest.{rest-none, rest-then, rest-more, rest-within, same-word, powers-rest, loops-rest, sizes-rest, stage-rest, stage-shape, setting-rest}
-use Rattle.first_snippets.proofs.Gains.{gains-same, gains-then, gains-iff, gains-before}
+use Rattle.edge_snippets.proofs.Gains.{gains-same, gains-then, gains-iff, gains-before}
 
 -- ── One value ──
 marked-setting : {P R : XPath} {t : Tree} {d : List ℕ} {m : Machine} {n b r : ℕ} {p p₁ : List ℕ} → Grouped n r p p₁ → Stage P R t m n p → Loops P R t n p → Powers P R t n p b → Ranks t d n r p → Setting P R t d m n b r p₁

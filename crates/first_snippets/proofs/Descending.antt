@@ -26,11 +26,12 @@ use Rattle.powers.specs.Ladder.{Ladder}
 use Rattle.skeletons.specs.Skeletons.{IsNoted, Arrives, Ascent}
 use Rattle.skeletons.proofs.Judging.{empty-block}
 use Rattle.group_ends.specs.Ends.{inward, Setting, Rest, Risen}
-use Rattle.first_snippets.specs.Groups.{OfFirst, Gains, OfEdge, Yields, Sunk}
+use Rattle.edge_snippets.specs.Edges.{OfFirst, Gains, OfEdge, EdgeAt, Gained, BothParts}
+use Rattle.first_snippets.specs.Groups.{Yields, Sunk}
 use Rattle.group_ends.specs.Steps.{Outside}
-use Rattle.first_snippets.specs.Steps.{EdgeAt, Gained, BothParts, Sinks, SinksBy, Sank}
+use Rattle.first_snippets.specs.Steps.{Sinks, SinksBy, Sank}
 use Rattle.group_ends.proofs.Rest.{rest-none, rest-then, rest-more, rest-within, same-word, setting-rest, ladder-of}
-use Rattle.first_snippets.proofs.Gains.{gains-same, gains-then, gains-iff, gains-before}
+use Rattle.edge_snippets.proofs.Gains.{gains-same, gains-then, gains-iff, gains-before}
 use Rattle.group_ends.proofs.Ascending.{exactly-none, top-none}
 
 -- ── One node ──

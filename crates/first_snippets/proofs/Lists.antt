@@ -20,7 +20,7 @@ use Rattle.group_ends.specs.Ends.{Rest}
 use Rattle.first_snippets.specs.Groups.{Base, OfRanks, AddedOf, Listed, Listing, AddedAll}
 use Rattle.first_snippets.specs.Steps.{Ranged}
 use Rattle.group_ends.proofs.Rest.{rest-then, rest-more, rest-within, same-word, powers-rest, loops-rest, stage-rest}
-use Rattle.first_snippets.proofs.Gains.{gains-iff, gains-before}
+use Rattle.edge_snippets.proofs.Gains.{gains-iff, gains-before}
 use Rattle.first_snippets.proofs.Adding.{buckets-same, base-by, added-none, added-then}
 
 -- ── The list of all ranks ──

@@ -1,46 +1,28 @@
 -- What the first snippets of one value yield directly, in the columns and the rows of a comparison's part.
-use Prim.Native.Nat.{ℕ, suc, _+_, _^_, _≤_, _<_}
+use Prim.Native.Nat.{ℕ, _≤_, _<_}
 use mathlib.Core.Path.{_≡_}
-use mathlib.Core.Logic.{_⊎_, _↔_}
 use mathlib.Core.List.{List}
-use lib.ListN.{getD}
-use Rattle.limits.specs.Limits.{positions}
-use Rattle.xpath.specs.Syntax.{XPath, size}
-use Rattle.xpath.specs.Tree.{Tree, Down}
+use Rattle.xpath.specs.Syntax.{XPath}
+use Rattle.xpath.specs.Tree.{Tree}
 use Rattle.snippets.specs.Snippets.{Skeleton, Edge}
 use Rattle.snippets.specs.Ways.{Above}
-use Rattle.snippets.specs.Direct.{Upper, Lower, Direct}
-use Rattle.layout.specs.Blocks.{snippetAt}
+use Rattle.snippets.specs.Direct.{Direct}
 use Rattle.layout.specs.Groups.{MARKED, LIST, ABOVE}
 use Rattle.layout.specs.Table.{RANK}
 use Rattle.layout.specs.Words.{word}
 use Rattle.machine.specs.declared.Machine.{Machine}
-use Rattle.matrices.specs.Matrices.{Exactly, Related}
+use Rattle.matrices.specs.Matrices.{Exactly}
 use Rattle.loops.specs.Loops.{Stage, Loops}
 use Rattle.powers.specs.Powers.{Powers}
 use Rattle.skeletons.specs.Skeletons.{Buckets, Ranks}
 use Rattle.group_ends.specs.Ends.{Enough, Sizes, Rest}
-
--- the members of w are the positions of the first path
-abbrev pub OfFirst : XPath → ℕ → Type 0
-OfFirst P w = Exactly w (λ i. i ≤ size P)
-
--- the snippets' rows have what they had, and what A says
-pub record Gains (t : Tree) (n b : ℕ) (A : ℕ → ℕ → ℕ → ℕ → ℕ → Type 0) (p p′ : List ℕ) : Type 0 where
-  pub rows : (k x y i j : ℕ) → k < b → y < n → Down t x y (2 ^ k) → i < positions → j < positions
-      → Related p′ (snippetAt n k y) i j ↔ (Related p (snippetAt n k y) i j ⊎ A k x y i j)
-  -- nothing where no node lies 2^k above y
-  pub top : (k y i : ℕ) → k < b → y < n → i < positions → ((x : ℕ) → ¬ Down t x y (2 ^ k)) → getD p′ (snippetAt n k y + i) 0 ≡ getD p (snippetAt n k y + i) 0
+use Rattle.edge_snippets.specs.Edges.{OfFirst, Gains, OfEdge}
 
 -- ── What is found ──
 module _ (P R : XPath) (t : Tree) (d : List ℕ) where
-  -- what the edge above y yields, where its upper node is x and its length is l
-  abbrev pub OfEdge : (x y l k a b i j : ℕ) → Type 0
-  OfEdge x y l k a b i j = (2 ^ k ≤ l) × (l < 2 ^ suc k) × (Upper t P R d k x y a b i j ⊎ Lower t P R d k x y a b i j)
-
   -- what the edge above y yields, if there is one
   abbrev pub Yields : (y k a b i j : ℕ) → Type 0
-  Yields y k a b i j = (x l : ℕ) × Edge t d x y l × OfEdge x y l k a b i j
+  Yields y k a b i j = (x l : ℕ) × Edge t d x y l × OfEdge P R t d x y l k a b i j
 
   -- the skeleton nodes before v have their positions from above
   abbrev pub Sunk : ℕ → List ℕ → ℕ → Type 0

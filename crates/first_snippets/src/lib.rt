@@ -1,8 +1,6 @@
 // The snippets that the first snippets of one value yield directly: added to the snippets' rows of a comparison's part, for one group of nodes of equal value after the other.
 mod listing;
-mod rows;
 mod sinking;
-mod yields;
 
 use group_ends::rising::rise;
 use layout::Groups;

@@ -1,5 +1,5 @@
 // From above: each skeleton node has its positions that end elsewhere from the next skeleton node above it, and the edge between the two yields its snippets.
-use crate::yields::add_edge;
+use edge_snippets::yields::add_edge;
 use group_ends::outside::outside;
 use layout::Groups;
 use layout::words::get;

@@ -13,8 +13,7 @@ use Rattle.xpath.specs.Tree.{Tree, Down}
 use Rattle.matrices.specs.Matrices.{Related, Apart, Drawing}
 use Rattle.matrices.proofs.Drawing.{apart-same}
 use Rattle.layout.specs.Blocks.{snippetAt}
-use Rattle.first_snippets.specs.Groups.{Gains}
-use Rattle.first_snippets.specs.Steps.{Opposite, Crossed}
+use Rattle.edge_snippets.specs.Edges.{Gains, Opposite, Crossed}
 
 module _ {t : Tree} {n b : ℕ} where
   -- the words of the rows are as they were

@@ -10,7 +10,7 @@ use powers::lower;
 ghost use Prim.Native.Nat.{_<_};
 ghost use Rattle.exponents.specs.Exponent.{Exponent};
 ghost use Rattle.powers.specs.Ladder.{Stretch};
-ghost use Rattle.first_snippets.specs.Steps.{Gained, UpperPart, LowerPart, BothParts};
+ghost use Rattle.edge_snippets.specs.Edges.{Gained, UpperPart, LowerPart, BothParts};
 
 // The upper part of the edge of length `len` above node `v`, where `k` is the exponent of the length.
 fn add_upper(

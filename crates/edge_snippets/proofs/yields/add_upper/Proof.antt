@@ -1,12 +1,12 @@
--- `first_snippets::yields::add_upper` meets its contract.
+-- `edge_snippets::yields::add_upper` meets its contract.
 use Prim.Native.Nat.{_+_}
 use native.Mathlib.Omega.{arith}
-use Rattle.first_snippets.proofs.Lengths.{stretch-lower}
-use Rattle.first_snippets.proofs.Yielding.{low-exponent, part-fits, upper-node, upper-gained}
+use Rattle.edge_snippets.proofs.Lengths.{stretch-lower}
+use Rattle.edge_snippets.proofs.Yielding.{low-exponent, part-fits, upper-node, upper-gained}
 use mathlib.Core.Path.{refl}
 use borrow.Author.Needs.{needs}
-use Rattle.first_snippets.proofs.yields.add_upper.Statement.{statement}
-use Rattle.first_snippets.proofs.yields.add_upper.Tie as tie
+use Rattle.edge_snippets.proofs.yields.add_upper.Statement.{statement}
+use Rattle.edge_snippets.proofs.yields.add_upper.Tie as tie
 
 two-to-requires : tie.Need-two-to-requires
 two-to-requires c κs = low-exponent (c .before .pre .0) (c .before .pre .1) refl

@@ -12,7 +12,7 @@ ghost use lib.ListN.{length};
 ghost use Rattle.limits.specs.Limits.{positions};
 ghost use Rattle.bits.specs.Sets.{bit};
 ghost use Rattle.matrices.specs.Matrices.{Drawing};
-ghost use Rattle.first_snippets.specs.Steps.{Opposite, Crossed};
+ghost use Rattle.edge_snippets.specs.Edges.{Opposite, Crossed};
 
 // The members of `set` that are of the other path than `i`.
 fn across(set: u16, first: u16, i: u16) -> u16

@@ -1,11 +1,11 @@
--- `first_snippets::yields::add_edge` meets its contract.
+-- `edge_snippets::yields::add_edge` meets its contract.
 use native.Mathlib.Omega.{arith}
 use Rattle.powers.proofs.Stretching.{stretch-short}
 use Rattle.group_ends.proofs.Rest.{stretch-kept}
-use Rattle.first_snippets.proofs.Yielding.{both-gained}
+use Rattle.edge_snippets.proofs.Yielding.{both-gained}
 use borrow.Author.Needs.{needs}
-use Rattle.first_snippets.proofs.yields.add_edge.Statement.{statement}
-use Rattle.first_snippets.proofs.yields.add_edge.Tie as tie
+use Rattle.edge_snippets.proofs.yields.add_edge.Statement.{statement}
+use Rattle.edge_snippets.proofs.yields.add_edge.Tie as tie
 
 exponent-requires : tie.Need-exponent-requires
 exponent-requires c κs = let s = c .before .pre in let h = stretch-short (s .0) in let q = s .1 in (omega arith, omega arith)

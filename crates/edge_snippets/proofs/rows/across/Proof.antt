@@ -1,9 +1,9 @@
--- `first_snippets::rows::across` meets its contract.
+-- `edge_snippets::rows::across` meets its contract.
 use mathlib.Core.Path.{sym, _∙_}
-use Rattle.first_snippets.proofs.Crossing.{across-first, across-second}
+use Rattle.edge_snippets.proofs.Crossing.{across-first, across-second}
 use borrow.Author.Needs.{needs}
-use Rattle.first_snippets.proofs.rows.across.Statement.{statement}
-use Rattle.first_snippets.proofs.rows.across.Tie as tie
+use Rattle.edge_snippets.proofs.rows.across.Statement.{statement}
+use Rattle.edge_snippets.proofs.rows.across.Tie as tie
 
 has-requires : tie.Need-has-requires
 has-requires c κs = search needs

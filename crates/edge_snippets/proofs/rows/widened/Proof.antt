@@ -1,9 +1,9 @@
--- `first_snippets::rows::widened` meets its contract.
+-- `edge_snippets::rows::widened` meets its contract.
 use mathlib.Core.Path.{sym, _∙_}
-use Rattle.first_snippets.proofs.Crossing.{widened, not-widened}
+use Rattle.edge_snippets.proofs.Crossing.{widened, not-widened}
 use borrow.Author.Needs.{needs}
-use Rattle.first_snippets.proofs.rows.widened.Statement.{statement}
-use Rattle.first_snippets.proofs.rows.widened.Tie as tie
+use Rattle.edge_snippets.proofs.rows.widened.Statement.{statement}
+use Rattle.edge_snippets.proofs.rows.widened.Tie as tie
 
 has-requires : tie.Need-has-requires
 has-requires c κs = search needs

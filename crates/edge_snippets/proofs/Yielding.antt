@@ -19,12 +19,11 @@ use Rattle.powers.specs.Blocks.{Fits}
 use Rattle.powers.specs.Ladder.{Ladder, Stretch}
 use Rattle.powers.proofs.Places.{fits-of}
 use Rattle.powers.proofs.Ancestors.{one-above}
-use Rattle.first_snippets.specs.Groups.{Gains}
-use Rattle.first_snippets.specs.Steps.{Opposite, Crossed, EdgeAt, Gained, UpperPart, LowerPart, BothParts}
+use Rattle.edge_snippets.specs.Edges.{Gains, Opposite, Crossed, EdgeAt, Gained, UpperPart, LowerPart, BothParts}
 use Rattle.group_ends.proofs.Rest.{rest-then, rest-rows, ladder-rest}
-use Rattle.first_snippets.proofs.Gains.{gains-then, gains-rows}
-use Rattle.first_snippets.proofs.Crossing.{opposite-iff}
-use Rattle.first_snippets.proofs.Lengths.{exponent-below, exponent-one, one-length, stretch-upper}
+use Rattle.edge_snippets.proofs.Gains.{gains-then, gains-rows}
+use Rattle.edge_snippets.proofs.Crossing.{opposite-iff}
+use Rattle.edge_snippets.proofs.Lengths.{exponent-below, exponent-one, one-length, stretch-upper}
 
 module _ {P R : XPath} {t : Tree} {d : List ℕ} {n b x v len first inside outside : ℕ} {p p′ : List ℕ} (e : EdgeAt P R t d n b x v len first inside outside p) {k : ℕ} (exponent : Exponent len k) where
   -- the 2 ^ k edges from the upper node x down to u

@@ -1,12 +1,12 @@
--- `first_snippets::rows::add_rows` meets its contract.
+-- `edge_snippets::rows::add_rows` meets its contract.
 use Prim.Native.Nat.{_≤_, _-_}
 use native.Mathlib.Omega.{arith}
 use Rattle.matrices.specs.Matrices.{Drawing}
 use Rattle.matrices.proofs.Drawing.{drawing-none, drawing-to}
-use Rattle.first_snippets.specs.Steps.{Crossed}
-use Rattle.first_snippets.proofs.Crossing.{crossed-step}
-use Rattle.first_snippets.proofs.rows.add_rows.Statement.{statement}
-use Rattle.first_snippets.proofs.rows.add_rows.Tie as tie
+use Rattle.edge_snippets.specs.Edges.{Crossed}
+use Rattle.edge_snippets.proofs.Crossing.{crossed-step}
+use Rattle.edge_snippets.proofs.rows.add_rows.Statement.{statement}
+use Rattle.edge_snippets.proofs.rows.add_rows.Tie as tie
 
 abbrev Inv-loop : tie.InvT-loop
 Inv-loop p₀ at rows set first i₀ p i = (i ≤ 16) × Drawing (Crossed p₀ at rows set first) at i p₀ p

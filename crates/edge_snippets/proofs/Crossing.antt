@@ -13,8 +13,7 @@ use Rattle.snippets.specs.Snippets.{Different}
 use Rattle.matrices.specs.Matrices.{Drawing}
 use Rattle.matrices.proofs.Members.{and-iff, union-iff}
 use Rattle.matrices.proofs.Drawing.{drawing-step, undrawn}
-use Rattle.first_snippets.specs.Groups.{OfFirst}
-use Rattle.first_snippets.specs.Steps.{Opposite, Crossed}
+use Rattle.edge_snippets.specs.Edges.{OfFirst, Opposite, Crossed}
 
 not-true : (x : Bool) → (not x ≡ true) ↔ (x ≡ false)
 not-true true = (λ e. sym e, λ e. sym e)
