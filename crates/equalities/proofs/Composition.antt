@@ -169,7 +169,7 @@ module _ {m : Machine} {n b : ℕ} {p p₁ : List ℕ} (g : Bucketed n p p₁) w
   -- p₂ has what the first snippets yield, and p₃ all snippets
   pub gathered : {r : ℕ} {p₂ p₃ : List ℕ} → 0 < b → Empty n b p → AddedAll m n b (m .first) p₁ p₂ → Halving n b p₂ p₃ → Counts n b p₃ r → Gathers m n b p p₃ r
   gathered {r} {p₂} {p₃} some empty a h c = record {
-    long = h .long ∙ a .rest .long ∙ g .within .long;
+    long = h .long ∙ a .rest .same .long ∙ g .within .long;
     founded = λ P R t f. founded-rest (omega arith) (halving-rest h) (added f);
     number = λ P R t f. all-number (bucketed f) some none (gains f) (added f .powers) h c;
     marked = λ P R t f. edge-marked (bucketed f) some none (gains f) (added f .powers) h;
