@@ -10,7 +10,8 @@ use Rattle.layout.specs.Words.{cell, Filled}
 use Rattle.reach.specs.Work.{Spared}
 use Rattle.reach.proofs.Adding.{spared-space}
 use Rattle.reach.proofs.Clearing.{work-none}
-use Rattle.backward.specs.Sweeps.{Paired, Blanked}
+use Rattle.retracing.specs.Notes.{Paired}
+use Rattle.backward.specs.Sweeps.{Blanked}
 
 pub blanked : {n c x : ℕ} {p p₁ p₂ p₃ : List ℕ} → Space n p → Paired c → Filled n SEEN 0 n p p₁ → Filled n c x n p₁ p₂ → Filled n (c + 1) x n p₂ p₃ → Blanked n c x p p₃
 blanked {n} {c} {x} {p} {p₁} {p₂} {p₃} space paired f g h =

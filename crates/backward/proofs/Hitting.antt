@@ -11,12 +11,12 @@ use Rattle.machine.specs.declared.Machine.{Machine}
 use Rattle.machine.specs.Walks.{Stops, Hits}
 use Rattle.reach.specs.Work.{Seen, Work, Added}
 use Rattle.plain.specs.Plain.{Answered}
-use Rattle.backward.specs.Backward.{LinkedBothWays, Closed, Ends, Backed}
+use Rattle.retracing.specs.Backward.{LinkedBothWays, Closed, Ends, Backed}
 use Rattle.backward.specs.Constants.{IsHit, HitAt}
 use Rattle.reach.proofs.Adding.{added-same, added-into}
 use Rattle.reach.proofs.Clearing.{cleared-unseen}
-use Rattle.backward.proofs.Spreading.{added-linked}
-use Rattle.backward.proofs.Ending.{closed-none, ends-same, ends-closed, ends-as, ends-then}
+use Rattle.retracing.proofs.Spreading.{added-linked}
+use Rattle.retracing.proofs.Ending.{closed-none, ends-same, ends-closed, ends-as, ends-then}
 
 -- ── One node ──
 module _ {m : Machine} {n w len : ℕ} {p : List ℕ} where

@@ -1,13 +1,5 @@
-pub mod Linked
-pub mod Preceding
 pub mod Filling
-pub mod Entries
-pub mod Retracing
-pub mod Spreading
 pub mod Telling
-pub mod Ending
 pub mod Hitting
-pub mod Noting
-pub mod Seeding
 pub mod Sweeping
 pub mod Ranking

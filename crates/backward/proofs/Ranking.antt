@@ -27,9 +27,10 @@ use Rattle.rank_sets.proofs.Steady.{held-then, held-word, held-small}
 use Rattle.plain.specs.Plain.{Answered}
 use Rattle.plain.proofs.Walks.{stops-same, meets-same}
 use Rattle.reach.specs.Work.{Work, Spared}
-use Rattle.backward.specs.Backward.{LinkedBothWays}
-use Rattle.backward.specs.Sweeps.{rangeOf, Seeded, Extreme, Blank, Blanked, Risen, Fallen, Ranges}
-use Rattle.backward.proofs.Linked.{linked-same}
+use Rattle.retracing.specs.Backward.{LinkedBothWays}
+use Rattle.retracing.specs.Notes.{Seeded}
+use Rattle.backward.specs.Sweeps.{rangeOf, Extreme, Blank, Blanked, Risen, Fallen, Ranges}
+use Rattle.retracing.proofs.Linked.{linked-same}
 use Rattle.backward.proofs.Sweeping.{extreme-as, Sweeping, sweeping-none, sweeping-step, sweeping-all}
 
 -- ── By rising rank: those of the ranks below r are done ──

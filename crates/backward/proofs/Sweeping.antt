@@ -10,10 +10,11 @@ use Rattle.machine.specs.Walks.{Stops}
 use Rattle.reach.specs.Work.{Seen, Work, Added}
 use Rattle.reach.proofs.Adding.{added-same}
 use Rattle.reach.proofs.Walks.{walk-same}
-use Rattle.backward.specs.Backward.{LinkedBothWays, New, Closed, Ends}
-use Rattle.backward.specs.Sweeps.{Noted, Seeded, Extreme, Blank, Swept}
-use Rattle.backward.proofs.Spreading.{added-linked}
-use Rattle.backward.proofs.Ending.{unseen, closed-none, ends-closed, ends-as, ends-then}
+use Rattle.retracing.specs.Backward.{LinkedBothWays, New, Closed, Ends}
+use Rattle.retracing.specs.Notes.{Noted, Seeded}
+use Rattle.backward.specs.Sweeps.{Extreme, Blank, Swept}
+use Rattle.retracing.proofs.Spreading.{added-linked}
+use Rattle.retracing.proofs.Ending.{unseen, closed-none, ends-closed, ends-as, ends-then}
 
 -- ── One start at one node ──
 module _ {m : Machine} {n d a b : ℕ} {D E : ℕ → Type 0} {p₀ p p′ : List ℕ} (Order : ℕ → ℕ → Type 0) (blank : ℕ) (key : ℕ → ℕ) (empty : Work n 0 p₀)

@@ -1,3 +1,2 @@
-pub mod Backward
 pub mod Constants
 pub mod Sweeps

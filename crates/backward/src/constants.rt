@@ -1,15 +1,15 @@
 // A constant: backwards from the hits.
-use crate::spread::spread;
 use bits::has;
 use layout::Part;
 use layout::words::get;
 use machine::Machine;
 use plain::answer;
+use retracing::spread::spread;
 ghost use Prim.Native.Nat.{ℕ, _<_};
 ghost use Rattle.plain.specs.Plain.{Answered};
 ghost use Rattle.reach.specs.Work.{Seen, Work, Added};
 ghost use Rattle.layout.specs.Part.{NODES, Space};
-ghost use Rattle.backward.specs.Backward.{LinkedBothWays, Closed, Ends};
+ghost use Rattle.retracing.specs.Backward.{LinkedBothWays, Closed, Ends};
 ghost use Rattle.backward.specs.Constants.{IsHit, HitAt};
 
 // What ends at node `w`, if that is a hit.

@@ -1,11 +1,6 @@
 // The snippet evaluation's way to constants and to the signs other than =: backwards from the ends, so that each position is visited once at each node.
 mod constants;
-mod notes;
 mod order;
-mod predecessors;
-mod retrace;
-mod seeds;
-pub mod spread;
 mod sweeps;
 
 use constants::answer_seen;
@@ -27,7 +22,7 @@ ghost use Rattle.layout.specs.Part.{Space};
 ghost use Rattle.machine.specs.Walks.{Meets, Hits};
 ghost use Rattle.rank_sets.specs.Ends.{Small};
 ghost use Rattle.plain.specs.Plain.{Answered};
-ghost use Rattle.backward.specs.Backward.{LinkedBothWays};
+ghost use Rattle.retracing.specs.Backward.{LinkedBothWays};
 
 // The first path and a constant: the nodes whose value is in the relation to it are marked as hits.
 pub fn compare_constant(p: &mut [u16], n: usize, m: Machine)

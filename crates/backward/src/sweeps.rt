@@ -1,19 +1,20 @@
 // All nodes by rank. What is seen first from a node of some rank walks to no node of a rank before: so by rising rank the least is found for each start at each node, and by falling rank the greatest.
-use crate::seeds::seed_rank;
 use layout::Part;
 use layout::Sweeps;
 use layout::Table;
 use layout::words::fill;
 use machine::Machine;
+use retracing::seeds::seed_rank;
 ghost use Prim.Native.Nat.{_<_};
 ghost use Rattle.limits.specs.Limits.{positions, wordValues};
 ghost use Rattle.layout.specs.Part.{Space};
 ghost use Rattle.layout.specs.Sweeps.{LEAST, ABOVE};
 ghost use Rattle.layout.specs.Words.{NONE};
 ghost use Rattle.rank_sets.specs.Ends.{Small};
-ghost use Rattle.backward.specs.Backward.{LinkedBothWays};
+ghost use Rattle.retracing.specs.Backward.{LinkedBothWays};
 ghost use Rattle.skeletons.specs.Skeletons.{Buckets};
-ghost use Rattle.backward.specs.Sweeps.{Paired, Blank, Blanked, Risen, Fallen, Ranges};
+ghost use Rattle.retracing.specs.Notes.{Paired};
+ghost use Rattle.backward.specs.Sweeps.{Blank, Blanked, Risen, Fallen, Ranges};
 
 // Nothing is seen, and `x` stands in column `c` and in the next.
 fn blank(p: &mut [u16], n: usize, c: usize, x: usize)

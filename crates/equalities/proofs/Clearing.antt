@@ -1,7 +1,7 @@
 -- Laws of the rows that become 0.
 use Prim.Native.Nat.{ℕ, suc, _+_, _*_, _/_, _%_, _≤_, _<_}
 use mathlib.Core.Path.{_≡_, sym, ap, _∙_, subst}
-use mathlib.Core.Logic.{_≢_, _⊎_, inl, inr}
+use mathlib.Core.Logic.{_≢_, _⊎_, inl, inr, ⊎-elim}
 use mathlib.Core.List.{List}
 use native.Mathlib.Nat.{eq-or-lt-of-le, mul-le-mul-right, div-add-mod', div-lt-iff-lt-mul, mod-lt}
 use native.Mathlib.Omega.{arith}
@@ -9,7 +9,7 @@ use lib.ListN.{length, getD, set}
 use lib.Seq.{getD-set-same, getD-set-other}
 use Rattle.layout.proofs.Frames.{frame-none, frame-then, frame-wider, set-frame, same-none, same-then, same-wider}
 use Rattle.matrices.proofs.Drawing.{redrawn-same}
-use Rattle.first_snippets.specs.Groups.{Rest}
+use Rattle.group_ends.specs.Ends.{Rest}
 use Rattle.layout.specs.Blocks.{rowsAt, Aside}
 use Rattle.equalities.specs.Steps.{Zeroed, Cleared, Empty}
 
@@ -50,11 +50,8 @@ module _ {n b : ℕ} {p p′ : List ℕ} (f : Cleared n (b * n) p p′) where
 
   -- all else stays
   pub cleared-rest : 0 < n → Rest 16 n b p p′
-  cleared-rest some = record {
-    long = f .same .long;
-    front = λ k h. f .same .same k (λ l i r s e. omega arith);
-    behind = λ k h aside. f .same .same k (place k aside);
-  }
+  cleared-rest some =
+      record { same = record { long = f .same .long; same = λ k. ⊎-elim (λ h. f .same .same k (λ l i r s e. omega arith)) (λ (h, aside). f .same .same k (place k aside)) } }
     where
       place : (k : ℕ) → Aside n b k → (l i : ℕ) → l < b * n → i < 16 → k ≢ rowsAt n l + i
       place k aside l i r s e =

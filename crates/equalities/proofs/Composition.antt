@@ -1,7 +1,7 @@
 -- From the groups of equal values to all snippets, and from those to the answers.
 use Prim.Native.Nat.{ℕ, _+_, _*_, _^_, _≤_, _<_}
 use mathlib.Core.Path.{_≡_, refl, sym, ap, _∙_, subst}
-use mathlib.Core.Logic.{_⊎_, inl, inr, _↔_}
+use mathlib.Core.Logic.{_⊎_, inl, inr, ⊎-elim, _↔_}
 use mathlib.Core.Bool.{false≢true}
 use mathlib.Core.List.{List}
 use lib.ListN.{length}
@@ -24,6 +24,7 @@ use Rattle.snippets.proofs.Direct.{first-iff, yielded-iff}
 use Rattle.layout.specs.Blocks.{BLOCKS, snippetAt}
 use Rattle.layout.specs.Part.{STAYS, ANSWER}
 use Rattle.layout.specs.Words.{word}
+use Rattle.layout.proofs.Frames.{same-wider}
 use Rattle.machine.specs.declared.Machine.{Machine}
 use Rattle.matrices.specs.Matrices.{Related}
 use Rattle.loops.specs.Loops.{Stage, Looped}
@@ -38,9 +39,11 @@ use Rattle.skeletons.specs.Skeletons.{Bucketed}
 use Rattle.halving.specs.Halving.{Family, Inside, Within, Sets, Marked, Topped, Halved, Halving, Counts}
 use Rattle.halving.proofs.Families.{topped-of, sets-marked, halved-yielded, yielded-halved}
 use Rattle.halving.proofs.Counting.{counts-sets}
-use Rattle.first_snippets.specs.Groups.{Enough, Sizes, Rest, Gains, Base, AddedAll}
-use Rattle.first_snippets.proofs.Rest.{rest-within, powers-rest, loops-rest, stage-rest, stage-shape, sizes-rest}
-use Rattle.first_snippets.proofs.Lengths.{exponent-below}
+use Rattle.group_ends.specs.Ends.{Enough, Sizes, Rest}
+use Rattle.edge_snippets.specs.Edges.{Gains}
+use Rattle.first_snippets.specs.Groups.{Base, AddedAll}
+use Rattle.group_ends.proofs.Rest.{rest-within, powers-rest, loops-rest, stage-rest, stage-shape, sizes-rest}
+use Rattle.edge_snippets.proofs.Lengths.{exponent-below}
 use Rattle.equalities.specs.Equalities.{Answers, Evaluated}
 use Rattle.equalities.specs.Steps.{Cleared, Empty, Prepares, FromFirst, Gathers}
 use Rattle.equalities.proofs.Clearing.{cleared-empty, cleared-rest}
@@ -72,7 +75,7 @@ founded-rest : {P R : XPath} {t : Tree} {m : Machine} {c n b : ℕ} {p p′ : Li
 founded-rest late r f = record { stage = stage-rest r late (f .stage); loops = loops-rest r (f .loops); powers = powers-rest r (f .powers) }
 
 halving-rest : {n b : ℕ} {p p′ : List ℕ} → Halving n b p p′ → Rest 16 n b p p′
-halving-rest h = let s = h .same in record { long = s .long; front = λ k l. s .same k (λ e y i a c d z. omega arith); behind = λ k l. s .same k }
+halving-rest h = record { same = same-wider (λ k. ⊎-elim (λ l e y i a c d z. omega arith) (λ (l, aside). aside)) (h .same) }
 
 bucketed-rest : {n b : ℕ} {p p′ : List ℕ} → Bucketed n p p′ → Rest 9 n b p p′
 bucketed-rest g = rest-within (omega arith) (g .within)
@@ -164,7 +167,7 @@ module _ {m : Machine} {n b : ℕ} {p p₁ : List ℕ} (g : Bucketed n p p₁) w
   -- p₂ has what the first snippets yield, and p₃ all snippets
   pub gathered : {r : ℕ} {p₂ p₃ : List ℕ} → 0 < b → Empty n b p → AddedAll m n b (m .first) p₁ p₂ → Halving n b p₂ p₃ → Counts n b p₃ r → Gathers m n b p p₃ r
   gathered {r} {p₂} {p₃} some empty a h c = record {
-    long = h .same .long ∙ a .rest .long ∙ g .within .long;
+    long = h .same .long ∙ a .rest .same .long ∙ g .within .long;
     founded = λ P R t f. founded-rest (omega arith) (halving-rest h) (added f);
     number = λ P R t f enough. all-number (bucketed f) enough some none (gains f) (added f .powers) h c;
     marked = λ P R t f enough. edge-marked (bucketed f) enough some none (gains f) (added f .powers) h;

@@ -17,7 +17,7 @@ use Rattle.layout.specs.Blocks.{snippetAt, rowsAt}
 use Rattle.layout.specs.Words.{Frame, Same}
 use Rattle.powers.specs.Powers.{Founded}
 use Rattle.settling.specs.Settled.{Marked}
-use Rattle.first_snippets.specs.Groups.{Enough}
+use Rattle.group_ends.specs.Ends.{Enough}
 
 -- ── Rows without snippets ──
 -- the first k words from an offset on become 0

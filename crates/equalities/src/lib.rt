@@ -17,7 +17,7 @@ ghost use Rattle.loops.specs.Loops.{Stage};
 ghost use Rattle.powers.specs.Powers.{Founded};
 ghost use Rattle.powers.specs.Blocks.{BlockRoom};
 ghost use Rattle.skeletons.specs.Shape.{Shape};
-ghost use Rattle.first_snippets.specs.Groups.{Enough, Sizes};
+ghost use Rattle.group_ends.specs.Ends.{Enough, Sizes};
 ghost use Rattle.equalities.specs.Equalities.{Evaluated};
 ghost use Rattle.equalities.specs.Steps.{Empty, Prepares, Gathers};
 

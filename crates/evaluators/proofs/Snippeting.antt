@@ -24,7 +24,7 @@ use Rattle.skeletons.specs.Shape.{Shape}
 use Rattle.layout.proofs.Frames.{within-back}
 use Rattle.skeletons.proofs.Shape.{shape-within, drawn-within}
 use Rattle.levels.specs.Levels.{Levelled}
-use Rattle.first_snippets.specs.Groups.{Enough}
+use Rattle.group_ends.specs.Ends.{Enough}
 use Rattle.equalities.specs.Equalities.{Evaluated}
 use Rattle.evaluators.specs.declared.Evaluator.the-variants.{Snippets}
 use Rattle.evaluators.specs.Evaluators.{PartRoom, Compared}

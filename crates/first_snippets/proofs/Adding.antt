@@ -1,5 +1,5 @@
 -- The snippets of one value after the other.
-use Prim.Native.Nat.{ℕ, suc, _+_, _≤_, _<_}
+use Prim.Native.Nat.{ℕ, suc, _≤_, _<_}
 use mathlib.Core.Path.{_≡_, refl, sym, _∙_, subst}
 use mathlib.Core.Logic.{_⊎_, inl, inr, _↔_}
 use mathlib.Core.List.{List}
@@ -22,10 +22,12 @@ use Rattle.loops.specs.Loops.{Stage, Loops}
 use Rattle.powers.specs.Powers.{Powers}
 use Rattle.skeletons.specs.Skeletons.{Least, Buckets, Ranks, Grouped}
 use Rattle.skeletons.proofs.Grouping.{least-node, least-none}
-use Rattle.first_snippets.specs.Groups.{Setting, Given, Rest, Yields, Base, Grounds, Added, OfRanks, AddedOf, AddedAll, Somewhere, Alone}
-use Rattle.first_snippets.specs.Steps.{Rose, Sank}
-use Rattle.first_snippets.proofs.Rest.{rest-none, rest-then, rest-more, rest-within, same-word, powers-rest, loops-rest, sizes-rest, stage-rest, stage-shape, setting-rest}
-use Rattle.first_snippets.proofs.Gains.{gains-same, gains-then, gains-iff, gains-before}
+use Rattle.group_ends.specs.Ends.{Setting, Given, Rest}
+use Rattle.first_snippets.specs.Groups.{Yields, Base, Grounds, Added, OfRanks, AddedOf, Somewhere, Alone}
+use Rattle.group_ends.specs.Steps.{Rose}
+use Rattle.first_snippets.specs.Steps.{Sank}
+use Rattle.group_ends.proofs.Rest.{rest-none, rest-then, rest-more, rest-within, same-word, powers-rest, loops-rest, sizes-rest, stage-rest, stage-shape, setting-rest}
+use Rattle.edge_snippets.proofs.Gains.{gains-same, gains-then, gains-iff, gains-before}
 
 -- ── One value ──
 marked-setting : {P R : XPath} {t : Tree} {d : List ℕ} {m : Machine} {n b r : ℕ} {p p₁ : List ℕ} → Grouped n r p p₁ → Stage P R t m n p → Loops P R t n p → Powers P R t n p b → Ranks t d n r p → Setting P R t d m n b r p₁

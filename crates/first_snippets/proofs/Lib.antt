@@ -1,10 +1,3 @@
-pub mod Rest
-pub mod Gains
-pub mod Crossing
-pub mod Owning
-pub mod Ascending
-pub mod Lengths
-pub mod Yielding
 pub mod Descending
 pub mod Adding
 pub mod Lists

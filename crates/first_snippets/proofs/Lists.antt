@@ -1,7 +1,7 @@
 -- The values of a list, one after the other; and the list of all.
-use Prim.Native.Nat.{ℕ, suc, _+_, _*_, _≤_, _<_}
-use mathlib.Core.Path.{_≡_, refl, sym, ap, _∙_, subst}
-use mathlib.Core.Logic.{_⊎_, inl, inr, _↔_}
+use Prim.Native.Nat.{ℕ, _+_, _*_, _≤_, _<_}
+use mathlib.Core.Path.{_≡_, sym, ap, _∙_, subst}
+use mathlib.Core.Logic.{_⊎_, inl, inr}
 use mathlib.Core.List.{List, [], _∷_}
 use native.Mathlib.Decide.{ℕ-discrete}
 use native.Mathlib.Nat.{eq-or-lt-of-le, mul-le-mul-right}
@@ -10,16 +10,17 @@ use Rattle.xpath.specs.Syntax.{XPath}
 use Rattle.xpath.specs.Tree.{Tree}
 use Rattle.snippets.specs.Direct.{Direct}
 use Rattle.snippets.proofs.Direct.{direct-iff}
-use Rattle.layout.specs.Groups.{FIRST, NEXT, MARKED, LIST}
+use Rattle.layout.specs.Groups.{FIRST, NEXT, LIST}
 use Rattle.layout.specs.Table.{RANK}
 use Rattle.layout.specs.Words.{cell, word, Wrote}
 use Rattle.layout.proofs.Frames.{within-none, within-then, within-put}
 use Rattle.machine.specs.declared.Machine.{Machine}
 use Rattle.loops.specs.Loops.{Stage}
-use Rattle.first_snippets.specs.Groups.{Rest, Base, OfRanks, AddedOf, Listed, Listing, AddedAll}
+use Rattle.group_ends.specs.Ends.{Rest}
+use Rattle.first_snippets.specs.Groups.{Base, OfRanks, AddedOf, Listed, Listing, AddedAll}
 use Rattle.first_snippets.specs.Steps.{Ranged}
-use Rattle.first_snippets.proofs.Rest.{rest-then, rest-more, rest-within, same-word, powers-rest, loops-rest, stage-rest}
-use Rattle.first_snippets.proofs.Gains.{gains-iff, gains-before}
+use Rattle.group_ends.proofs.Rest.{rest-then, rest-more, rest-within, same-word, powers-rest, loops-rest, stage-rest}
+use Rattle.edge_snippets.proofs.Gains.{gains-iff, gains-before}
 use Rattle.first_snippets.proofs.Adding.{buckets-same, base-by, added-none, added-then}
 
 -- ── The list of all ranks ──

@@ -1,104 +1,32 @@
 -- What the first snippets of one value yield directly, in the columns and the rows of a comparison's part.
-use Prim.Native.Nat.{ℕ, suc, _+_, _*_, _^_, _≤_, _<_}
+use Prim.Native.Nat.{ℕ, _≤_, _<_}
 use mathlib.Core.Path.{_≡_}
-use mathlib.Core.Logic.{_≢_, _⊎_, _↔_}
-use mathlib.Core.Bool.{Bool, true, false}
 use mathlib.Core.List.{List}
-use lib.ListN.{length, getD}
-use Rattle.limits.specs.Limits.{documentNodes, positions, nodeDigits, wordsPerDigit}
-use Rattle.xpath.specs.Syntax.{XPath, size}
-use Rattle.xpath.specs.Tree.{Tree, Down}
+use Rattle.xpath.specs.Syntax.{XPath}
+use Rattle.xpath.specs.Tree.{Tree}
 use Rattle.snippets.specs.Snippets.{Skeleton, Edge}
-use Rattle.snippets.specs.Ways.{In, Above, FromChild}
-use Rattle.snippets.specs.Direct.{Upper, Lower, Direct}
-use Rattle.layout.specs.Blocks.{BLOCKS, snippetAt}
-use Rattle.layout.specs.Groups.{MARKED, LIST, IN, LEFTIN, RIGHTIN, ABOVE}
-use Rattle.layout.specs.Table.{RANK, COLUMNS}
+use Rattle.snippets.specs.Ways.{Above}
+use Rattle.snippets.specs.Direct.{Direct}
+use Rattle.layout.specs.Groups.{MARKED, LIST, ABOVE}
+use Rattle.layout.specs.Table.{RANK}
 use Rattle.layout.specs.Words.{word}
 use Rattle.machine.specs.declared.Machine.{Machine}
-use Rattle.matrices.specs.Matrices.{Exactly, Related}
+use Rattle.matrices.specs.Matrices.{Exactly}
 use Rattle.loops.specs.Loops.{Stage, Loops}
 use Rattle.powers.specs.Powers.{Powers}
-use Rattle.skeletons.specs.Skeletons.{Buckets, Ranks, Group}
-
--- what comes from the next skeleton node on a side
-abbrev pub inward : Bool → ℕ
-inward true = LEFTIN
-inward false = RIGHTIN
-
--- ── What is given ──
--- a comparison of two paths on a tree with its loops and its powers, and the marks of the nodes of rank r, which have the value d
-pub record Setting (P R : XPath) (t : Tree) (d : List ℕ) (m : Machine) (n b r : ℕ) (p : List ℕ) : Type 0 where
-  pub stage : Stage P R t m n p
-  pub loops : Loops P R t n p
-  pub powers : Powers P R t n p b
-  pub group : Group t d n r p
-
--- the powers below b are enough for every way down the tree
-abbrev pub Enough : Tree → ℕ → Type 0
-Enough t b = (x y l : ℕ) → Down t x y l → l < 2 ^ b
-
--- there is room for the powers below b
-pub record Sizes (n b : ℕ) (p : List ℕ) : Type 0 where
-  pub few : n ≤ documentNodes
-  pub low : b ≤ nodeDigits
-  pub room : (BLOCKS + wordsPerDigit * b) * n ≤ length p
-
--- some comparison and some value are given
-pub record Given (m : Machine) (n b r : ℕ) (p : List ℕ) : Type 0 where
-  pub first : XPath
-  pub second : XPath
-  pub tree : Tree
-  pub value : List ℕ
-  pub setting : Setting first second tree value m n b r p
-  pub enough : Enough tree b
-  pub sizes : Sizes n b p
-
--- the members of w are the positions of the first path
-abbrev pub OfFirst : XPath → ℕ → Type 0
-OfFirst P w = Exactly w (λ i. i ≤ size P)
-
--- ── What may change ──
--- k is no word of the snippets' rows
-abbrev pub Aside : ℕ → ℕ → ℕ → Type 0
-Aside n b k = (e y i : ℕ) → e < b → y < n → i < positions → k ≢ snippetAt n e y + i
-
--- only the columns from c on and the snippets' rows may be different
-pub record Rest (c n b : ℕ) (p p′ : List ℕ) : Type 0 where
-  pub long : length p′ ≡ length p
-  pub front : (k : ℕ) → k < c * n → getD p′ k 0 ≡ getD p k 0
-  pub behind : (k : ℕ) → COLUMNS * n ≤ k → Aside n b k → getD p′ k 0 ≡ getD p k 0
-
--- the snippets' rows have what they had, and what A says
-pub record Gains (t : Tree) (n b : ℕ) (A : ℕ → ℕ → ℕ → ℕ → ℕ → Type 0) (p p′ : List ℕ) : Type 0 where
-  pub rows : (k x y i j : ℕ) → k < b → y < n → Down t x y (2 ^ k) → i < positions → j < positions
-      → Related p′ (snippetAt n k y) i j ↔ (Related p (snippetAt n k y) i j ⊎ A k x y i j)
-  -- nothing where no node lies 2^k above y
-  pub top : (k y i : ℕ) → k < b → y < n → i < positions → ((x : ℕ) → ¬ Down t x y (2 ^ k)) → getD p′ (snippetAt n k y + i) 0 ≡ getD p (snippetAt n k y + i) 0
+use Rattle.skeletons.specs.Skeletons.{Buckets, Ranks}
+use Rattle.group_ends.specs.Ends.{Enough, Sizes, Rest}
+use Rattle.edge_snippets.specs.Edges.{OfFirst, Gains, OfEdge}
 
 -- ── What is found ──
 module _ (P R : XPath) (t : Tree) (d : List ℕ) where
-  -- what the edge above y yields, where its upper node is x and its length is l
-  abbrev pub OfEdge : (x y l k a b i j : ℕ) → Type 0
-  OfEdge x y l k a b i j = (2 ^ k ≤ l) × (l < 2 ^ suc k) × (Upper t P R d k x y a b i j ⊎ Lower t P R d k x y a b i j)
-
   -- what the edge above y yields, if there is one
   abbrev pub Yields : (y k a b i j : ℕ) → Type 0
-  Yields y k a b i j = (x l : ℕ) × Edge t d x y l × OfEdge x y l k a b i j
+  Yields y k a b i j = (x l : ℕ) × Edge t d x y l × OfEdge P R t d x y l k a b i j
 
-  module _ (n : ℕ) (p : List ℕ) where
-    -- the positions that come from the next skeleton nodes, as far as these are v or behind it
-    abbrev pub Sides : ℕ → Type 0
-    Sides v = (side : Bool) (x : ℕ) → Skeleton t d x → Exactly (word p n (inward side) x) (λ i. (f : FromChild t P R d side x i) × (v ≤ f .y))
-
-    -- the skeleton nodes from v on have their positions, and have handed them up
-    pub record Risen (v : ℕ) : Type 0 where
-      pub inside : (u : ℕ) → v ≤ u → Skeleton t d u → Exactly (word p n IN u) (In t P R d u)
-      pub sides : Sides v
-
-    -- the skeleton nodes before v have their positions from above
-    abbrev pub Sunk : ℕ → Type 0
-    Sunk v = (u : ℕ) → u < v → Skeleton t d u → Exactly (word p n ABOVE u) (Above t P R d u)
+  -- the skeleton nodes before v have their positions from above
+  abbrev pub Sunk : ℕ → List ℕ → ℕ → Type 0
+  Sunk n p v = (u : ℕ) → u < v → Skeleton t d u → Exactly (word p n ABOVE u) (Above t P R d u)
 
 -- ── The snippets of one value ──
 -- some comparison is given with its loops and its powers, and the nodes by rank

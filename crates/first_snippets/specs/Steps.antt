@@ -1,33 +1,16 @@
--- What the single steps write: a node's positions, what it hands up, and the rows of the edge above it.
-use Prim.Native.Nat.{ℕ, suc, _^_, _≤_, _<_}
+-- What the single steps write: the list of the values, and a node's positions from above with the rows of the edge above it.
+use Prim.Native.Nat.{ℕ, suc, _≤_, _<_}
 use mathlib.Core.Path.{_≡_}
-use mathlib.Core.Logic.{_⊎_}
-use mathlib.Core.Bool.{Bool, true, false}
 use mathlib.Core.List.{List}
-use Rattle.bits.specs.Sets.{bit}
 use Rattle.xpath.specs.Syntax.{XPath}
-use Rattle.xpath.specs.Tree.{Tree, Child, Under}
-use Rattle.snippets.specs.Snippets.{Skeleton, Edge}
-use Rattle.snippets.specs.Ways.{In, Out, Above}
-use Rattle.snippets.specs.Direct.{Upper, Lower}
-use Rattle.layout.specs.Groups.{LIST, IN, LEFTIN, ABOVE}
-use Rattle.layout.specs.Table.{COLUMNS}
+use Rattle.xpath.specs.Tree.{Tree}
+use Rattle.snippets.specs.Snippets.{Skeleton}
+use Rattle.layout.specs.Groups.{LIST, ABOVE}
 use Rattle.layout.specs.Words.{word, Within}
 use Rattle.machine.specs.declared.Machine.{Machine}
-use Rattle.matrices.specs.Matrices.{Exactly, Related}
-use Rattle.powers.specs.Ladder.{Ladder}
-use Rattle.loops.specs.Loops.{Stage, Loops}
-use Rattle.skeletons.specs.Skeletons.{IsNoted, Group}
-use Rattle.first_snippets.specs.Groups.{inward, Setting, Enough, Sizes, OfFirst, Rest, Gains, OfEdge, Yields, Sides, Risen, Sunk}
-
--- ── Rows ──
--- one of the two is a position of the first path, and the other is none
-abbrev pub Opposite : ℕ → ℕ → ℕ → Type 0
-Opposite first i j = ((bit first i ≡ true) × (bit first j ≡ false)) ⊎ ((bit first i ≡ false) × (bit first j ≡ true))
-
--- the pairs of the matrix at an offset, and those of a member of rows with a member of set that is of the other path
-abbrev pub Crossed : List ℕ → ℕ → ℕ → ℕ → ℕ → ℕ → ℕ → Type 0
-Crossed p at rows set first i j = Related p at i j ⊎ ((bit rows i ≡ true) × (bit set j ≡ true) × Opposite first i j)
+use Rattle.group_ends.specs.Ends.{Setting, Rest, Risen}
+use Rattle.edge_snippets.specs.Edges.{OfFirst, Gains}
+use Rattle.first_snippets.specs.Groups.{Yields, Sunk}
 
 -- ── The list ──
 -- its first k entries are the ranks below k
@@ -36,74 +19,7 @@ pub record Ranged (n k : ℕ) (p p′ : List ℕ) : Type 0 where
   pub within : Within n LIST (suc LIST) p p′
   pub entries : (i : ℕ) → i < k → word p′ n LIST i ≡ i
 
--- ── From below ──
--- v is a skeleton node of some value, on a tree with its powers
-pub record Placed (n b r v : ℕ) (p : List ℕ) : Type 0 where
-  pub first : XPath
-  pub second : XPath
-  pub tree : Tree
-  pub value : List ℕ
-  pub ladder : Ladder first second tree n b p
-  pub group : Group tree value n r p
-  pub skeleton : Skeleton tree value v
-  pub enough : Enough tree b
-  pub sizes : Sizes n b p
-
--- the words of the two columns are 0, for the nodes below v whose block is noted
-pub record Cleared (n v : ℕ) (p p′ : List ℕ) : Type 0 where
-  pub inside : v ≤ n
-  pub within : Within n LEFTIN ABOVE p p′
-  pub empty : (side : Bool) (u : ℕ) → u < v → IsNoted p n u → word p′ n (inward side) u ≡ 0
-
--- node v hands the members of set up to the next skeleton node
-pub record Handed (n b r v set : ℕ) (p p′ : List ℕ) : Type 0 where
-  pub within : Within n LEFTIN ABOVE p p′
-  pub found : (P R : XPath) (t : Tree) (d : List ℕ) → Ladder P R t n b p → Group t d n r p → Skeleton t d v → Exactly set (In t P R d v)
-      → Sides P R t d n p (suc v) → Sides P R t d n p′ v
-
--- from node u on to node v on
-pub record Rises (m : Machine) (n b r u v : ℕ) (p p′ : List ℕ) : Type 0 where
-  pub within : Within n IN ABOVE p p′
-  pub found : (P R : XPath) (t : Tree) (d : List ℕ) → Setting P R t d m n b r p → Risen P R t d n p u → Risen P R t d n p′ v
-
--- all nodes
-pub record Rose (m : Machine) (n b r : ℕ) (p p′ : List ℕ) : Type 0 where
-  pub within : Within n IN ABOVE p p′
-  pub found : (P R : XPath) (t : Tree) (d : List ℕ) → Setting P R t d m n b r p → Risen P R t d n p′ 0
-
--- ── The rows of an edge ──
--- the edge above v with its upper node x and its length, and the positions at its two ends
-pub record EdgeAt (P R : XPath) (t : Tree) (d : List ℕ) (n b x v len first inside outside : ℕ) (p : List ℕ) : Type 0 where
-  pub ladder : Ladder P R t n b p
-  pub node : v < n
-  pub edge : Edge t d x v len
-  pub ins : Exactly inside (In t P R d v)
-  pub outs : Exactly outside (Out t P R d x v)
-  pub split : OfFirst P first
-
--- the rows gain what A says of the edge
-pub record Gained (A : XPath → XPath → Tree → List ℕ → ℕ → ℕ → ℕ → ℕ → ℕ → ℕ → Type 0) (n b v len first inside outside : ℕ) (p p′ : List ℕ) : Type 0 where
-  pub rest : Rest COLUMNS n b p p′
-  pub found : (P R : XPath) (t : Tree) (d : List ℕ) (x : ℕ) → EdgeAt P R t d n b x v len first inside outside p → Gains t n b (A P R t d x) p p′
-
--- the upper part of the edge
-abbrev pub UpperPart : ℕ → ℕ → XPath → XPath → Tree → List ℕ → ℕ → ℕ → ℕ → ℕ → ℕ → ℕ → Type 0
-UpperPart v len P R t d x k a b i j = (2 ^ k ≤ len) × (len < 2 ^ suc k) × Upper t P R d k x v a b i j
-
--- the lower part
-abbrev pub LowerPart : ℕ → ℕ → XPath → XPath → Tree → List ℕ → ℕ → ℕ → ℕ → ℕ → ℕ → ℕ → Type 0
-LowerPart v len P R t d x k a b i j = (2 ^ k ≤ len) × (len < 2 ^ suc k) × Lower t P R d k x v a b i j
-
--- both
-abbrev pub BothParts : ℕ → ℕ → XPath → XPath → Tree → List ℕ → ℕ → ℕ → ℕ → ℕ → ℕ → ℕ → Type 0
-BothParts v len P R t d x = OfEdge P R t d x v len
-
 -- ── From above ──
--- the members of w are the positions that at node x end outside of what is under its child c
-pub record Outside (m : Machine) (n r x c w : ℕ) (p : List ℕ) : Type 0 where
-  pub found : (P R : XPath) (t : Tree) (d : List ℕ) → Stage P R t m n p → Loops P R t n p → Group t d n r p → Sides P R t d n p 0 → Exactly (word p n ABOVE x) (Above t P R d x)
-      → (side : Bool) (y l : ℕ) → Child t side x c → Under t c y → Edge t d x y l → Exactly w (Out t P R d x y)
-
 -- node v has its positions from above, and the edge above it is in the rows
 pub record Sinks (m : Machine) (n b first r v : ℕ) (p p′ : List ℕ) : Type 0 where
   pub rest : Rest ABOVE n b p p′

@@ -1,16 +1,12 @@
 // The snippets that the first snippets of one value yield directly: added to the snippets' rows of a comparison's part, for one group of nodes of equal value after the other.
 mod listing;
-mod own;
-mod rising;
-mod rows;
 mod sinking;
-mod yields;
 
+use group_ends::rising::rise;
 use layout::Groups;
 use layout::words::get;
 use listing::list_ranks;
 use machine::Machine;
-use rising::rise;
 use sinking::sink;
 use skeletons::marks::mark_group;
 ghost use mathlib.Core.Path.{_≡_};

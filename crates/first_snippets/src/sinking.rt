@@ -1,10 +1,8 @@
 // From above: each skeleton node has its positions that end elsewhere from the next skeleton node above it, and the edge between the two yields its snippets.
-use crate::own::own;
-use crate::yields::add_edge;
-use bits::union;
+use edge_snippets::yields::add_edge;
+use group_ends::outside::outside;
 use layout::Groups;
 use layout::words::get;
-use layout::words::left;
 use layout::words::put;
 use machine::Machine;
 use powers::lower;
@@ -13,41 +11,12 @@ use skeletons::blocks::block_end;
 use skeletons::blocks::is_empty;
 use skeletons::skeleton::climb;
 use skeletons::skeleton::is_skeleton;
-ghost use mathlib.Core.Path.{_≡_};
 ghost use mathlib.Core.List.{List};
-ghost use mathlib.Core.Logic.{_≢_, _⊎_};
-ghost use Prim.Native.Nat.{ℕ, _*_, _≤_, _<_};
-ghost use lib.ListN.{length};
-ghost use Rattle.limits.specs.Limits.{documentNodes};
-ghost use Rattle.layout.specs.Groups.{LEFTIN, RIGHTIN};
-ghost use Rattle.layout.specs.Part.{PAIRS};
-ghost use Rattle.layout.specs.Table.{LEFT, Room};
-ghost use Rattle.layout.specs.Words.{word};
-ghost use Rattle.first_snippets.specs.Groups.{Given};
-ghost use Rattle.first_snippets.specs.Steps.{Placed, Outside, Sinks, SinksBy, Sank};
+ghost use Prim.Native.Nat.{ℕ, _≤_, _<_};
+ghost use Rattle.group_ends.specs.Ends.{Given};
+ghost use Rattle.group_ends.specs.Steps.{Placed};
+ghost use Rattle.first_snippets.specs.Steps.{Sinks, SinksBy, Sank};
 ghost use Rattle.skeletons.specs.Skeletons.{Ascent};
-
-// The positions that come to node `x` from the other side than that of `child`.
-fn beside(p: &[u16], n: usize, x: usize, child: usize) -> u16
-    requires { ⌜ (x < n) × Room n (now p) ⌝ }
-    ensures { λ w. ⌜ ((word (now (p .entry)) n LEFT x ≡ child) × (w ≡ word (now (p .entry)) n RIGHTIN x)) ⊎ ((word (now (p .entry)) n LEFT x ≢ child) × (w ≡ word (now (p .entry)) n LEFTIN x)) ⌝ }
-{
-    if left(p, n, x) == child {
-        return get(p, n, Groups::RIGHTIN, x) as u16;
-    }
-    get(p, n, Groups::LEFTIN, x) as u16
-}
-
-// The positions that at node `x` end outside what is under `child`.
-fn outside(p: &[u16], n: usize, m: Machine, x: usize, child: usize, r: usize) -> u16
-    requires { ⌜ (x < n) × (n ≤ documentNodes) × (PAIRS * n ≤ length (now p)) ⌝ }
-    ensures { λ w. ⌜ Outside m n r x child w (now (p .entry)) ⌝ }
-{
-    let up = get(p, n, Groups::ABOVE, x) as u16;
-    let here = own(p, n, m, x, r);
-    let over = beside(p, n, x, child);
-    union(up, union(here, over))
-}
 
 // The skeleton node `v`, which has the edge `c` above it.
 fn sink_by(p: &mut [u16], n: usize, b: usize, m: Machine, v: usize, r: usize, first: u16, c: Climb)

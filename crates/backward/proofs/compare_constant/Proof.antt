@@ -2,7 +2,7 @@
 use Rattle.layout.specs.Part.{SEEN}
 use Rattle.reach.proofs.Adding.{spared-space}
 use Rattle.reach.proofs.Clearing.{cleared-spared, work-none}
-use Rattle.backward.proofs.Linked.{linked-same}
+use Rattle.retracing.proofs.Linked.{linked-same}
 use Rattle.backward.proofs.Hitting.{hits-answered}
 use borrow.Author.Needs.{needs}
 use Rattle.backward.proofs.compare_constant.Statement.{statement}

@@ -1,6 +1,6 @@
 -- `backward::compare_order` meets its contract.
 use Rattle.rank_sets.proofs.Steady.{held-at, held-space, held-small}
-use Rattle.backward.proofs.Linked.{linked-same}
+use Rattle.retracing.proofs.Linked.{linked-same}
 use Rattle.backward.proofs.Ranking.{bucketed-held, order-answered}
 use borrow.Author.Needs.{needs}
 use Rattle.backward.proofs.compare_order.Statement.{statement}

@@ -1,7 +1,7 @@
 -- `evaluators::by_snippets` meets its contract.
 use mathlib.Core.Path.{sym, _∙_}
 use native.Mathlib.Omega.{arith}
-use Rattle.backward.proofs.Linked.{linked-drawn}
+use Rattle.retracing.proofs.Linked.{linked-drawn}
 use Rattle.skeletons.proofs.Shape.{drawn-shape}
 use Rattle.plain.proofs.Signs.{other-sign}
 use Rattle.evaluators.proofs.Staging.{stage-space, stage-second}

@@ -1,6 +1,6 @@
 -- `evaluators::compare_constant` meets its contract.
 use Rattle.machine.proofs.Comparing.{hits-holds}
-use Rattle.backward.proofs.Linked.{linked-drawn}
+use Rattle.retracing.proofs.Linked.{linked-drawn}
 use Rattle.evaluators.proofs.Staging.{stage-space, answered-as}
 use borrow.Author.Needs.{needs}
 use Rattle.evaluators.proofs.compare_constant.Statement.{statement}

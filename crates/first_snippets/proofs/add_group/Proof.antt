@@ -1,6 +1,6 @@
 -- `first_snippets::add_group` meets its contract.
 use native.Mathlib.Omega.{arith}
-use Rattle.first_snippets.proofs.Rest.{rest-within, stage-shape, given-rest, sizes-front}
+use Rattle.group_ends.proofs.Rest.{rest-within, stage-shape, given-rest, sizes-front}
 use Rattle.first_snippets.proofs.Adding.{given-marked, group-added}
 use borrow.Author.Needs.{needs}
 use Rattle.first_snippets.proofs.add_group.Statement.{statement}

@@ -4,7 +4,7 @@ use mathlib.Core.Path.{_≡_, sym, _∙_, subst}
 use native.Mathlib.Omega.{arith}
 use Rattle.layout.specs.Groups.{LIST}
 use Rattle.first_snippets.specs.Groups.{Listed, AddedOf}
-use Rattle.first_snippets.proofs.Rest.{same-word, sizes-front}
+use Rattle.group_ends.proofs.Rest.{same-word, sizes-front}
 use Rattle.first_snippets.proofs.Adding.{base-rest}
 use Rattle.first_snippets.proofs.Lists.{listed-none, listed-step}
 use Rattle.first_snippets.proofs.add_list.Statement.{statement}
@@ -47,7 +47,7 @@ loop-again c =
     (omega arith, listed-step (omega arith) (c .before .before .before .before .get .ensures .0) (c .before .before .before .before .before .before .before .loop .inv .1) (c .before .before .add-rank .ensures))
 
 same-length : tie.Need-same-length Inv-loop μ-loop
-same-length c = c .before .loop .inv .1 .rest .long
+same-length c = c .before .loop .inv .1 .rest .same .long
 
 returns : tie.Need-returns Inv-loop μ-loop
 returns c =

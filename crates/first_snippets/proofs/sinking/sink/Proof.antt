@@ -3,7 +3,7 @@ use Prim.Native.Nat.{_-_, _≤_}
 use mathlib.Core.Path.{_≡_, subst}
 use native.Mathlib.Omega.{arith}
 use Rattle.first_snippets.specs.Steps.{Sank}
-use Rattle.first_snippets.proofs.Rest.{rest-more, given-rest}
+use Rattle.group_ends.proofs.Rest.{rest-more, given-rest}
 use Rattle.first_snippets.proofs.Descending.{sank-none}
 use Rattle.first_snippets.proofs.sinking.sink.Statement.{statement}
 use Rattle.first_snippets.proofs.sinking.sink.Tie as tie
@@ -27,7 +27,7 @@ loop-again : tie.Need-loop-again Inv-loop μ-loop
 loop-again c = let h = c .before .before .sink-from .ensures in (h .1, h .2 (c .before .before .before .before .before .before .before .args .p .now) (c .before .before .before .before .before .loop .inv .1))
 
 same-length : tie.Need-same-length Inv-loop μ-loop
-same-length c = c .before .loop .inv .1 .rest .long
+same-length c = c .before .loop .inv .1 .rest .same .long
 
 returns : tie.Need-returns Inv-loop μ-loop
 returns c = let x = c .before .before .before .args in let i = c .before .loop .inv .0 in let l = c .loop-test .left in let whole : c .before .loop .v ≡ x .n = omega arith in subst (λ v. Sank (x .m) (x .n) (x .b) (x .first) (x .r) v (x .p .now) (c .before .loop .p)) whole (c .before .loop .inv .1)

@@ -2,7 +2,7 @@
 use mathlib.Core.Path.{refl, sym, _∙_}
 use mathlib.Core.Bool.{false≢true}
 use native.Mathlib.Omega.{arith}
-use Rattle.first_snippets.proofs.Ascending.{given-placed}
+use Rattle.group_ends.proofs.Ascending.{given-placed}
 use Rattle.first_snippets.proofs.Descending.{sinks-skip, sinks-by, sinks-top}
 use borrow.Author.Needs.{needs}
 use Rattle.first_snippets.proofs.sinking.sink_at.Statement.{statement}

@@ -1,7 +1,7 @@
 -- `first_snippets::sinking::sink_by` meets its contract.
 use native.Mathlib.Omega.{arith}
-use Rattle.first_snippets.proofs.Rest.{sizes-front, stretch-kept}
-use Rattle.first_snippets.proofs.Ascending.{placed-node, placed-stretch}
+use Rattle.group_ends.proofs.Rest.{sizes-front, stretch-kept}
+use Rattle.group_ends.proofs.Ascending.{placed-node, placed-stretch}
 use Rattle.first_snippets.proofs.Descending.{put-rest, sinks-edge}
 use borrow.Author.Needs.{needs}
 use Rattle.first_snippets.proofs.sinking.sink_by.Statement.{statement}

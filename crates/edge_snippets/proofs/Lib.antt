@@ -1,0 +1,4 @@
+pub mod Gains
+pub mod Crossing
+pub mod Lengths
+pub mod Yielding

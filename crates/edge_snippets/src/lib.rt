@@ -1,0 +1,3 @@
+// The snippets that one edge of a skeleton yields directly: added to the snippets' rows of a comparison's part.
+mod rows;
+pub mod yields;

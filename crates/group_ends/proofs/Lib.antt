@@ -1,0 +1,4 @@
+pub mod Rest
+pub mod Owning
+pub mod Ascending
+pub mod Around

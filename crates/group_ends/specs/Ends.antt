@@ -1,0 +1,69 @@
+-- Where a comparison's paths end among the nodes of one value: what is given, what may change, and the positions at each skeleton node that end inside it or beside it.
+use Prim.Native.Nat.{ℕ, _+_, _*_, _^_, _≤_, _<_}
+use mathlib.Core.Logic.{_⊎_}
+use mathlib.Core.Bool.{Bool, true, false}
+use mathlib.Core.List.{List}
+use lib.ListN.{length}
+use Rattle.limits.specs.Limits.{documentNodes, nodeDigits, wordsPerDigit}
+use Rattle.xpath.specs.Syntax.{XPath}
+use Rattle.xpath.specs.Tree.{Tree, Down}
+use Rattle.snippets.specs.Snippets.{Skeleton}
+use Rattle.snippets.specs.Ways.{In, FromChild}
+use Rattle.layout.specs.Blocks.{BLOCKS, Aside}
+use Rattle.layout.specs.Groups.{IN, LEFTIN, RIGHTIN}
+use Rattle.layout.specs.Table.{COLUMNS}
+use Rattle.layout.specs.Words.{word, Same}
+use Rattle.machine.specs.declared.Machine.{Machine}
+use Rattle.matrices.specs.Matrices.{Exactly}
+use Rattle.loops.specs.Loops.{Stage, Loops}
+use Rattle.powers.specs.Powers.{Powers}
+use Rattle.skeletons.specs.Skeletons.{Group}
+
+-- what comes from the next skeleton node on a side
+abbrev pub inward : Bool → ℕ
+inward true = LEFTIN
+inward false = RIGHTIN
+
+-- ── What is given ──
+-- a comparison of two paths on a tree with its loops and its powers, and the marks of the nodes of rank r, which have the value d
+pub record Setting (P R : XPath) (t : Tree) (d : List ℕ) (m : Machine) (n b r : ℕ) (p : List ℕ) : Type 0 where
+  pub stage : Stage P R t m n p
+  pub loops : Loops P R t n p
+  pub powers : Powers P R t n p b
+  pub group : Group t d n r p
+
+-- the powers below b are enough for every way down the tree
+abbrev pub Enough : Tree → ℕ → Type 0
+Enough t b = (x y l : ℕ) → Down t x y l → l < 2 ^ b
+
+-- there is room for the powers below b
+pub record Sizes (n b : ℕ) (p : List ℕ) : Type 0 where
+  pub few : n ≤ documentNodes
+  pub low : b ≤ nodeDigits
+  pub room : (BLOCKS + wordsPerDigit * b) * n ≤ length p
+
+-- some comparison and some value are given
+pub record Given (m : Machine) (n b r : ℕ) (p : List ℕ) : Type 0 where
+  pub first : XPath
+  pub second : XPath
+  pub tree : Tree
+  pub value : List ℕ
+  pub setting : Setting first second tree value m n b r p
+  pub enough : Enough tree b
+  pub sizes : Sizes n b p
+
+-- ── What may change ──
+-- only the columns from c on and the snippets' rows may be different
+pub record Rest (c n b : ℕ) (p p′ : List ℕ) : Type 0 where
+  pub same : Same (λ k. (k < c * n) ⊎ ((COLUMNS * n ≤ k) × Aside n b k)) p p′
+
+-- ── What is found ──
+module _ (P R : XPath) (t : Tree) (d : List ℕ) (n : ℕ) (p : List ℕ) where
+  -- the positions that come from the next skeleton nodes, as far as these are v or behind it
+  abbrev pub Sides : ℕ → Type 0
+  Sides v = (side : Bool) (x : ℕ) → Skeleton t d x → Exactly (word p n (inward side) x) (λ i. (f : FromChild t P R d side x i) × (v ≤ f .y))
+
+  -- the skeleton nodes from v on have their positions, and have handed them up
+  pub record Risen (v : ℕ) : Type 0 where
+    pub inside : (u : ℕ) → v ≤ u → Skeleton t d u → Exactly (word p n IN u) (In t P R d u)
+    pub sides : Sides v

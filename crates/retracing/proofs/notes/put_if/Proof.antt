@@ -1,0 +1,21 @@
+-- `retracing::notes::put_if` meets its contract.
+use mathlib.Core.Path.{refl}
+use Rattle.retracing.specs.Notes.{put, skip}
+use borrow.Author.Needs.{needs}
+use Rattle.retracing.proofs.notes.put_if.Statement.{statement}
+use Rattle.retracing.proofs.notes.put_if.Tie as tie
+
+put-requires : tie.Need-put-requires
+put-requires c κs = search needs
+
+same-length : tie.Need-same-length
+same-length c = search needs
+
+returns : tie.Need-returns
+returns c = put (c .before .before .before .before .if1 .taken) (c .before .before .put .ensures)
+
+returns-2 : tie.Need-returns-2
+returns-2 c = skip (c .if1 .left) refl
+
+pub put-if-spec : {M : Type 1} → statement M
+put-if-spec = tie.close (tie.spec put-requires same-length returns returns-2)
