@@ -1,5 +1,2 @@
-pub mod TreeRules
-pub mod LineForms
 pub mod Steps
 pub mod Walk
-pub mod NodeLines

@@ -16,10 +16,10 @@ use Rattle.document_spec.proofs.Cursor.{depth-here, kind-here, label-here, valu
 use Rattle.lexer.specs.declared.Ending.the-variants.{Next, Bad}
 use Rattle.lexer.specs.declared.Numeral.the-variants as Numerals
 use Rattle.lexer.specs.Reading.{Ended, NumberedLine}
-use Rattle.document.specs.declared.rules.Kind.{Kind}
-use Rattle.document.specs.declared.rules.Node.{Node}
-use Rattle.document.specs.declared.lines.KindLine.the-variants.{Is, NoKind}
-use Rattle.document.specs.Nodes.{kindOf, DepthRule, KindRule, KindRead, IsLabel, IsValue}
+use Rattle.document_lines.specs.declared.rules.Kind.{Kind}
+use Rattle.document_lines.specs.declared.rules.Node.{Node}
+use Rattle.document_lines.specs.declared.lines.KindLine.the-variants.{Is, NoKind}
+use Rattle.document_lines.specs.Nodes.{kindOf, DepthRule, KindRule, KindRead, IsLabel, IsValue}
 use Rattle.document.specs.Check.{Cursor, Before, AtDepth, AtKind, AtLabel, AtValue}
 
 module _ {s : List ℕ} {n v i : ℕ} where

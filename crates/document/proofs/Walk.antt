@@ -18,7 +18,7 @@ use Rattle.document_spec.proofs.Good.{good-start, first-extra}
 use Rattle.document_spec.proofs.Accepted.{good-accepts}
 use Rattle.lexer.specs.declared.Numeral.the-variants.{Value, NoNumeral}
 use Rattle.lexer.specs.Reading.{NumberedLine}
-use Rattle.document.specs.declared.rules.Node.{Node}
+use Rattle.document_lines.specs.declared.rules.Node.{Node}
 use Rattle.document.specs.Check.{Cursor, Says, Before}
 
 -- ── Behind a node ──

@@ -10,10 +10,10 @@ use Rattle.document_spec.specs.Verdict.{behindLines, DepthIs, KindIs, DocumentG
 use Rattle.document_spec.specs.Good.{Good}
 use Rattle.document.specs.declared.Verdict.{Verdict}
 use Rattle.document.specs.declared.Verdict.the-variants.{Accepted, Length, Form, Count, Tree}
-use Rattle.document.specs.declared.rules.Node.{Node}
+use Rattle.document_lines.specs.declared.rules.Node.{Node}
 use Rattle.document.specs.declared.nodes.Step.{Step}
 use Rattle.document.specs.declared.nodes.Step.the-variants.{Behind, Refused}
-use Rattle.document.specs.Nodes.{kindOf}
+use Rattle.document_lines.specs.Nodes.{kindOf}
 
 -- the verdict of the definition: the library that the document spells, or the first ground in the written order
 abbrev pub Judged : List ℕ → Verdict → Type 0

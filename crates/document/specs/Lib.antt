@@ -1,3 +1,1 @@
-pub mod Nodes
 pub mod Check
-pub mod Entries

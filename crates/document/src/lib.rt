@@ -1,16 +1,13 @@
 // The document check: any bytes get the verdict of numbers 1 to 4 of document 01.
-pub mod entries;
-mod lines;
 mod nodes;
-pub mod rules;
 
+use document_lines::rules::Kind;
+use document_lines::rules::Node;
 use lexer::Numeral;
 use lexer::number_line;
 use limits::Document;
 use nodes::Step;
 use nodes::node;
-use rules::Kind;
-use rules::Node;
 ghost use Rattle.document.specs.Check.{Judged, Cursor};
 
 // The number of nodes of an accepted document, or the ground of refusal with its line.

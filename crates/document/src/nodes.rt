@@ -1,15 +1,15 @@
 // The four lines of a node, one after the other: each gives the verdict, or hands the cursor on to the next.
 use crate::Verdict;
-use crate::lines::KindLine;
-use crate::lines::read_kind;
-use crate::lines::read_label;
-use crate::lines::read_value;
-use crate::rules::Kind;
-use crate::rules::Node;
-use crate::rules::depth_fits;
-use crate::rules::kind_fits;
-use crate::rules::label_fits;
-use crate::rules::value_fits;
+use document_lines::lines::KindLine;
+use document_lines::lines::read_kind;
+use document_lines::lines::read_label;
+use document_lines::lines::read_value;
+use document_lines::rules::Kind;
+use document_lines::rules::Node;
+use document_lines::rules::depth_fits;
+use document_lines::rules::kind_fits;
+use document_lines::rules::label_fits;
+use document_lines::rules::value_fits;
 use lexer::Ending;
 use lexer::Numeral;
 use lexer::number_line;

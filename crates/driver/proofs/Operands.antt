@@ -11,7 +11,7 @@ use Rattle.lists.specs.Text.{bytes}
 use Rattle.xpath.specs.Syntax.{Op, Test, compare, compareTo, XPath, empty, one, seq, union, star, toLeft, toRight, fromLeft, fromRight, stay}
 use Rattle.document_spec.specs.Library.{Node}
 use Rattle.rule_spec.specs.Spelling.{spellPath, spellStep}
-use Rattle.rule.specs.Readers.{Lacks, Stood}
+use Rattle.tokens.specs.Readers.{Lacks, Stood}
 use Rattle.rule_parts.specs.Standing.{Spans, TestAt, PathAt}
 use Rattle.rule_parts.specs.Middles.{Parted}
 use Rattle.rule_parts.specs.declared.Middle.{Middle}

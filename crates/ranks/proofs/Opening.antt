@@ -9,7 +9,7 @@ use native.Mathlib.Numerals.{add-one}
 use Rattle.document_spec.specs.Library.{Node}
 use Rattle.document_spec.specs.Binary.{joined, stringOf}
 use Rattle.document_spec.specs.Verdict.{Accepts}
-use Rattle.document.specs.Entries.{Start}
+use Rattle.document_lines.specs.Entries.{Start}
 use Rattle.layout.specs.Table.{offsetOf}
 use Rattle.layout.specs.Words.{NONE}
 use Rattle.table.proofs.Trees.{tree-size, tree-linked, tree-stands, tree-small}

@@ -3,12 +3,13 @@ use Prim.Native.Nat.{ℕ, suc, _≤_, _<_}
 use mathlib.Core.List.{List}
 use lib.ListN.{length}
 use Rattle.limits.specs.Limits.{ruleNesting}
-use Rattle.rule.specs.declared.heads.TestHead.{TestHead}
-use Rattle.rule.specs.declared.heads.TestHead.the-variants.{Name, Not, TwoTests, Comparison, NoTest, DeepTest}
-use Rattle.rule.specs.declared.heads.PathHead.{PathHead}
-use Rattle.rule.specs.declared.heads.PathHead.the-variants.{Empty, Step, Bracket, TwoPaths, Star, NoPath, DeepPath}
-use Rattle.rule.specs.Readers.{Stands, Due}
-use Rattle.rule.specs.Heads.{TestBegins, PathBegins}
+use Rattle.tokens.specs.declared.heads.TestHead.{TestHead}
+use Rattle.tokens.specs.declared.heads.TestHead.the-variants.{Name, Not, TwoTests, Comparison, NoTest, DeepTest}
+use Rattle.tokens.specs.declared.heads.PathHead.{PathHead}
+use Rattle.tokens.specs.declared.heads.PathHead.the-variants.{Empty, Step, Bracket, TwoPaths, Star, NoPath, DeepPath}
+use Rattle.tokens.specs.Readers.{Stands}
+use Rattle.tokens.specs.Heads.{TestBegins, PathBegins}
+use Rattle.rule.specs.Calls.{Due}
 
 pub due : {s : List ℕ} {i n k : ℕ} → i ≤ length s → n ≤ suc ruleNesting → k ≤ i → Due s i n k
 due h l f = record { inside = h; nested = l; few = f }

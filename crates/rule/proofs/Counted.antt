@@ -14,8 +14,8 @@ use Rattle.lists.specs.Lists.{All, Occurs}
 use Rattle.rule_spec.specs.Parts.{Part, Sort, tests}
 use Rattle.rule_spec.specs.Verdict.{Heavy}
 use Rattle.rule_spec.specs.Bytes.{choose}
-use Rattle.rule.specs.declared.tally.Tally.{Tally}
-use Rattle.rule.specs.Tallies.{nowhere, tally, crowds, begins, begun, heavier, weighed, noted, tallied}
+use Rattle.tokens.specs.declared.read.Tally.{Tally}
+use Rattle.tokens.specs.Tallies.{nowhere, tally, crowds, begins, begun, heavier, weighed, noted, tallied}
 
 -- ── Tests ──
 abbrev pub firstOr : ℕ → List Part → ℕ

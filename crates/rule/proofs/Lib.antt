@@ -1,13 +1,5 @@
 pub mod Tallied
-pub mod Joins
-pub mod Places
-pub mod Bytes
-pub mod Names
-pub mod Constants
-pub mod Signs
-pub mod Halted
 pub mod Calls
-pub mod FirstBytes
 pub mod Tests
 pub mod Paths
 pub mod Operands

@@ -13,13 +13,13 @@ use Rattle.rule_spec.specs.Parts.{pathParts}
 use Rattle.rule_spec.specs.Machine.{path, byte, signed, operand, Stack, Values, rest, over, Answer, stopped, close, Key}
 use Rattle.rule_spec.specs.Readers.{goes, keys}
 use Rattle.rule_spec.proofs.Reading.{as-path}
-use Rattle.rule.specs.declared.tally.Tally.{Tally}
-use Rattle.rule.specs.declared.readers.Read.{Read}
-use Rattle.rule.specs.declared.readers.Read.the-variants.{Behind, Stuck, Deep}
-use Rattle.rule.specs.Tallies.{tallied}
-use Rattle.rule.specs.Readers.{partsOf, Lacks, Back, Halts, Reading, Signs}
-use Rattle.rule.proofs.Joins.{back-as}
-use Rattle.rule.proofs.Places.{turns-halts, turns-returns}
+use Rattle.tokens.specs.declared.read.Tally.{Tally}
+use Rattle.tokens.specs.declared.read.Read.{Read}
+use Rattle.tokens.specs.declared.read.Read.the-variants.{Behind, Stuck, Deep}
+use Rattle.tokens.specs.Tallies.{tallied}
+use Rattle.tokens.specs.Readers.{partsOf, Lacks, Back, Halts, Reading, Signs}
+use Rattle.tokens.proofs.Joins.{back-as}
+use Rattle.tokens.proofs.Places.{turns-halts, turns-returns}
 
 module _ (s : List ℕ) (i n : ℕ) where
   -- ── Behind a sign ──

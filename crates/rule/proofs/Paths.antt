@@ -12,15 +12,15 @@ use Rattle.xpath.specs.Syntax.{Test, XPath, empty, one, seq, union, star, toLef
 use Rattle.rule_spec.specs.Spelling.{spellTest, spellPath, spellStep}
 use Rattle.rule_spec.specs.Parts.{Sort, testParts, pathParts, stepParts}
 use Rattle.rule_spec.specs.Machine.{test, path, byte, Stack, move, Answer, Key}
-use Rattle.rule.specs.declared.tally.Tally.{Tally}
-use Rattle.rule.specs.declared.readers.Read.{Read}
-use Rattle.rule.specs.declared.readers.Read.the-variants.{Behind}
-use Rattle.rule.specs.declared.heads.PathHead.the-variants as head
-use Rattle.rule.specs.Tallies.{noted, tallied}
-use Rattle.rule.specs.Readers.{Stands, Back, Halts, Reading}
-use Rattle.rule.specs.Heads.{PathByte, PathBegins}
-use Rattle.rule.proofs.Halted.{back}
-use Rattle.rule.proofs.Joins.{leaf-back, Lead, LeadParts, lead-reads, Fork, ForkParts, first-halts, fork-reads}
+use Rattle.tokens.specs.declared.read.Tally.{Tally}
+use Rattle.tokens.specs.declared.read.Read.{Read}
+use Rattle.tokens.specs.declared.read.Read.the-variants.{Behind}
+use Rattle.tokens.specs.declared.heads.PathHead.the-variants as head
+use Rattle.tokens.specs.Tallies.{noted, tallied}
+use Rattle.tokens.specs.Readers.{Stands, Back, Halts, Reading}
+use Rattle.tokens.specs.Heads.{PathByte, PathBegins}
+use Rattle.tokens.proofs.Halted.{back}
+use Rattle.tokens.proofs.Joins.{leaf-back, Lead, LeadParts, lead-reads, Fork, ForkParts, first-halts, fork-reads}
 use Rattle.rule.proofs.Tests.{only}
 
 -- ── e l r L R ──

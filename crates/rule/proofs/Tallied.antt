@@ -1,4 +1,4 @@
--- Laws of tallies: one list after another, what `rule::tally` and `within` compute, and a comparison that is weighed when it ends.
+-- Laws of tallies: what `rule::tally` and `within` compute, and a comparison that is weighed when it ends.
 use Prim.Native.Nat.{ℕ, zero, suc, _-_, _≤_, _<_, min}
 use native.Mathlib.Omega.{arith}
 use mathlib.Core.Path.{_≡_, refl, sym, ap, _∙_}
@@ -10,16 +10,10 @@ use borrow.Author.Tests.{eq-eqb, ne-eqb, le-leb, lt-leb, lt-ltb, le-ltb}
 use Rattle.limits.specs.Limits.{comparisonSteps}
 use Rattle.rule_spec.specs.Parts.{Part, Sort}
 use Rattle.rule_spec.specs.Bytes.{choose}
-use Rattle.rule.specs.declared.tally.Tally.{Tally}
+use Rattle.tokens.specs.declared.read.Tally.{Tally}
 use Rattle.rule.specs.declared.Verdict.the-variants.{Accepted, Tests, Steps}
 use Rattle.rule.specs.Check.{judgedBy}
-use Rattle.rule.specs.Tallies.{nowhere, tally, crowds, begins, begun, heavier, weighed, noted, tallied}
-
--- ── One list after another ──
-pub tallied-append : (ps qs : List Part) (t : Tally) → tallied t (ps ++ qs) ≡ tallied (tallied t ps) qs
-unfolding tallied
-tallied-append [] qs t = refl
-tallied-append (p ∷ ps) qs t = tallied-append ps qs (noted t (p .offset) (p .sort))
+use Rattle.tokens.specs.Tallies.{nowhere, tally, crowds, begins, begun, heavier, weighed, noted, tallied}
 
 -- ── How the code computes them ──
 pub begun-some : (t : Tally) (o : ℕ) → 0 < t .left → tally (t .left - 1) (t .crowded) (t .heavy) ≡ begun t o

@@ -12,16 +12,17 @@ use Rattle.rule_spec.specs.Spelling.{sign, spellTest, spellPath}
 use Rattle.rule_spec.specs.Parts.{Part, Sort, testParts, pathParts}
 use Rattle.rule_spec.specs.Machine.{test, path, label, signed, move, comparing, Operand, Answer, Key}
 use Rattle.rule_spec.specs.Readers.{spellOperand}
-use Rattle.rule.specs.declared.tally.Tally.{Tally}
-use Rattle.rule.specs.declared.readers.Read.{Read}
-use Rattle.rule.specs.declared.readers.Read.the-variants.{Behind}
-use Rattle.rule.specs.declared.heads.TestHead.the-variants.{Name, Not, TwoTests}
-use Rattle.rule.specs.Tallies.{begun, weighed, noted, tallied}
-use Rattle.rule.specs.Readers.{partsOf, sizeOf, Stands, Opened, Back, Halts, Reading}
-use Rattle.rule.specs.Heads.{TestBegins}
-use Rattle.rule.proofs.Tallied.{tallied-append, weighed-last}
-use Rattle.rule.proofs.Halted.{back}
-use Rattle.rule.proofs.Joins.{Lead, LeadParts, lead-reads, Fork, ForkParts, first-halts, second-halts, both, fork-reads, back-as}
+use Rattle.tokens.specs.declared.read.Tally.{Tally}
+use Rattle.tokens.specs.declared.read.Read.{Read}
+use Rattle.tokens.specs.declared.read.Read.the-variants.{Behind}
+use Rattle.tokens.specs.declared.heads.TestHead.the-variants.{Name, Not, TwoTests}
+use Rattle.tokens.specs.Tallies.{begun, weighed, noted, tallied}
+use Rattle.tokens.specs.Readers.{partsOf, sizeOf, Stands, Back, Halts, Reading}
+use Rattle.tokens.specs.Heads.{TestBegins}
+use Rattle.rule.specs.Calls.{Opened}
+use Rattle.rule.proofs.Tallied.{weighed-last}
+use Rattle.tokens.proofs.Halted.{back}
+use Rattle.tokens.proofs.Joins.{tallied-append, Lead, LeadParts, lead-reads, Fork, ForkParts, first-halts, second-halts, both, fork-reads, back-as}
 
 -- ── The part that begins at i ──
 abbrev pub only : ℕ → Sort → ℕ → List Part

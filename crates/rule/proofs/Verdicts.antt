@@ -29,12 +29,12 @@ use Rattle.rule_spec.proofs.Least.{Settles}
 use Rattle.rule_spec.proofs.Grounds.{reads-one, deep-iff, manyTestsAt, tests-settles, manyStepsAt, steps-settles}
 use Rattle.rule_spec.proofs.Accepted.{unrefused-accepted}
 use Rattle.rule_spec.proofs.Readers.{rule-reads, rule-goes-on, rule-stops, rule-deep}
-use Rattle.rule.specs.declared.tally.Tally.{Tally}
+use Rattle.tokens.specs.declared.read.Tally.{Tally}
 use Rattle.rule.specs.declared.Verdict.the-variants.{Accepted, Tests, Steps}
-use Rattle.rule.specs.Tallies.{nowhere, untold}
-use Rattle.rule.specs.Readers.{partsOf, Shallow, Back, StuckAt, DeepAt}
+use Rattle.tokens.specs.Tallies.{nowhere, untold}
+use Rattle.tokens.specs.Readers.{partsOf, Shallow, Back, StuckAt, DeepAt}
 use Rattle.rule.specs.Check.{Judged, judgedBy}
-use Rattle.rule.proofs.Places.{at-end}
+use Rattle.tokens.proofs.Places.{at-end}
 use Rattle.rule.proofs.Counted.{firstOr, crowded-is, test-occurs, Lowest, heavy-lowest}
 
 -- ── Grounds in the written order ──

@@ -6,10 +6,10 @@ use Rattle.refusals.specs.Refusals.{ruleLength, unreadable, nesting, tests, ste
 use Rattle.xpath.specs.Syntax.{Test}
 use Rattle.rule_spec.specs.Verdict.{RuleGround, Accepts}
 use Rattle.rule_spec.specs.Bytes.{choose}
-use Rattle.rule.specs.declared.tally.Tally.{Tally}
+use Rattle.tokens.specs.declared.read.Tally.{Tally}
 use Rattle.rule.specs.declared.Verdict.{Verdict}
 use Rattle.rule.specs.declared.Verdict.the-variants.{Accepted, Length, Unreadable, Nesting, Tests, Steps}
-use Rattle.rule.specs.Tallies.{nowhere}
+use Rattle.tokens.specs.Tallies.{nowhere}
 
 -- the verdict of the definition: the rule reads as a test within the limits, or the first ground in the written order
 abbrev pub Judged : List ℕ → Verdict → Type 0

@@ -1,4 +1,2 @@
-pub mod Tallies
-pub mod Readers
-pub mod Heads
+pub mod Calls
 pub mod Check

@@ -1,14 +1,12 @@
 // The rule check: any bytes get the verdict of numbers 5 to 9 of document 01.
-mod heads;
 pub mod readers;
-pub mod tally;
-pub mod tokens;
+mod tally;
 
 use limits::Rule;
-use readers::Read;
 use readers::read_test;
 use tally::NOWHERE;
-use tally::Tally;
+use tokens::read::Read;
+use tokens::read::Tally;
 ghost use mathlib.Core.Path.{_≡_};
 ghost use Rattle.rule.specs.Check.{Judged, judgedBy};
 

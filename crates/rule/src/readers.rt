@@ -1,27 +1,22 @@
 // The readers of tests and paths call each other, and what is left of the rule falls.
 // Each is given the offset, the nesting, the steps of the comparison so far, and the tally.
-use crate::heads::PathHead;
-use crate::heads::TestHead;
-use crate::heads::path_head;
-use crate::heads::test_head;
-use crate::tally::Tally;
 use crate::tally::begin;
 use crate::tally::weigh;
-use crate::tokens::Sign;
-use crate::tokens::closing;
-use crate::tokens::constant;
-use crate::tokens::name;
-use crate::tokens::read_sign;
-use crate::tokens::stands;
+use tokens::Sign;
+use tokens::closing;
+use tokens::constant;
+use tokens::heads::PathHead;
+use tokens::heads::TestHead;
+use tokens::heads::path_head;
+use tokens::heads::test_head;
+use tokens::name;
+use tokens::read::Read;
+use tokens::read::Tally;
+use tokens::read_sign;
+use tokens::stands;
 ghost use Rattle.rule_spec.specs.Machine.{test, path, signed, operand};
-ghost use Rattle.rule.specs.Readers.{Due, Opened, Reading};
-
-// Behind the part: the offset, the steps and the tally. Or where no rule goes on so, or where a part too deep begins.
-pub enum Read {
-    Behind(usize, usize, Tally),
-    Stuck(usize),
-    Deep(usize),
-}
+ghost use Rattle.tokens.specs.Readers.{Reading};
+ghost use Rattle.rule.specs.Calls.{Due, Opened};
 
 pub fn read_test(s: &[u8], at: usize, n: usize, k: usize, t: Tally) -> Read
     requires { ⌜ Due (now s) at n k ⌝ }

@@ -1,17 +1,11 @@
-// What the readers keep of the tests and comparisons that they pass, for numbers 8 and 9.
+// How the readers keep a tally of the tests and comparisons that they pass, for numbers 8 and 9.
 use limits::Rule;
+use tokens::read::Tally;
 ghost use mathlib.Core.Path.{_≡_};
-ghost use Rattle.rule.specs.Tallies.{begun, weighed};
+ghost use Rattle.tokens.specs.Tallies.{begun, weighed};
 
 // No rule has so many bytes that a part begins here.
 pub const NOWHERE: usize = Rule::MAX_BYTES;
-
-// How many tests may still begin, where the first test too many begins, and the first comparison of too many steps.
-pub struct Tally {
-    pub left: usize,
-    pub crowded: usize,
-    pub heavy: usize,
-}
 
 // A test begins.
 pub fn begin(t: Tally, at: usize) -> Tally

@@ -11,12 +11,12 @@ use Rattle.rule_spec.specs.Parts.{tests, testParts}
 use Rattle.rule_spec.specs.Machine.{Symbol, test, over, rest}
 use Rattle.rule_spec.specs.Readers.{keys, Unnamed, Returns}
 use Rattle.rule_spec.proofs.Machine.{read-inj}
-use Rattle.rule.specs.declared.tally.Tally.{Tally}
-use Rattle.rule.specs.declared.readers.Read.{Read}
-use Rattle.rule.specs.declared.readers.Read.the-variants.{Behind, Stuck, Deep}
-use Rattle.rule.specs.Tallies.{tally, tallied}
-use Rattle.rule.specs.Readers.{partsOf, Back, Reading}
-use Rattle.rule.proofs.Places.{at-end}
+use Rattle.tokens.specs.declared.read.Tally.{Tally}
+use Rattle.tokens.specs.declared.read.Read.{Read}
+use Rattle.tokens.specs.declared.read.Read.the-variants.{Behind, Stuck, Deep}
+use Rattle.tokens.specs.Tallies.{tally, tallied}
+use Rattle.tokens.specs.Readers.{partsOf, Back, Reading}
+use Rattle.tokens.proofs.Places.{at-end}
 use Rattle.rule_parts.specs.Standing.{Spans, TestAt}
 use Rattle.rule_parts.proofs.Count.{left-is, count-test}
 use Rattle.rule_parts.proofs.Determined.{not-stuck, not-deep, same-end, test-returns}

@@ -8,8 +8,8 @@ use Rattle.lists.specs.Text.{bytes}
 use Rattle.xpath.specs.Syntax.{Test, named, not, and, or, compare, compareTo, XPath, empty, one, seq, union, star, Step, toLeft, toRight, fromLeft, fromRight, stay}
 use Rattle.rule_spec.specs.Spelling.{sign, spellTest, spellPath, spellStep}
 use Rattle.rule_spec.specs.Parts.{Part, Sort, tests, testParts, pathParts, stepParts}
-use Rattle.rule.specs.declared.tally.Tally.{Tally}
-use Rattle.rule.specs.Tallies.{begins, begun, weighed, noted, tallied}
+use Rattle.tokens.specs.declared.read.Tally.{Tally}
+use Rattle.tokens.specs.Tallies.{begins, begun, weighed, noted, tallied}
 
 abbrev count : List Part → ℕ
 count ps = length (tests ps)

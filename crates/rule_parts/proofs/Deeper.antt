@@ -6,7 +6,7 @@ use mathlib.Core.List.{List, [], _∷_, _++_, map, map-append}
 use Rattle.xpath.specs.Syntax.{Test, named, not, and, or, compare, compareTo, XPath, empty, one, seq, union, star, Step, toLeft, toRight, fromLeft, fromRight, stay}
 use Rattle.rule_spec.specs.Parts.{Part, testParts, pathParts, stepParts}
 use Rattle.rule_spec.specs.Readers.{keys}
-use Rattle.rule.specs.Readers.{Shallow}
+use Rattle.tokens.specs.Readers.{Shallow}
 
 abbrev deeper : Part → Part
 deeper p = record { offset = p .offset; nesting = suc (p .nesting); sort = p .sort }

@@ -19,10 +19,10 @@ use Rattle.rule_spec.proofs.Reading.{take-test, take-path}
 use Rattle.rule_spec.proofs.Unique.{pops-unnamed}
 use Rattle.rule_spec.proofs.Runs.{seenOf}
 use Rattle.rule_spec.proofs.Readers.{answer-grows}
-use Rattle.rule.specs.declared.tally.Tally.{Tally}
-use Rattle.rule.specs.declared.readers.Read.{Read}
-use Rattle.rule.specs.declared.readers.Read.the-variants.{Behind, Stuck, Deep}
-use Rattle.rule.specs.Readers.{Shallow, StuckAt, DeepAt, Reading}
+use Rattle.tokens.specs.declared.read.Tally.{Tally}
+use Rattle.tokens.specs.declared.read.Read.{Read}
+use Rattle.tokens.specs.declared.read.Read.the-variants.{Behind, Stuck, Deep}
+use Rattle.tokens.specs.Readers.{Shallow, StuckAt, DeepAt, Reading}
 use Rattle.rule_parts.specs.Standing.{TestAt, PathAt}
 
 placeOf : Answer Test → ℕ

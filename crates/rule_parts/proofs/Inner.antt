@@ -15,7 +15,7 @@ use Rattle.rule_spec.specs.Bytes.{isNameByte}
 use Rattle.rule_spec.specs.Readers.{key, keys, Unnamed}
 use Rattle.rule_spec.proofs.Bytes.{nameByte-iff, clash}
 use Rattle.rule_spec.proofs.Reading.{test-head}
-use Rattle.rule.specs.Readers.{Shallow, Lacks}
+use Rattle.tokens.specs.Readers.{Shallow, Lacks}
 use Rattle.rule_parts.specs.Standing.{Spans, TestAt, PathAt, SignAt}
 use Rattle.rule_parts.proofs.Deeper.{test-shallower, path-shallower}
 

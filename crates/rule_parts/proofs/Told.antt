@@ -18,7 +18,7 @@ use Rattle.rule_parts.specs.declared.kinds.PathKind.the-variants.{Empty,
 use Rattle.rule_parts.specs.declared.kinds.Operator.{Operator}
 use Rattle.rule_parts.specs.declared.kinds.Operator.the-variants.{Equal, Unequal}
 use Rattle.rule_parts.specs.declared.kinds.Sign.{Sign}
-use Rattle.rule.specs.Readers.{Lacks, Stands}
+use Rattle.tokens.specs.Readers.{Lacks, Stands}
 use Rattle.rule_parts.specs.Standing.{Spans, TestAt, PathAt, SignAt}
 use Rattle.rule_parts.specs.Kinds.{testKind, pathKind, signed, longer, shorter}
 

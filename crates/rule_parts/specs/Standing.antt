@@ -7,7 +7,7 @@ use Rattle.xpath.specs.Syntax.{Op, Test, XPath}
 use Rattle.rule_spec.specs.Spelling.{sign, spellTest, spellPath, LegalTest, LegalPath}
 use Rattle.rule_spec.specs.Parts.{testParts, pathParts}
 use Rattle.rule_spec.specs.Readers.{keys, Unnamed}
-use Rattle.rule.specs.Readers.{Shallow, Lacks}
+use Rattle.tokens.specs.Readers.{Shallow, Lacks}
 
 module _ (s : List ℕ) where
   -- the bytes w stand from i to j

@@ -1,5 +1,5 @@
 // What a test or a path is, by its first byte, and which sign stands in a comparison.
-use rule::tokens::stands;
+use tokens::stands;
 ghost use mathlib.Core.Path.{_≡_};
 ghost use Prim.Native.Nat.{ℕ, _<_};
 ghost use lib.ListN.{length};

@@ -3,10 +3,10 @@ pub mod kinds;
 
 use kinds::Operator;
 use kinds::read_sign;
-use rule::readers::Read;
 use rule::readers::read_path;
 use rule::readers::read_test;
-use rule::tally::Tally;
+use tokens::read::Read;
+use tokens::read::Tally;
 ghost use mathlib.Core.Path.{_≡_};
 ghost use Prim.Native.Nat.{ℕ, _≤_, _<_};
 ghost use lib.ListN.{length};

@@ -8,8 +8,8 @@ use native.Mathlib.Omega.{arith}
 use Rattle.document_spec.specs.Library.{Node}
 use Rattle.document_spec.specs.Verdict.{Accepts}
 use Rattle.document_spec.proofs.Accepted.{accepts-one}
-use Rattle.document.specs.declared.entries.Entry.{Entry}
-use Rattle.document.specs.Entries.{Start, Stands, IsEntry}
+use Rattle.document_lines.specs.declared.entries.Entry.{Entry}
+use Rattle.document_lines.specs.Entries.{Start, Stands, IsEntry}
 use Rattle.layout.specs.Table.{COLUMNS, LAST, Room}
 use Rattle.layout.specs.Words.{NONE, word, Wrote, Kept}
 use Rattle.layout.proofs.Frames.{frame-none, frame-then}

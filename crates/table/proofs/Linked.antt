@@ -9,7 +9,7 @@ use native.Mathlib.Omega.{arith}
 use Rattle.xpath.specs.Tree.{Child}
 use Rattle.document_spec.specs.Library.{Node}
 use Rattle.document_spec.specs.Binary.{parentOf, treeOf}
-use Rattle.document.specs.Entries.{Stands}
+use Rattle.document_lines.specs.Entries.{Stands}
 use Rattle.layout.specs.Table.{LOW, HIGH, PARENT, column}
 use Rattle.layout.specs.Words.{NONE, cell, word}
 use Rattle.table.specs.Links.{Points, IsParent, Linked}

@@ -7,7 +7,7 @@ use native.Mathlib.Omega.{arith}
 use Rattle.document_spec.specs.Library.{Node}
 use Rattle.document_spec.specs.Verdict.{Accepts}
 use Rattle.document_spec.proofs.Accepted.{accepts-one}
-use Rattle.document.specs.Entries.{Stands}
+use Rattle.document_lines.specs.Entries.{Stands}
 use Rattle.layout.specs.Table.{offsetOf}
 use Rattle.layout.specs.Words.{NONE}
 use Rattle.table.specs.Links.{Linked}

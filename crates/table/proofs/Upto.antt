@@ -17,7 +17,7 @@ use Rattle.document_spec.specs.Binary.{pick, back, isFirst, before, parentOf, t
 use Rattle.document_spec.specs.Verdict.{Accepts}
 use Rattle.document_spec.specs.Intervals.{deep}
 use Rattle.document_spec.proofs.Binary.{up-to, tree-formed, depth-le}
-use Rattle.document.specs.Entries.{Start, Stands}
+use Rattle.document_lines.specs.Entries.{Start, Stands}
 use Rattle.layout.specs.Table.{LOW, HIGH, PARENT, LAST, column, offsetOf}
 use Rattle.layout.specs.Words.{NONE, cell, word, Wrote}
 use Rattle.table.specs.Writes.{entered, hung, parentBy}

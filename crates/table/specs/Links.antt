@@ -8,7 +8,7 @@ use lib.ListN.{length}
 use Rattle.xpath.specs.Tree.{Child}
 use Rattle.document_spec.specs.Library.{Node}
 use Rattle.document_spec.specs.Binary.{parentOf, treeOf}
-use Rattle.document.specs.Entries.{Stands}
+use Rattle.document_lines.specs.Entries.{Stands}
 use Rattle.layout.specs.Table.{COLUMNS, PARENT, column, offsetOf}
 use Rattle.layout.specs.Words.{NONE, word, Kept}
 

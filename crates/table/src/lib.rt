@@ -1,6 +1,6 @@
 // The binary tree of an accepted document, in words of a lent scratch: one pass over the document enters each node and hangs it under the node whose child it is.
-use document::entries::first_entry;
-use document::entries::read_entry;
+use document_lines::entries::first_entry;
+use document_lines::entries::read_entry;
 use layout::Table;
 use layout::words::get;
 use layout::words::put;

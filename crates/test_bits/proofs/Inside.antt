@@ -11,8 +11,8 @@ use Rattle.lists.specs.Text.{bytes, NameByte}
 use Rattle.lists.proofs.Lists.{all-append}
 use Rattle.limits.specs.Names.{Name}
 use Rattle.document_spec.specs.Library.{Node, at, depthLine, kindLine, labelLine, valueLine, nodeLines}
-use Rattle.document.specs.declared.entries.Entry.{Entry}
-use Rattle.document.specs.Entries.{Stands, IsEntry}
+use Rattle.document_lines.specs.declared.entries.Entry.{Entry}
+use Rattle.document_lines.specs.Entries.{Stands, IsEntry}
 
 -- ── The end of a document ──
 -- a text that ends in LF

@@ -1,6 +1,6 @@
 // The test of a name: the labels of the nodes against some bytes of the rule.
 use crate::notes::note;
-use document::entries::read_entry;
+use document_lines::entries::read_entry;
 use layout::words::offset;
 ghost use mathlib.Core.Bool.{true};
 ghost use mathlib.Core.List.{List};

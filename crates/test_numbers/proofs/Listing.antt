@@ -9,7 +9,7 @@ use lib.Seq.{getD-set-same, getD-set-other, getD-append-add}
 use types.Run.{OneOf}
 use Rattle.xpath.specs.Syntax.{Test, named, XPath}
 use Rattle.rule_spec.specs.Verdict.{Accepts}
-use Rattle.rule.specs.Readers.{Stands, Lacks}
+use Rattle.tokens.specs.Readers.{Stands, Lacks}
 use Rattle.rule_parts.specs.Standing.{TestAt, PathAt}
 use Rattle.rule_parts.specs.Kinds.{testKind, pathKind}
 use Rattle.rule_parts.specs.Middles.{Parted}

@@ -12,7 +12,7 @@ use Rattle.lists.specs.Text.{bytes}
 use Rattle.xpath.specs.Syntax.{Test, named, not, and, or, compare, compareTo, XPath, empty, one, seq, union, star, Step, toLeft, toRight, fromLeft, fromRight, stay, steps}
 use Rattle.rule_spec.specs.Spelling.{spellPath, spellStep}
 use Rattle.rule_spec.proofs.Reading.{test-head}
-use Rattle.rule.specs.Readers.{Stands}
+use Rattle.tokens.specs.Readers.{Stands}
 use Rattle.rule_parts.specs.Standing.{Spans, TestAt, PathAt}
 use Rattle.rule_parts.specs.Middles.{Parted}
 use Rattle.rule_parts.specs.Kinds.{testKind, pathKind}

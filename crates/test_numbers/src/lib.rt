@@ -1,6 +1,5 @@
 // The tests of an accepted rule, numbered by their first bytes.
 use limits::Rule;
-use rule::tokens::stands;
 use rule_parts::kinds::PathKind;
 use rule_parts::kinds::TestKind;
 use rule_parts::kinds::path_kind;
@@ -9,6 +8,7 @@ use rule_parts::parted;
 use rule_parts::skip_path;
 use rule_parts::skip_test;
 use rule_parts::tests_in;
+use tokens::stands;
 ghost use mathlib.Core.Path.{_≡_};
 ghost use mathlib.Core.List.{List};
 ghost use Prim.Native.Nat.{ℕ, suc, _+_, _≤_, _<_};

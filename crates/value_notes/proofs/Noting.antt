@@ -10,8 +10,8 @@ use Rattle.document_spec.specs.Library.{Node, element, text, at, Value}
 use Rattle.document_spec.specs.Binary.{stringOf}
 use Rattle.document_spec.specs.Verdict.{Accepts}
 use Rattle.document_spec.proofs.Binary.{depth-small}
-use Rattle.document.specs.declared.entries.Entry.{Entry}
-use Rattle.document.specs.Entries.{IsEntry}
+use Rattle.document_lines.specs.declared.entries.Entry.{Entry}
+use Rattle.document_lines.specs.Entries.{IsEntry}
 use Rattle.layout.specs.Ranking.{FIRST, LOW, HIGH, LENGTH}
 use Rattle.layout.specs.Words.{NONE, cell, word, Wrote}
 use Rattle.layout.proofs.Cells.{wrote-then}

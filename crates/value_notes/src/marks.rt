@@ -6,7 +6,7 @@ use crate::texts::Texts;
 use crate::texts::gather;
 use crate::texts::inside;
 use crate::texts::own;
-use document::entries::read_entry;
+use document_lines::entries::read_entry;
 use layout::Ranking;
 use layout::words::offset;
 use layout::words::put;

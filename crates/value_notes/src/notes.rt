@@ -1,7 +1,7 @@
 // What is noted of the value of each node, in four columns, so that nodes are compared without reading their lines anew.
 use crate::texts::Texts;
-use document::entries::Entry;
-use document::rules::Kind;
+use document_lines::entries::Entry;
+use document_lines::rules::Kind;
 use layout::Ranking;
 use layout::Table;
 use layout::words::get;
@@ -15,7 +15,7 @@ ghost use Rattle.document_spec.specs.Library as Library;
 ghost use Rattle.document_spec.specs.Library.{at};
 ghost use Rattle.document_spec.specs.Binary.{stringOf};
 ghost use Rattle.document_spec.specs.Verdict.{Accepts};
-ghost use Rattle.document.specs.Entries.{IsEntry};
+ghost use Rattle.document_lines.specs.Entries.{IsEntry};
 ghost use Rattle.layout.specs.Table.{Room};
 ghost use Rattle.layout.specs.Words.{Wrote};
 ghost use Rattle.value_notes.specs.Values.{Inner, Inside};

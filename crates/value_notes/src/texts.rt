@@ -1,6 +1,6 @@
 // Where the text under each node of the binary tree begins and ends, in two columns: all text under a node stands between them, so nodes with the same two have the same text.
-use document::entries::Entry;
-use document::rules::Kind;
+use document_lines::entries::Entry;
+use document_lines::rules::Kind;
 use layout::Ranking;
 use layout::Table;
 use layout::words::get;
@@ -14,7 +14,7 @@ ghost use lib.ListN.{length};
 ghost use Rattle.document_spec.specs.Library as Library;
 ghost use Rattle.document_spec.specs.Verdict.{Accepts};
 ghost use Rattle.document_spec.specs.Intervals.{End};
-ghost use Rattle.document.specs.Entries.{IsEntry};
+ghost use Rattle.document_lines.specs.Entries.{IsEntry};
 ghost use Rattle.layout.specs.Table.{Room};
 ghost use Rattle.layout.specs.Words.{NONE};
 ghost use Rattle.value_notes.specs.Texts.{Bounds, Extent, Told};

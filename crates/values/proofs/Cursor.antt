@@ -12,11 +12,11 @@ use Rattle.document_spec.specs.Library.{element, attribute, text, at, Legal, Va
 use Rattle.document_spec.specs.Binary.{textOf, joined, stringOf}
 use Rattle.document_spec.specs.Verdict.{Accepts}
 use Rattle.document_spec.proofs.Intervals.{joined-in, joined-out, element-value}
-use Rattle.document.specs.declared.entries.Entry.{Entry}
-use Rattle.document.specs.declared.entries.Span.{Span}
-use Rattle.document.specs.declared.rules.Kind.{Kind}
-use Rattle.document.specs.Nodes.{kindOf}
-use Rattle.document.specs.Entries.{Stands, IsEntry}
+use Rattle.document_lines.specs.declared.entries.Entry.{Entry}
+use Rattle.document_lines.specs.declared.entries.Span.{Span}
+use Rattle.document_lines.specs.declared.rules.Kind.{Kind}
+use Rattle.document_lines.specs.Nodes.{kindOf}
+use Rattle.document_lines.specs.Entries.{Stands, IsEntry}
 use Rattle.values.specs.declared.reading.Reading.{Reading}
 use Rattle.values.specs.Comes.{Lies, Comes, weight, Filled, Split}
 

@@ -8,8 +8,8 @@ use Rattle.limits.specs.Limits.{valueBytes}
 use Rattle.document_spec.specs.Library as Library
 use Rattle.document_spec.specs.Binary.{joined}
 use Rattle.document_spec.specs.Verdict.{Accepts}
-use Rattle.document.specs.declared.entries.Span.{Span}
-use Rattle.document.specs.Entries.{Start}
+use Rattle.document_lines.specs.declared.entries.Span.{Span}
+use Rattle.document_lines.specs.Entries.{Start}
 use Rattle.values.specs.declared.reading.Reading.{Reading}
 use Rattle.values.specs.declared.reading.Byte.{Byte}
 use Rattle.values.specs.declared.reading.Byte.the-variants.{Next, End}

@@ -1,8 +1,8 @@
 // A cursor over the bytes of a node's string value.
-use document::entries::Entry;
-use document::entries::Span;
-use document::entries::read_entry;
-use document::rules::Kind;
+use document_lines::entries::Entry;
+use document_lines::entries::Span;
+use document_lines::entries::read_entry;
+use document_lines::rules::Kind;
 ghost use mathlib.Core.List.{List};
 ghost use mathlib.Core.Path.{_≡_};
 ghost use Prim.Native.Nat.{ℕ, suc, _+_, _≤_, _<_};
@@ -11,7 +11,7 @@ ghost use Rattle.document_spec.specs.Library as Library;
 ghost use Rattle.document_spec.specs.Library.{at};
 ghost use Rattle.document_spec.specs.Binary.{textOf, stringOf};
 ghost use Rattle.document_spec.specs.Verdict.{Accepts};
-ghost use Rattle.document.specs.Entries.{Stands, IsEntry};
+ghost use Rattle.document_lines.specs.Entries.{Stands, IsEntry};
 ghost use Rattle.values.specs.Comes.{Lies, Comes, Readable, weight, Filled, Advanced};
 
 // What is still to come of a string value: the bytes from one offset up to another, and then the text of the nodes

@@ -2,10 +2,10 @@
 use native.Mathlib.Omega.{arith}
 use mathlib.Core.Path.{sym, subst}
 use Rattle.rule_spec.specs.Machine.{test}
-use Rattle.rule.specs.Tallies.{untold}
-use Rattle.rule.specs.Readers.{Reading}
+use Rattle.tokens.specs.Tallies.{untold}
+use Rattle.tokens.specs.Readers.{Reading}
 use Rattle.rule.specs.Check.{Judged}
-use Rattle.rule.proofs.Halted.{back}
+use Rattle.tokens.proofs.Halted.{back}
 use Rattle.rule.proofs.Verdicts.{too-long, stuck-judged, deep-judged, goes-on-judged, end-judged}
 use borrow.Author.Needs.{needs}
 use Rattle.rule.proofs.check.Statement.{statement}

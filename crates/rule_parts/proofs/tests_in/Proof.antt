@@ -5,8 +5,8 @@ use mathlib.Core.Path.{sym, ap, _∙_}
 use lib.ListN.{take}
 use lib.Seq.{length-take-le}
 use Rattle.rule_spec.specs.Machine.{test}
-use Rattle.rule.specs.Tallies.{tally}
-use Rattle.rule.proofs.Halted.{back}
+use Rattle.tokens.specs.Tallies.{tally}
+use Rattle.tokens.proofs.Halted.{back}
 use Rattle.rule_parts.proofs.Alone.{begunOf, test-count, left-less}
 use borrow.Author.Needs.{needs}
 use Rattle.rule_parts.proofs.tests_in.Statement.{statement}

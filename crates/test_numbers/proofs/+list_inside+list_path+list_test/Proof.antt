@@ -4,7 +4,7 @@ use native.Mathlib.Omega.{arith}
 use mathlib.Core.Path.{subst, _∙_}
 use lib.ListN.{length, length-set}
 use borrow.Author.Needs.{needs}
-use Rattle.rule.specs.Readers.{Stood}
+use Rattle.tokens.specs.Readers.{Stood}
 use Rattle.test_numbers.proofs.Listing.{first-room, second-room, test-room-long, path-room-long, inside-room, one-room, test-lists, named-lists, not-room, not-lists, tests-two, two-lists, side-inside, side-room, constant-lists, sides-two, sides-lists, testless-lists, bracket-room, bracket-lists, star-room, star-lists, paths-two, pair-lists}
 use borrow.Fn.Kinds.{In}
 use borrow.Fn.PlainCycle.{Measures, is, falls, and}
@@ -22,7 +22,7 @@ use Rattle.rule_parts.proofs.kinds.test_kind.Reads as test-kind-reads
 use Rattle.rule_parts.proofs.parted.Reads as parted-reads
 use Rattle.rule_parts.proofs.skip_path.Reads as skip-path-reads
 use Rattle.rule_parts.proofs.skip_test.Reads as skip-test-reads
-use Rattle.rule.proofs.tokens.stands.Reads as stands-reads
+use Rattle.tokens.proofs.stands.Reads as stands-reads
 use Rattle.test_numbers.proofs.+list_inside+list_path+list_test.{statement}
 use Rattle.test_numbers.proofs.+list_inside+list_path+list_test.Tie.{close}
 

@@ -1,7 +1,7 @@
 -- `document::nodes::kind_step` meets its contract.
 use mathlib.Core.Path.{subst}
-use Rattle.document.specs.Nodes.{Told, KindRule, KindRead}
-use Rattle.document.specs.declared.lines.KindLine.the-variants.{Is}
+use Rattle.document_lines.specs.Nodes.{Told, KindRule, KindRead}
+use Rattle.document_lines.specs.declared.lines.KindLine.the-variants.{Is}
 use Rattle.document.proofs.Steps.{kind-form, kind-on, kind-tree}
 use borrow.Author.Needs.{needs}
 use Rattle.document.proofs.nodes.kind_step.Statement.{statement}

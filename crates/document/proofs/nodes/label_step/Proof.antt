@@ -1,7 +1,7 @@
 -- `document::nodes::label_step` meets its contract.
 use mathlib.Core.Path.{subst}
 use Rattle.lexer.specs.Reading.{Ended}
-use Rattle.document.specs.Nodes.{Told, kindOf, IsLabel}
+use Rattle.document_lines.specs.Nodes.{Told, kindOf, IsLabel}
 use Rattle.document_spec.specs.Library.{LabelRule}
 use Rattle.lexer.specs.declared.Ending.the-variants.{Next}
 use Rattle.document.proofs.Steps.{label-form, label-spelled, label-on, label-tree}

@@ -1,6 +1,6 @@
 -- `document::nodes::node` meets its contract.
 use mathlib.Core.Path.{subst}
-use Rattle.document.specs.Nodes.{Told, DepthRule}
+use Rattle.document_lines.specs.Nodes.{Told, DepthRule}
 use Rattle.lists.specs.Text.{bytes}
 use Rattle.lexer.specs.Reading.{NumberedLine}
 use Rattle.lexer.specs.declared.Numeral.the-variants.{Value}

@@ -2,7 +2,7 @@
 use mathlib.Core.Path.{subst}
 use native.Mathlib.Omega.{arith}
 use Rattle.lexer.specs.Reading.{Ended}
-use Rattle.document.specs.Nodes.{Told, kindOf, IsValue}
+use Rattle.document_lines.specs.Nodes.{Told, kindOf, IsValue}
 use Rattle.document_spec.specs.Library.{ValueRule}
 use Rattle.lexer.specs.declared.Ending.the-variants.{Next}
 use Rattle.document.proofs.Steps.{value-form, value-length, value-on, value-tree}

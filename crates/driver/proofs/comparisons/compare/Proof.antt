@@ -2,7 +2,7 @@
 use Prim.Native.Nat.{ℕ, _+_, _-_, _≤_}
 use native.Mathlib.Omega.{arith}
 use mathlib.Core.Path.{_≡_, sym, ap, subst}
-use Rattle.rule.specs.Readers.{Stood}
+use Rattle.tokens.specs.Readers.{Stood}
 use Rattle.document_spec.specs.Binary.{treeOf}
 use Rattle.test_numbers.specs.Tests.{testsOf, test}
 use Rattle.test_numbers.specs.Owned.{own}

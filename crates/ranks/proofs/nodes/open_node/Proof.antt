@@ -1,7 +1,7 @@
 -- `ranks::nodes::open_node` meets its contract.
 use mathlib.Core.Path.{sym, subst}
 use native.Mathlib.Omega.{arith}
-use Rattle.document.specs.Entries.{Stands}
+use Rattle.document_lines.specs.Entries.{Stands}
 use Rattle.table.proofs.Trees.{tree-size, tree-stands}
 use borrow.Author.Needs.{needs}
 use Rattle.ranks.proofs.nodes.open_node.Statement.{statement}

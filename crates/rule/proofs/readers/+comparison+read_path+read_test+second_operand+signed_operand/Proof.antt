@@ -8,13 +8,13 @@ use borrow.Author.Needs.{needs}
 use borrow.Fn.Kinds.{In}
 use borrow.Fn.PlainCycle.{Measures, is, falls, and}
 use Rattle.rule_spec.specs.Machine.{test, path}
-use Rattle.rule.specs.declared.heads.TestHead.{TestHead}
-use Rattle.rule.specs.declared.heads.PathHead.{PathHead}
-use Rattle.rule.specs.Readers.{Stands, Stood, SignRead}
-use Rattle.rule.specs.Heads.{TestBegins, PathBegins}
+use Rattle.tokens.specs.declared.heads.TestHead.{TestHead}
+use Rattle.tokens.specs.declared.heads.PathHead.{PathHead}
+use Rattle.tokens.specs.Readers.{Stands, Stood, SignRead}
+use Rattle.tokens.specs.Heads.{TestBegins, PathBegins}
 use Rattle.rule.proofs.Calls.{due, TestRoom, test-room, PathRoom, path-room}
-use Rattle.rule.proofs.Halted.{back, halted}
-use Rattle.rule.proofs.Signs.{sign-forth}
+use Rattle.tokens.proofs.Halted.{back, halted}
+use Rattle.tokens.proofs.Signs.{sign-forth}
 use Rattle.rule.proofs.Tests as tests
 use Rattle.rule.proofs.Paths as paths
 use Rattle.rule.proofs.Operands.{operand-halts, operand-reads, signed-reads}
@@ -29,15 +29,15 @@ use Rattle.rule.proofs.readers.second_operand.Reads as second-operand
 use Rattle.rule.proofs.readers.+comparison+read_path+read_test+second_operand+signed_operand.Lts-second_operand as second-operand-lts
 use Rattle.rule.proofs.readers.signed_operand.Reads as signed-operand
 use Rattle.rule.proofs.readers.+comparison+read_path+read_test+second_operand+signed_operand.Lts-signed_operand as signed-operand-lts
-use Rattle.rule.proofs.heads.path_head.Reads as path-head-reads
-use Rattle.rule.proofs.heads.test_head.Reads as test-head-reads
+use Rattle.tokens.proofs.heads.path_head.Reads as path-head-reads
+use Rattle.tokens.proofs.heads.test_head.Reads as test-head-reads
 use Rattle.rule.proofs.tally.begin.Reads as begin-reads
 use Rattle.rule.proofs.tally.weigh.Reads as weigh-reads
-use Rattle.rule.proofs.tokens.closing.Reads as closing-reads
-use Rattle.rule.proofs.tokens.constant.Reads as constant-reads
-use Rattle.rule.proofs.tokens.name.Reads as name-reads
-use Rattle.rule.proofs.tokens.read_sign.Reads as read-sign-reads
-use Rattle.rule.proofs.tokens.stands.Reads as stands-reads
+use Rattle.tokens.proofs.closing.Reads as closing-reads
+use Rattle.tokens.proofs.constant.Reads as constant-reads
+use Rattle.tokens.proofs.name.Reads as name-reads
+use Rattle.tokens.proofs.read_sign.Reads as read-sign-reads
+use Rattle.tokens.proofs.stands.Reads as stands-reads
 use Rattle.rule.proofs.readers.+comparison+read_path+read_test+second_operand+signed_operand.{statement}
 use Rattle.rule.proofs.readers.+comparison+read_path+read_test+second_operand+signed_operand.Tie.{close}
 

@@ -2,7 +2,7 @@
 use Prim.Native.Nat.{_+_}
 use native.Mathlib.Omega.{arith}
 use mathlib.Core.Path.{ap, _∙_, subst}
-use Rattle.rule.specs.Readers.{Stood}
+use Rattle.tokens.specs.Readers.{Stood}
 use Rattle.rule_parts.proofs.Told.{made, long-sign, short-sign}
 use borrow.Author.Needs.{needs}
 use Rattle.rule_parts.proofs.kinds.read_sign.Statement.{statement}

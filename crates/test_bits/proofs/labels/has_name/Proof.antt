@@ -6,7 +6,7 @@ use mathlib.Core.List.{List}
 use lib.Seq.{slice}
 use Rattle.document_spec.specs.Library.{Node}
 use Rattle.document_spec.specs.Verdict.{Accepts}
-use Rattle.document.specs.Entries.{Stands}
+use Rattle.document_lines.specs.Entries.{Stands}
 use Rattle.table.specs.Links.{Linked}
 use Rattle.table.proofs.Trees.{tree-stands}
 use Rattle.test_bits.proofs.Inside.{label-inside}

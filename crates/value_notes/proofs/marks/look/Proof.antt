@@ -2,7 +2,7 @@
 use mathlib.Core.List.{List}
 use Rattle.document_spec.specs.Library.{Node}
 use Rattle.document_spec.specs.Verdict.{Accepts}
-use Rattle.document.specs.Entries.{IsEntry}
+use Rattle.document_lines.specs.Entries.{IsEntry}
 use Rattle.table.proofs.Trees.{stands-at}
 use borrow.Author.Needs.{needs}
 use Rattle.value_notes.proofs.marks.look.Statement.{statement}

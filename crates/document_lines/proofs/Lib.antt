@@ -1,0 +1,3 @@
+pub mod TreeRules
+pub mod LineForms
+pub mod NodeLines

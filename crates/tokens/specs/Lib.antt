@@ -1,0 +1,3 @@
+pub mod Tallies
+pub mod Readers
+pub mod Heads
