@@ -5,10 +5,10 @@
 //! be handed in: each call accepts or refuses them, and nothing need be checked
 //! before. It is the only module with `unsafe` code.
 //!
-//! Nothing checks these declarations against `crates/exports/src/lib.rt`: a
-//! record or a signature that changes there must be changed here by hand, and
-//! the linker compares nothing but the names. The layout of the records is
-//! checked when this module is compiled.
+//! The declarations are those of `crates/exports/src/lib.rt`, written down by
+//! hand, and the linker compares nothing but the names. A test compares the
+//! fields of the records and the signatures with the text of the proved code.
+//! The layout of the records is checked when this module is compiled.
 
 use core::mem::{offset_of, size_of};
 
@@ -159,6 +159,17 @@ pub fn evaluate_plain(
 
 /// Evaluates a rule on a document by snippets, and counts them. Marks, refuses
 /// and leaves the buffers as the plain evaluation does.
+///
+/// ```
+/// use yurzhoad::archive::evaluate_snippets;
+/// use yurzhoad::limits::needed_words;
+///
+/// let document = b"nodes=2\ndepth=0\nkind=e\nlabel=lib\nvalue=\n\
+///                  depth=1\nkind=e\nlabel=drug\nvalue=\n";
+/// let (mut scratch, mut marks) = (vec![0; needed_words(2)], [0; 2]);
+/// let answer = evaluate_snippets(document, b"(e=e)", &mut scratch, &mut marks);
+/// assert_eq!((answer.selected, answer.snippets), (2, 2));
+/// ```
 pub fn evaluate_snippets(
     document: &[u8],
     rule: &[u8],

@@ -36,7 +36,8 @@ fn line(document: &[u8], place: usize) -> String {
     // The first byte that no line may have, since it is what one looks for.
     let bad = content.iter().position(|byte| !is_printable(*byte));
     let window = Window::around(content, bad.unwrap_or(0), LINE_WIDTH);
-    let mut text = format!("  {place} | {}{}", window.head, window.tail);
+    let blank = if content.is_empty() { "" } else { " " };
+    let mut text = format!("  {place} |{blank}{}{}", window.head, window.tail);
     let width = place.to_string().len();
     let mut note = |words: &str| text += &format!("\n  {:width$} | {words}", "");
     if content.is_empty() {

@@ -11,6 +11,28 @@ use crate::table::Table;
 ///
 /// It borrows the bytes that were checked, so that they cannot change behind
 /// it. It is as cheap to copy as the slice.
+///
+/// ```
+/// use yurzhoad::{Kind, Library};
+///
+/// let document = "\
+/// nodes=2
+/// depth=0
+/// kind=e
+/// label=drug
+/// value=
+/// depth=1
+/// kind=t
+/// label=text
+/// value=5 mg
+/// ";
+/// let library = Library::check(document)?;
+/// assert_eq!(library.nodes(), 2);
+///
+/// let text = library.entries().find(|entry| entry.kind == Kind::Text).unwrap();
+/// assert_eq!((text.number, text.depth, text.value), (1, 1, "5 mg"));
+/// # Ok::<(), yurzhoad::Refusal>(())
+/// ```
 #[derive(Clone, Copy, PartialEq, Eq, Hash)]
 pub struct Library<'a> {
     text: &'a str,
@@ -23,6 +45,13 @@ impl<'a> Library<'a> {
     /// # Errors
     ///
     /// The refusal, by numbers 1 to 4.
+    ///
+    /// ```
+    /// use yurzhoad::{Ground, Library};
+    ///
+    /// let refusal = Library::check("nodes=0\n").unwrap_err();
+    /// assert_eq!(refusal.ground(), Ground::NodeCount);
+    /// ```
     ///
     /// # Panics
     ///

@@ -68,6 +68,15 @@ impl Ground {
 /// A refusal: number, place and words.
 ///
 /// `{}` prints one line. `{:#}` prints the excerpt below it.
+///
+/// ```
+/// use yurzhoad::Rule;
+///
+/// let refusal = Rule::check(":a!").unwrap_err();
+/// assert_eq!((refusal.number(), refusal.place()), (6, 2));
+/// assert_eq!(refusal.words(), "it does not read on from here");
+/// assert_eq!(refusal.excerpt(), Some("  :a!\n    ^"));
+/// ```
 #[derive(Clone, Debug, PartialEq, Eq, Hash)]
 pub struct Refusal {
     ground: Ground,
@@ -82,6 +91,18 @@ impl Refusal {
     /// check, the other of document and rule may be empty.
     ///
     /// `None` if the number is that of no refusal, as 0 is.
+    ///
+    /// ```
+    /// use yurzhoad::{archive, Refusal};
+    ///
+    /// let document = b"nodes=1\ndepth=0\nkind=e\nlabel=lib\nvalue=\n";
+    /// let answer = archive::evaluate_plain(document, b":lib", &mut [], &mut []);
+    /// let refusal = Refusal::explain(answer.number, answer.place, document, b":lib").unwrap();
+    /// assert_eq!(
+    ///     refusal.words(),
+    ///     "the scratch is too short: 192 words are needed for 1 node"
+    /// );
+    /// ```
     pub fn explain(number: u16, place: usize, document: &[u8], rule: &[u8]) -> Option<Refusal> {
         let ground = Ground::from_number(number)?;
         Some(Refusal {

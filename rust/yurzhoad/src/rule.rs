@@ -27,6 +27,13 @@ impl<'a> Rule<'a> {
     ///
     /// The refusal, by numbers 5 to 9.
     ///
+    /// ```
+    /// use yurzhoad::{Ground, Rule};
+    ///
+    /// let refusal = Rule::check(&"!".repeat(33)).unwrap_err();
+    /// assert_eq!(refusal.ground(), Ground::Nesting);
+    /// ```
+    ///
     /// # Panics
     ///
     /// If an accepted rule is no ASCII. The proved check accepts none such.

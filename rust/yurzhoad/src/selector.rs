@@ -20,6 +20,18 @@ pub enum Method {
 ///
 /// The buffers grow to what the largest library so far needs, and are used
 /// again by each call.
+///
+/// ```
+/// use yurzhoad::{Library, Method, Rule, Selector};
+///
+/// let library = Library::check("nodes=1\ndepth=0\nkind=e\nlabel=lib\nvalue=\n")?;
+/// let mut selector = Selector::new(Method::Plain);
+/// for (rule, selected) in [(":lib", 1), (":drug", 0), ("(e=\"\")", 1)] {
+///     let rule = Rule::check(rule)?;
+///     assert_eq!(selector.select(&library, &rule).selected(), selected);
+/// }
+/// # Ok::<(), yurzhoad::Refusal>(())
+/// ```
 pub struct Selector {
     method: Method,
     scratch: Vec<u16>,
@@ -99,6 +111,23 @@ impl fmt::Debug for Selector {
 }
 
 /// The nodes that a rule selects in a library.
+///
+/// ```
+/// use yurzhoad::{Library, Method, Rule, Selector};
+///
+/// let document = "nodes=2\ndepth=0\nkind=e\nlabel=lib\nvalue=\n\
+///                 depth=1\nkind=e\nlabel=drug\nvalue=\n";
+/// let library = Library::check(document)?;
+/// let rule = Rule::check(":drug")?;
+/// let mut selector = Selector::new(Method::Snippets);
+/// let selection = selector.select(&library, &rule);
+/// assert_eq!(selection.selected(), 1);
+/// assert_eq!(selection.snippets(), Some(0));
+/// assert!(selection.contains(1) && !selection.contains(0));
+/// assert_eq!(selection.nodes().collect::<Vec<_>>(), [1]);
+/// assert_eq!(selection.marks(), [0, 1]);
+/// # Ok::<(), yurzhoad::Refusal>(())
+/// ```
 #[derive(Clone, Copy, Debug, PartialEq, Eq)]
 pub struct Selection<'s> {
     method: Method,

@@ -7,6 +7,36 @@ use crate::library::{Entries, Entry, Kind};
 
 /// All entries of a library, with their parents, paths and string values; see
 /// [`Library::table`](crate::Library::table).
+///
+/// ```
+/// use yurzhoad::Library;
+///
+/// let document = "\
+/// nodes=4
+/// depth=0
+/// kind=e
+/// label=drug
+/// value=
+/// depth=1
+/// kind=a
+/// label=name
+/// value=heparin
+/// depth=1
+/// kind=t
+/// label=text
+/// value=5 mg
+/// depth=1
+/// kind=t
+/// label=text
+/// value=/ml
+/// ";
+/// let table = Library::check(document)?.table();
+/// assert_eq!(table.path(1), "/drug/@name");
+/// assert_eq!(table.path(3), "/drug/text()[2]");
+/// assert_eq!(table.parent(3), Some(0));
+/// assert_eq!(table.value(0), "5 mg/ml");
+/// # Ok::<(), yurzhoad::Refusal>(())
+/// ```
 #[derive(Clone, Debug)]
 pub struct Table<'a> {
     entries: Vec<Entry<'a>>,
@@ -40,7 +70,7 @@ impl<'a> Table<'a> {
     ///
     /// # Panics
     ///
-    /// If there is no such node; so do the other functions of a node.
+    /// If there is no such node.
     pub fn entry(&self, node: usize) -> Entry<'a> {
         self.entries[node]
     }
@@ -48,6 +78,10 @@ impl<'a> Table<'a> {
     /// The element around a node in the document. The first node has none.
     ///
     /// This is not the parent in the binary tree, which rules go by.
+    ///
+    /// # Panics
+    ///
+    /// If there is no such node.
     pub fn parent(&self, node: usize) -> Option<usize> {
         self.parents[node]
     }
@@ -57,6 +91,10 @@ impl<'a> Table<'a> {
     /// A step is the label of an element, `@` and the label of an attribute, or
     /// `text()`. It has a number in brackets, from 1, where the parent has
     /// several such: elements of this label, attributes of this label, texts.
+    ///
+    /// # Panics
+    ///
+    /// If there is no such node.
     pub fn path(&self, node: usize) -> String {
         let mut steps: Vec<String> = self.outward(node).map(|v| self.step(v)).collect();
         steps.reverse();
@@ -65,6 +103,10 @@ impl<'a> Table<'a> {
 
     /// The string value of a node: of a text or an attribute its value, of an
     /// element the values of all texts inside it, joined in order.
+    ///
+    /// # Panics
+    ///
+    /// If there is no such node.
     pub fn value(&self, node: usize) -> Cow<'a, str> {
         let entry = self.entries[node];
         if entry.kind != Kind::Element {

@@ -27,13 +27,21 @@ pub fn of(ground: Ground, place: usize, document: &[u8], rule: &[u8]) -> String 
         Ground::Steps => format!("the comparison that opens here has more than {MAX_STEPS} steps"),
         Ground::ScratchLength => {
             let nodes = count(document).unwrap_or(0);
-            let words = needed_words(nodes);
-            format!("the scratch is too short: {words} words are needed for {nodes} nodes")
+            let (words, nodes) = (needed_words(nodes), counted(nodes));
+            format!("the scratch is too short: {words} words are needed for {nodes}")
         }
         Ground::MarksLength => {
-            let nodes = count(document).unwrap_or(0);
-            format!("there are too few marks: {nodes} are needed, one for each node")
+            let nodes = counted(count(document).unwrap_or(0));
+            format!("there are too few marks: the document has {nodes}")
         }
+    }
+}
+
+/// So many nodes, in words.
+fn counted(nodes: usize) -> String {
+    match nodes {
+        1 => "1 node".to_string(),
+        _ => format!("{nodes} nodes"),
     }
 }
 
@@ -60,7 +68,8 @@ fn due(line: usize, document: &[u8]) -> String {
     let form = match (line, count(document)) {
         (1, _) => numeral("nodes", MAX_COUNT_DIGITS),
         (_, Some(nodes)) if line > 4 * nodes + 1 => {
-            return format!("nothing is due here: the lines of all {nodes} nodes are above")
+            let nodes = counted(nodes);
+            return format!("nothing is due here: the lines of its {nodes} are above");
         }
         _ => match field(line) {
             Field::Depth => numeral("depth", MAX_DEPTH_DIGITS),

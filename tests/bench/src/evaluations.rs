@@ -7,7 +7,7 @@ use std::time::Duration;
 
 use crate::libraries::{LibraryShape, LIBRARY_SHAPES};
 use crate::straightforward::{plain, snippets, Answer};
-use crate::timing::{time_for, Subject, Times};
+use crate::timing::{ratio, time_for, Subject, Times};
 use evaluator::document::spell;
 use evaluator::samples::selections::SESSION;
 use yurzhoad::archive::{evaluate_plain, evaluate_snippets, Evaluation};
@@ -171,12 +171,6 @@ fn straightforward<'a>(
     }
 }
 
-/// How many times as long the one takes as the other.
-fn ratio(one: &Times, other: &Times) -> String {
-    let (median, fastest) = (one.median / other.median, one.fastest / other.fastest);
-    format!("{median:.2} ({fastest:.2})")
-}
-
 /// A line for each evaluation, and one for how they stand to each other.
 fn print_row(row: Row) {
     for (versions, pair) in EVALUATIONS.iter().zip(row.chunks(2)) {
@@ -187,13 +181,13 @@ fn print_row(row: Row) {
             pair[0].fastest * 1e3,
             pair[1].median * 1e3,
             pair[1].fastest * 1e3,
-            ratio(&pair[0], &pair[1]),
+            ratio(&pair[0], &pair[1], 2),
         );
     }
     println!(
         "    plain takes {} times as long as snippets, in Rust {}",
-        ratio(&row[0], &row[2]),
-        ratio(&row[1], &row[3]),
+        ratio(&row[0], &row[2], 2),
+        ratio(&row[1], &row[3], 2),
     );
 }
 
@@ -204,8 +198,8 @@ fn print_growth([small, large]: [usize; 2], [before, after]: [Row; 2]) {
         print!(
             " {} proved {}, Rust {} times;",
             versions.name,
-            ratio(&after[at], &before[at]),
-            ratio(&after[at + 1], &before[at + 1]),
+            ratio(&after[at], &before[at], 2),
+            ratio(&after[at + 1], &before[at + 1], 2),
         );
     }
     println!();

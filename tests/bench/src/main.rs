@@ -1,4 +1,5 @@
-//! Times the proved checks of documents and rules, and both evaluations.
+//! Times the proved checks of documents and rules, both evaluations, and what
+//! the crate `yurzhoad` costs around them.
 //!
 //! Run it in this workspace, after `rt staticlib exports` in the repository's
 //! root, on a machine that does nothing else:
@@ -7,7 +8,8 @@
 //! cargo run --release --offline -p bench
 //! ```
 //!
-//! With `documents`, `rules` or `evaluations` behind `--` only these are timed.
+//! With `documents`, `rules`, `evaluations` or `wrapper` behind `--` only these are
+//! timed.
 //!
 //! The workspace's release profile has overflow checks and debug assertions;
 //! it switches them off for this package, whose scans and whose evaluation are
@@ -25,12 +27,14 @@ mod scan;
 mod shapes;
 mod straightforward;
 mod timing;
+mod wrapper;
 
 /// What can be timed, by name.
-const PARTS: [(&str, fn()); 3] = [
+const PARTS: [(&str, fn()); 4] = [
     ("documents", documents::print),
     ("rules", rules::print),
     ("evaluations", evaluations::print),
+    ("wrapper", wrapper::print),
 ];
 
 fn main() {

@@ -29,6 +29,12 @@ pub struct Times {
     pub runs: usize,
 }
 
+/// How many times as long the one takes as the other, with so many digits.
+pub fn ratio(one: &Times, other: &Times, digits: usize) -> String {
+    let (median, fastest) = (one.median / other.median, one.fastest / other.fastest);
+    format!("{median:.digits$} ({fastest:.digits$})")
+}
+
 /// Times all subjects in turn, again and again, so that a change in the
 /// machine's load meets all of them alike.
 pub fn time(subjects: &[Subject]) -> Vec<Times> {

@@ -1,0 +1,23 @@
+//! What the crate adds to the archive: words, excerpts, entries, paths and
+//! buffers that are kept. What the archive itself decides is tested in
+//! `tests/archive`; here it is only asked whether it arrives.
+
+mod checks;
+mod declarations;
+mod entries;
+mod excerpts;
+mod grounds;
+mod limits;
+mod paths;
+mod selections;
+mod selector_reuse;
+mod wordings;
+
+use std::fs;
+use std::path::Path;
+
+/// A file of the repository.
+fn file(name: &str) -> String {
+    let root = Path::new(env!("CARGO_MANIFEST_DIR")).join("../..");
+    fs::read_to_string(root.join(name)).unwrap_or_else(|error| panic!("{name}: {error}"))
+}
