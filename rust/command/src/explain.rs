@@ -57,25 +57,54 @@ fn form_words(form: &Form<'_>) -> String {
 /// them would not expect.
 const AS_TEXT: &str = ", compared as text: 10 is less than 9";
 
-/// A sign in words.
-struct Relation {
-    name: &'static str,
-    /// Before the node that is compared with.
-    to_node: &'static str,
-    /// Before the constant that is compared with.
-    to_constant: &'static str,
-    /// Behind all.
-    note: &'static str,
-}
+/// A sign, its name, and its words before a node and before a constant.
+type Relation = (&'static str, &'static str, &'static str, &'static str);
+
+const RELATIONS: [Relation; 6] = [
+    ("=", "equality", "has the same value as", "has the value"),
+    (
+        "!=",
+        "inequality",
+        "has another value than",
+        "has another value than",
+    ),
+    (
+        "<",
+        "less",
+        "has a value less than that of",
+        "has a value less than",
+    ),
+    (
+        "<=",
+        "less or equal",
+        "has a value less than or equal to that of",
+        "has a value less than or equal to",
+    ),
+    (
+        ">",
+        "greater",
+        "has a value greater than that of",
+        "has a value greater than",
+    ),
+    (
+        ">=",
+        "greater or equal",
+        "has a value greater than or equal to that of",
+        "has a value greater than or equal to",
+    ),
+];
 
 /// A comparison asks for some node, or for some pair of nodes; so does `!=`.
 fn comparison_words(sign: &str, constant: Option<&str>) -> String {
-    let Relation {
-        name,
-        to_node,
-        to_constant,
-        note,
-    } = relation(sign);
+    let mut relations = RELATIONS.into_iter();
+    let (_, name, to_node, to_constant) = relations
+        .find(|(own, ..)| *own == sign)
+        .expect("an accepted rule has no other sign");
+    let note = if sign.contains(['<', '>']) {
+        AS_TEXT
+    } else {
+        ""
+    };
     match constant {
         None => format!(
             "{name}: some node reached by the first path {to_node} \
@@ -87,47 +116,5 @@ fn comparison_words(sign: &str, constant: Option<&str>) -> String {
                 "{name}: some node reached by the path {to_constant} \"{constant}\"{empty}{note}"
             )
         }
-    }
-}
-
-fn relation(sign: &str) -> Relation {
-    let (name, to_node, to_constant, note) = match sign {
-        "=" => ("equality", "has the same value as", "has the value", ""),
-        "!=" => (
-            "inequality",
-            "has another value than",
-            "has another value than",
-            "",
-        ),
-        "<" => (
-            "less",
-            "has a value less than that of",
-            "has a value less than",
-            AS_TEXT,
-        ),
-        "<=" => (
-            "less or equal",
-            "has a value less than or equal to that of",
-            "has a value less than or equal to",
-            AS_TEXT,
-        ),
-        ">" => (
-            "greater",
-            "has a value greater than that of",
-            "has a value greater than",
-            AS_TEXT,
-        ),
-        _ => (
-            "greater or equal",
-            "has a value greater than or equal to that of",
-            "has a value greater than or equal to",
-            AS_TEXT,
-        ),
-    };
-    Relation {
-        name,
-        to_node,
-        to_constant,
-        note,
     }
 }

@@ -88,42 +88,44 @@ fn the_ways_up_and_either_of_them() {
     );
 }
 
+/// A sign, its name, and its words before a node and before a constant.
+const SIGNS: [(&str, &str, &str, &str); 6] = [
+    ("=", "equality", "has the same value as", "has the value"),
+    (
+        "!=",
+        "inequality",
+        "has another value than",
+        "has another value than",
+    ),
+    (
+        "<",
+        "less",
+        "has a value less than that of",
+        "has a value less than",
+    ),
+    (
+        "<=",
+        "less or equal",
+        "has a value less than or equal to that of",
+        "has a value less than or equal to",
+    ),
+    (
+        ">",
+        "greater",
+        "has a value greater than that of",
+        "has a value greater than",
+    ),
+    (
+        ">=",
+        "greater or equal",
+        "has a value greater than or equal to that of",
+        "has a value greater than or equal to",
+    ),
+];
+
 #[test]
 fn every_sign_before_a_path_and_before_a_constant() {
-    let signs = [
-        ("=", "equality", "has the same value as", "has the value"),
-        (
-            "!=",
-            "inequality",
-            "has another value than",
-            "has another value than",
-        ),
-        (
-            "<",
-            "less",
-            "has a value less than that of",
-            "has a value less than",
-        ),
-        (
-            "<=",
-            "less or equal",
-            "has a value less than or equal to that of",
-            "has a value less than or equal to",
-        ),
-        (
-            ">",
-            "greater",
-            "has a value greater than that of",
-            "has a value greater than",
-        ),
-        (
-            ">=",
-            "greater or equal",
-            "has a value greater than or equal to that of",
-            "has a value greater than or equal to",
-        ),
-    ];
-    for (sign, name, to_node, to_constant) in signs {
+    for (sign, name, to_node, to_constant) in SIGNS {
         let note = match sign {
             "=" | "!=" => "",
             _ => ", compared as text: 10 is less than 9",

@@ -166,19 +166,26 @@ fn a_refusal_stays_one_if_nobody_reads_the_object() {
     assert!(ran.err.contains("number 6 at offset 2"));
 }
 
-/// A device that takes nothing.
+/// A device that takes nothing, where there is one.
+fn full() -> Option<File> {
+    let device = Path::new("/dev/full");
+    let open = || File::options().write(true).open(device);
+    device.exists().then(|| open().expect("the device"))
+}
+
+/// Runs the command with an output that takes nothing.
+fn write_to(full: &File, desk: &Desk, arguments: &[&str]) -> Ran {
+    let device = full.try_clone().expect("one more handle");
+    let output = desk.command(arguments).stdout(device).output();
+    Ran::from(output.expect("the program ends"))
+}
+
 #[test]
 fn output_that_cannot_be_written() {
-    let full = "/dev/full";
-    if !Path::new(full).exists() {
+    let Some(full) = full() else {
         return;
-    }
-    let desk = Desk::with("x.txt", X);
-    let write = |arguments: &[&str]| {
-        let device = File::options().write(true).open(full).expect("the device");
-        let mut command = desk.command(arguments);
-        Ran::from(command.stdout(device).output().expect("the program ends"))
     };
+    let desk = Desk::with("x.txt", X);
     for arguments in [
         &["check", "x.txt"][..],
         &["check", "--rule", ":a"],
@@ -187,39 +194,39 @@ fn output_that_cannot_be_written() {
         &["--help"],
         &["--version"],
     ] {
-        let ran = write(arguments);
+        let ran = write_to(&full, &desk, arguments);
         assert_eq!(ran.status, 2, "{arguments:?}");
-        assert!(
-            ran.err.starts_with("yurzhoad: standard output: "),
-            "{}",
-            ran.err
-        );
-        assert_eq!(ran.err.lines().count(), 1);
+        let told = ran.err.starts_with("yurzhoad: standard output: ");
+        assert!(told && ran.err.lines().count() == 1, "{}", ran.err);
     }
-    // A refusal is told, and then that its object cannot be.
-    let ran = write(&["check", "--json", "--rule", ":a!"]);
+    // Where nothing is selected, nothing is written.
+    let ran = write_to(&full, &desk, &["select", "(e!=e)", "x.txt"]);
+    assert_eq!(ran, accepted(""));
+}
+
+#[test]
+fn a_refusal_whose_object_cannot_be_written() {
+    let Some(full) = full() else {
+        return;
+    };
+    let arguments = ["check", "--json", "--rule", ":a!"];
+    let ran = write_to(&full, &Desk::new(), &arguments);
     assert_eq!(ran.status, 2);
     assert!(ran.err.contains("number 6 at offset 2"), "{}", ran.err);
-    assert!(
-        ran.err.contains("\nyurzhoad: standard output: "),
-        "{}",
-        ran.err
-    );
-    // Where nothing is selected, nothing is written.
-    assert_eq!(write(&["select", "(e!=e)", "x.txt"]), accepted(""));
+    let told = "\nyurzhoad: standard output: ";
+    assert!(ran.err.contains(told), "{}", ran.err);
 }
 
 #[test]
 fn no_standard_error_changes_nothing_else() {
-    let full = "/dev/full";
-    if !Path::new(full).exists() {
+    let Some(full) = full() else {
         return;
-    }
+    };
     let desk = Desk::with("x.txt", X);
     let run = |arguments: &[&str]| {
-        let device = File::options().write(true).open(full).expect("the device");
-        let mut command = desk.command(arguments);
-        let output = command.stderr(device).output().expect("the program ends");
+        let device = full.try_clone().expect("one more handle");
+        let output = desk.command(arguments).stderr(device).output();
+        let output = output.expect("the program ends");
         (output.status.code(), output.stdout)
     };
     assert_eq!(run(&["check", "--rule", ":a!"]), (Some(1), Vec::new()));
