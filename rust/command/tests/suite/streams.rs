@@ -2,7 +2,7 @@
 //! written.
 
 use std::fs::{self, File};
-use std::io::{BufRead, BufReader};
+use std::io::{BufRead, BufReader, Write};
 use std::path::Path;
 use std::process::{Child, Stdio};
 
@@ -151,19 +151,36 @@ fn a_reader_that_leaves_ends_the_run_quietly() {
     assert!(ran.out.len() > 1_000_000, "{}", ran.out.len());
 }
 
-#[test]
-fn a_refusal_stays_one_if_nobody_reads_the_object() {
-    let desk = Desk::new();
-    let mut child = desk
-        .command(["check", "--json", "--rule", ":a!"])
+/// Runs the command with a rule that it gets when nobody reads its output any
+/// more.
+fn run_unread(arguments: &[&str], rule: &[u8]) -> Ran {
+    let mut child = Desk::new()
+        .command(arguments)
+        .stdin(Stdio::piped())
         .stdout(Stdio::piped())
         .stderr(Stdio::piped())
         .spawn()
         .expect("the program starts");
     drop(child.stdout.take());
-    let ran = Ran::from(child.wait_with_output().expect("the program ends"));
-    assert_eq!(ran.status, 1);
-    assert!(ran.err.contains("number 6 at offset 2"));
+    let mut input = child.stdin.take().expect("a pipe");
+    input.write_all(rule).expect("the program reads it");
+    drop(input);
+    child.wait_with_output().expect("the program ends").into()
+}
+
+#[test]
+fn little_that_nobody_reads_ends_quietly_too() {
+    for arguments in [&["check", "--rule", "-"][..], &["explain", "-"]] {
+        assert_eq!(run_unread(arguments, b":a"), accepted(""));
+    }
+}
+
+#[test]
+fn a_refusal_stays_one_if_nobody_reads_the_object() {
+    let due = "yurzhoad: standard input: the rule is refused: number 6 at offset 2: \
+               it does not read on from here\n  :a!\n    ^\n";
+    let ran = run_unread(&["check", "--json", "--rule", "-"], b":a!");
+    assert_eq!(ran, failed(1, due));
 }
 
 /// A device that takes nothing, where there is one.
