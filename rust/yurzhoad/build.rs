@@ -3,7 +3,8 @@
 use std::env;
 use std::path::{Path, PathBuf};
 
-/// Names another folder of the archive, for builds outside the repository.
+/// Names another folder of the archive, for builds outside the repository. A
+/// relative one is taken from this package.
 const FOLDER: &str = "YURZHOAD_ARCHIVE_DIR";
 
 fn main() {
@@ -18,6 +19,8 @@ fn main() {
          or name the folder of libexports.a in {FOLDER}",
         archive.display()
     );
+    // The linker may run in another folder than this script does.
+    let folder = folder.canonicalize().expect("the folder is there");
     println!("cargo:rustc-link-search=native={}", folder.display());
     println!("cargo:rustc-link-lib=static=exports");
 }

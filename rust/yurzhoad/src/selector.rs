@@ -161,6 +161,11 @@ impl<'s> Selection<'s> {
         (0..marks.len()).filter(move |node| marks[*node] == 1)
     }
 
+    /// The record that the archive handed back.
+    pub fn evaluation(&self) -> Evaluation {
+        self.evaluation
+    }
+
     /// A byte for each node: 1 if it is selected, and 0 if not.
     pub fn marks(&self) -> &'s [u8] {
         self.marks

@@ -3,44 +3,53 @@
 
 use crate::selections::{assert_consistent, METHODS};
 use evaluator::document::{spell, NODE_LIMIT};
-use evaluator::evaluate::{evaluate, Evaluation};
+use evaluator::evaluate::{self, evaluate};
 use evaluator::random::{library, rule_about, Random};
 use evaluator::samples::libraries::formulary;
 use evaluator::samples::{flat, X};
 use evaluator::tree::Tree;
+use yurzhoad::archive::{self, Evaluation};
 use yurzhoad::limits::needed_words;
-use yurzhoad::{archive, Library, Method, Rule, Selector};
+use yurzhoad::{Library, Method, Rule, Selector};
 
-/// What the archive makes of the call with new buffers: selected nodes,
-/// snippets and marks.
-fn fresh(method: Method, document: &[u8], rule: &[u8], nodes: usize) -> (usize, usize, Vec<u8>) {
+/// What the archive makes of the call with new buffers: the record and the
+/// marks.
+fn fresh(method: Method, document: &[u8], rule: &[u8], nodes: usize) -> (Evaluation, Vec<u8>) {
     let (mut scratch, mut marks) = (vec![0xA5A5; needed_words(nodes)], vec![0xA5; nodes]);
     let evaluate = match method {
         Method::Plain => archive::evaluate_plain,
         Method::Snippets => archive::evaluate_snippets,
     };
-    let answer = evaluate(document, rule, &mut scratch, &mut marks);
-    assert_eq!(answer.number, 0);
-    (answer.selected, answer.snippets, marks)
+    let record = evaluate(document, rule, &mut scratch, &mut marks);
+    assert_eq!(record.number, 0);
+    (record, marks)
 }
 
-/// Asserts that a kept selector does what a fresh call does; hands back how
-/// many nodes it selects.
-fn assert_as_fresh(selector: &mut Selector, origin: &str, document: &[u8], rule: &[u8]) -> usize {
+/// Asserts that a kept selector does what a fresh call does; hands back the
+/// record.
+fn assert_as_fresh(
+    selector: &mut Selector,
+    origin: &str,
+    document: &[u8],
+    rule: &[u8],
+) -> Evaluation {
     let checked = Library::check(document).expect("an accepted document");
     let nodes = checked.nodes();
     let method = selector.method();
-    let (selected, snippets, marks) = fresh(method, document, rule, nodes);
+    let (record, marks) = fresh(method, document, rule, nodes);
     let room = selector.room();
     let rule = Rule::check(rule).expect("an accepted rule");
     let selection = selector.select(&checked, &rule);
     assert_consistent(origin, &selection, nodes);
-    assert_eq!(selection.selected(), selected, "{origin}");
+    // The plain evaluation counts no snippets, so the record tells which of the
+    // two was made.
+    assert_eq!(selection.evaluation(), record, "{origin}");
+    assert_eq!(selection.selected(), record.selected, "{origin}");
     assert_eq!(selection.marks(), marks, "{origin}");
-    let due = (method == Method::Snippets).then_some(snippets);
+    let due = (method == Method::Snippets).then_some(record.snippets);
     assert_eq!(selection.snippets(), due, "{origin}");
     assert_eq!(selector.room(), room.max(nodes), "{origin}");
-    selected
+    record
 }
 
 /// And what the evaluator does, which is meant for small libraries.
@@ -48,8 +57,8 @@ fn assert_as_evaluator(selector: &mut Selector, origin: &str, document: &[u8], r
     let library = Library::check(document).expect("an accepted document");
     let (words, nodes) = (needed_words(library.nodes()), library.nodes());
     let evaluation = match selector.method() {
-        Method::Plain => Evaluation::Plain,
-        Method::Snippets => Evaluation::Snippets,
+        Method::Plain => evaluate::Evaluation::Plain,
+        Method::Snippets => evaluate::Evaluation::Snippets,
     };
     let (outcome, marks) = evaluate(document, rule, words, nodes, evaluation);
     let rule = Rule::check(rule).expect("an accepted rule");
@@ -65,7 +74,7 @@ fn assert_as_evaluator(selector: &mut Selector, origin: &str, document: &[u8], r
 
 #[test]
 fn random_pairs_are_selected_as_by_fresh_calls() {
-    let mut some = 0;
+    let (mut some, mut counted) = (0, 0);
     for method in METHODS {
         let mut selector = Selector::new(method);
         for seed in 4_300_000..4_301_500 {
@@ -78,8 +87,9 @@ fn random_pairs_are_selected_as_by_fresh_calls() {
             let size = 2 + random.below(20);
             let rule = rule_about(random, size, &values).spell();
             let (origin, document) = (format!("seed {seed}"), spell(&library));
-            let selected = assert_as_fresh(&mut selector, &origin, &document, &rule);
-            some += usize::from(selected > 0 && selected < nodes);
+            let record = assert_as_fresh(&mut selector, &origin, &document, &rule);
+            some += usize::from(record.selected > 0 && record.selected < nodes);
+            counted += usize::from(record.snippets > 0);
             if nodes <= 30 {
                 assert_as_evaluator(&mut selector, &origin, &document, &rule);
             }
@@ -87,6 +97,7 @@ fn random_pairs_are_selected_as_by_fresh_calls() {
         assert!(selector.room() > 150, "{}", selector.room());
     }
     assert!(some > 600, "{some} selected some nodes and not all");
+    assert!(counted > 200, "{counted} had snippets");
 }
 
 #[test]
