@@ -56,23 +56,14 @@ pub fn read(arguments: &[OsString]) -> Result<Request, Failure> {
             [] => Ok(Request::Version),
             [extra, ..] => Err(too_many(Topic::All, extra)),
         },
-        _ => {
-            let words = format!("there is no command {}", shown(first));
-            Err(misused(Topic::All, &words))
-        }
+        _ => Err(no_command(first)),
     }
 }
 
 fn read_help(rest: &[OsString]) -> Result<Request, Failure> {
     let topic = match rest {
         [] => Topic::All,
-        [name] => match Topic::named(name) {
-            Some(topic) => topic,
-            None => {
-                let words = format!("there is no command {}", shown(name));
-                return Err(misused(Topic::All, &words));
-            }
-        },
+        [name] => Topic::named(name).ok_or_else(|| no_command(name))?,
         [_, extra, ..] => return Err(too_many(Topic::All, extra)),
     };
     Ok(Request::Help(topic))
@@ -187,6 +178,11 @@ impl Arguments {
         let mut operands = self.operands.drain(..).map(Source::of);
         Ok(names.map(|_| operands.next().expect("as many as names")))
     }
+}
+
+fn no_command(name: &OsStr) -> Failure {
+    let words = format!("there is no command {}", shown(name));
+    misused(Topic::All, &words)
 }
 
 fn too_many(topic: Topic, extra: &OsStr) -> Failure {

@@ -4,6 +4,8 @@ use std::env;
 use std::path::Path;
 use std::process::Command;
 
+use yurzhoad::limits::{MAX_DOCUMENT_BYTES, MAX_NODES};
+
 use crate::desk::{accepted, Desk, PROGRAM};
 
 const COMMANDS: [&str; 3] = ["check", "select", "explain"];
@@ -61,6 +63,25 @@ fn the_texts_fit_a_terminal() {
         assert!(text.is_ascii() && text.ends_with('\n'));
         let long = text.lines().find(|line| line.len() >= 80);
         assert_eq!(long, None);
+    }
+}
+
+/// The texts write them out with commas.
+#[test]
+fn the_limits_in_the_help_are_those_of_the_crate() {
+    let thousands = |number: usize| match number {
+        1_000_000.. => format!(
+            "{},{:03},{:03}",
+            number / 1_000_000,
+            number / 1_000 % 1_000,
+            number % 1_000
+        ),
+        _ => format!("{},{:03}", number / 1_000, number % 1_000),
+    };
+    let (bytes, nodes) = (thousands(MAX_DOCUMENT_BYTES), thousands(MAX_NODES));
+    let line = format!("  LIBRARY   a file of at most {bytes} bytes and {nodes} nodes");
+    for arguments in [&["--help"][..], &["check", "--help"], &["select", "--help"]] {
+        assert!(help(arguments).contains(&line), "{arguments:?}");
     }
 }
 
