@@ -17,6 +17,17 @@ pub enum Evaluations {
     Both,
 }
 
+impl Evaluations {
+    /// The one whose nodes are written, and the one that it is compared with.
+    fn methods(self) -> (Method, Option<Method>) {
+        match self {
+            Evaluations::Snippets => (Method::Snippets, None),
+            Evaluations::Plain => (Method::Plain, None),
+            Evaluations::Both => (Method::Snippets, Some(Method::Plain)),
+        }
+    }
+}
+
 /// How nodes are selected and written.
 #[derive(Clone, Copy, Debug, PartialEq, Eq)]
 pub struct Options {
@@ -37,27 +48,25 @@ pub fn select(
 ) -> Result<(), Failure> {
     let library = library.checked_library()?;
     let rule = rule.checked_rule()?;
-    let method = match options.evaluations {
-        Evaluations::Plain => Method::Plain,
-        Evaluations::Snippets | Evaluations::Both => Method::Snippets,
-    };
+    let (method, other) = options.evaluations.methods();
     let mut selector = Selector::new(method);
     let selection = selector.select(&library, &rule);
-    if options.evaluations == Evaluations::Both {
-        let agreed = compare(&library, &rule, &selection)?;
+    if let Some(other) = other {
+        let agreed = compare(&library, &rule, &selection, other)?;
         // If standard error is gone, the status says it too.
         let _ = writeln!(err, "yurzhoad: {agreed}");
     }
     Ok(write(&library, &selection, options, out)?)
 }
 
-/// Makes the plain evaluation too, and says that it agrees with the other.
+/// Makes the other evaluation too, the plain one, and says that it agrees.
 fn compare(
     library: &Library<'_>,
     rule: &Rule<'_>,
     snippets: &Selection<'_>,
+    other: Method,
 ) -> Result<String, Failure> {
-    let mut selector = Selector::new(Method::Plain);
+    let mut selector = Selector::new(other);
     let plain = selector.select(library, rule);
     match difference(
         (snippets.selected(), snippets.marks()),
@@ -159,7 +168,17 @@ fn write_object(
 
 #[cfg(test)]
 mod tests {
-    use super::difference;
+    use super::{difference, Evaluations};
+    use yurzhoad::Method;
+
+    /// No output could show that one evaluation was compared with itself.
+    #[test]
+    fn both_are_two() {
+        let both = (Method::Snippets, Some(Method::Plain));
+        assert_eq!(Evaluations::Both.methods(), both);
+        assert_eq!(Evaluations::Plain.methods(), (Method::Plain, None));
+        assert_eq!(Evaluations::Snippets.methods(), (Method::Snippets, None));
+    }
 
     #[test]
     fn equal_marks_and_counts_do_not_differ() {
