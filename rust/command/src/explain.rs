@@ -1,0 +1,120 @@
+//! `yurzhoad explain`: a rule in words, as it is written.
+
+use std::io::{self, Write};
+
+use yurzhoad::Rule;
+
+use crate::reader::{self, Form, Part, Role};
+use crate::summary::Summary;
+
+/// Writes a line for each part, with its offset and indented by its nesting,
+/// and below them how near the rule comes to the limits.
+pub fn explain(rule: &Rule<'_>, out: &mut dyn Write) -> io::Result<()> {
+    let parts = reader::parts(rule);
+    // The last part has the largest offset.
+    let width = parts.last().map_or(0, |part| part.offset.to_string().len());
+    writeln!(out, "A node is selected if")?;
+    for part in &parts {
+        let indent = 2 * (part.nesting - 1);
+        let (offset, words) = (part.offset, words(part));
+        writeln!(out, "{offset:width$}  {:indent$}{words}", "")?;
+    }
+    writeln!(out, "\n{}", Summary::of(&parts))
+}
+
+fn words(part: &Part<'_>) -> String {
+    let role = match part.role {
+        Role::FirstPath => "first path: ",
+        Role::SecondPath => "second path: ",
+        Role::OnlyPath => "path: ",
+        Role::None => "",
+    };
+    format!("{role}{}", form_words(&part.form))
+}
+
+/// A colon at the end says that the parts below belong to it.
+fn form_words(form: &Form<'_>) -> String {
+    let words = match form {
+        Form::Name(name) => return format!("the label is `{name}`"),
+        Form::Comparison { sign, constant, .. } => return comparison_words(sign, *constant),
+        Form::Not => "this does not hold:",
+        Form::And => "both of these hold:",
+        Form::Or => "at least one of these holds:",
+        Form::Empty => "stay at the node",
+        Form::Left => "to the first node inside, attributes included",
+        Form::Right => "to the next sibling",
+        Form::FromLeft => "from the first node inside back to the element around it",
+        Form::FromRight => "back to the sibling before",
+        Form::Stay => "stay at the node if",
+        Form::Sequence => "one after the other:",
+        Form::Union => "either of these:",
+        Form::Star => "zero or more times:",
+    };
+    words.to_string()
+}
+
+/// Values are texts also where they look like numbers, which whoever writes
+/// them would not expect.
+const AS_TEXT: &str = ", compared as text: 10 is less than 9";
+
+/// A sign, its name, and its words before a node and before a constant.
+type Relation = (&'static str, &'static str, &'static str, &'static str);
+
+const RELATIONS: [Relation; 6] = [
+    ("=", "equality", "has the same value as", "has the value"),
+    (
+        "!=",
+        "inequality",
+        "has another value than",
+        "has another value than",
+    ),
+    (
+        "<",
+        "less",
+        "has a value less than that of",
+        "has a value less than",
+    ),
+    (
+        "<=",
+        "less or equal",
+        "has a value less than or equal to that of",
+        "has a value less than or equal to",
+    ),
+    (
+        ">",
+        "greater",
+        "has a value greater than that of",
+        "has a value greater than",
+    ),
+    (
+        ">=",
+        "greater or equal",
+        "has a value greater than or equal to that of",
+        "has a value greater than or equal to",
+    ),
+];
+
+/// A comparison asks for some node, or for some pair of nodes; so does `!=`.
+fn comparison_words(sign: &str, constant: Option<&str>) -> String {
+    let mut relations = RELATIONS.into_iter();
+    let (_, name, to_node, to_constant) = relations
+        .find(|(own, ..)| *own == sign)
+        .expect("an accepted rule has no other sign");
+    let note = if sign.contains(['<', '>']) {
+        AS_TEXT
+    } else {
+        ""
+    };
+    match constant {
+        None => format!(
+            "{name}: some node reached by the first path {to_node} \
+             some node reached by the second{note}"
+        ),
+        Some(constant) => {
+            let empty = if constant.is_empty() { " (empty)" } else { "" };
+            format!(
+                "{name}: some node reached by the path {to_constant} \"{constant}\"{empty}{note}"
+            )
+        }
+    }
+}

@@ -1,0 +1,174 @@
+//! `yurzhoad explain RULE`, letter by letter.
+
+use crate::desk::{accepted, Desk};
+
+fn assert_explained(rule: &str, lines: &[&str]) {
+    let due = lines.join("\n") + "\n";
+    assert_eq!(Desk::new().run(["explain", rule]), accepted(&due), "{rule}");
+}
+
+#[test]
+fn a_name() {
+    assert_explained(
+        ":drug",
+        &[
+            "A node is selected if",
+            "0  the label is `drug`",
+            "",
+            "1 test of 64, nesting 1 of 32, no comparison",
+        ],
+    );
+}
+
+#[test]
+fn the_session() {
+    assert_explained(
+        "(.l[:name]=..r*rl)",
+        &[
+            "A node is selected if",
+            " 0  equality: some node reached by the first path has the same value as some node \
+             reached by the second",
+            " 1    first path: one after the other:",
+            " 2      to the first node inside, attributes included",
+            " 3      stay at the node if",
+            " 4        the label is `name`",
+            "11    second path: one after the other:",
+            "12      one after the other:",
+            "13        to the next sibling",
+            "14        zero or more times:",
+            "15          to the next sibling",
+            "16      to the first node inside, attributes included",
+            "",
+            "2 tests of 64, nesting 5 of 32, 5 steps of 14",
+        ],
+    );
+}
+
+#[test]
+fn tests_joined_and_denied() {
+    assert_explained(
+        "&:drug!|:a-1(e=\"\")",
+        &[
+            "A node is selected if",
+            " 0  both of these hold:",
+            " 1    the label is `drug`",
+            " 6    this does not hold:",
+            " 7      at least one of these holds:",
+            " 8        the label is `a-1`",
+            "12        equality: some node reached by the path has the value \"\" (empty)",
+            "13          path: stay at the node",
+            "",
+            "6 tests of 64, nesting 5 of 32, 0 steps of 14",
+        ],
+    );
+}
+
+#[test]
+fn the_ways_up_and_either_of_them() {
+    assert_explained(
+        "(+L.R[(l!=\"5 mg/ml\")]>=*e)",
+        &[
+            "A node is selected if",
+            " 0  greater or equal: some node reached by the first path has a value greater than \
+             or equal to that of some node reached by the second, compared as text: 10 is less \
+             than 9",
+            " 1    first path: either of these:",
+            " 2      from the first node inside back to the element around it",
+            " 3      one after the other:",
+            " 4        back to the sibling before",
+            " 5        stay at the node if",
+            " 6          inequality: some node reached by the path has another value than \
+             \"5 mg/ml\"",
+            " 7            path: to the first node inside, attributes included",
+            "23    second path: zero or more times:",
+            "24      stay at the node",
+            "",
+            "2 tests of 64, nesting 6 of 32, steps of 14: 3 at 0, 1 at 6",
+        ],
+    );
+}
+
+/// A sign, its name, and its words before a node and before a constant.
+const SIGNS: [(&str, &str, &str, &str); 6] = [
+    ("=", "equality", "has the same value as", "has the value"),
+    (
+        "!=",
+        "inequality",
+        "has another value than",
+        "has another value than",
+    ),
+    (
+        "<",
+        "less",
+        "has a value less than that of",
+        "has a value less than",
+    ),
+    (
+        "<=",
+        "less or equal",
+        "has a value less than or equal to that of",
+        "has a value less than or equal to",
+    ),
+    (
+        ">",
+        "greater",
+        "has a value greater than that of",
+        "has a value greater than",
+    ),
+    (
+        ">=",
+        "greater or equal",
+        "has a value greater than or equal to that of",
+        "has a value greater than or equal to",
+    ),
+];
+
+#[test]
+fn every_sign_before_a_path_and_before_a_constant() {
+    for (sign, name, to_node, to_constant) in SIGNS {
+        let note = match sign {
+            "=" | "!=" => "",
+            _ => ", compared as text: 10 is less than 9",
+        };
+        let second = 2 + sign.len();
+        assert_explained(
+            &format!("(l{sign}r)"),
+            &[
+                "A node is selected if",
+                &format!(
+                    "0  {name}: some node reached by the first path {to_node} some node reached \
+                     by the second{note}"
+                ),
+                "1    first path: to the first node inside, attributes included",
+                &format!("{second}    second path: to the next sibling"),
+                "",
+                "1 test of 64, nesting 2 of 32, 2 steps of 14",
+            ],
+        );
+        assert_explained(
+            &format!("(l{sign}\"10\")"),
+            &[
+                "A node is selected if",
+                &format!("0  {name}: some node reached by the path {to_constant} \"10\"{note}"),
+                "1    path: to the first node inside, attributes included",
+                "",
+                "1 test of 64, nesting 2 of 32, 1 step of 14",
+            ],
+        );
+    }
+}
+
+/// A constant may hold what looks like a rule.
+#[test]
+fn a_constant_is_no_part() {
+    assert_explained(
+        "(e=\"):a!=(l<'`\")",
+        &[
+            "A node is selected if",
+            "0  equality: some node reached by the path has the value \"):a!=(l<'`\"",
+            "1    path: stay at the node",
+            "",
+            "1 test of 64, nesting 2 of 32, 0 steps of 14",
+        ],
+    );
+}
