@@ -2,6 +2,7 @@
 
 use std::borrow::Cow;
 use std::collections::HashMap;
+use std::fmt::Write;
 
 use crate::library::{Entries, Entry, Kind};
 
@@ -96,9 +97,13 @@ impl<'a> Table<'a> {
     ///
     /// If there is no such node.
     pub fn path(&self, node: usize) -> String {
-        let mut steps: Vec<String> = self.outward(node).map(|v| self.step(v)).collect();
-        steps.reverse();
-        steps.concat()
+        let outward: Vec<usize> = self.outward(node).collect();
+        // One string for all steps: a path may have thousands of them.
+        let mut path = String::new();
+        for node in outward.into_iter().rev() {
+            self.push_step(node, &mut path);
+        }
+        path
     }
 
     /// The string value of a node: of a text or an attribute its value, of an
@@ -126,16 +131,18 @@ impl<'a> Table<'a> {
     }
 
     /// The step of a path that leads to this node.
-    fn step(&self, node: usize) -> String {
+    fn push_step(&self, node: usize, path: &mut String) {
         let entry = self.entries[node];
-        let name = match entry.kind {
-            Kind::Element => entry.label.to_string(),
-            Kind::Attribute => format!("@{}", entry.label),
-            Kind::Text => "text()".to_string(),
-        };
-        match self.repeated[node] {
-            true => format!("/{name}[{}]", self.ordinals[node]),
-            false => format!("/{name}"),
+        path.push_str(match entry.kind {
+            Kind::Element => "/",
+            Kind::Attribute => "/@",
+            Kind::Text => "/text()",
+        });
+        if entry.kind != Kind::Text {
+            path.push_str(entry.label);
+        }
+        if self.repeated[node] {
+            write!(path, "[{}]", self.ordinals[node]).expect("a string takes all that is written");
         }
     }
 }
