@@ -7,7 +7,7 @@ use native.Mathlib.Decide.{ℕ-discrete}
 use Rattle.document_spec.specs.Library.{Node}
 use Rattle.document_spec.specs.Binary.{before, stringOf}
 use Rattle.document_spec.specs.Verdict.{Accepts}
-use Rattle.layout.specs.Ranking.{FIRST-TEXT, ORDER}
+use Rattle.layout.specs.Ranking.{ORDER}
 use Rattle.layout.specs.Table.{RANK}
 use Rattle.layout.specs.Words.{cell, word, Wrote}
 use Rattle.layout.proofs.Frames.{within-none, within-then, within-put}
