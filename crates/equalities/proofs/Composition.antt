@@ -30,6 +30,7 @@ use Rattle.matrices.specs.Matrices.{Related}
 use Rattle.loops.specs.Loops.{Stage, Looped}
 use Rattle.loops.proofs.Kept.{stage-kept}
 use Rattle.powers.specs.Powers.{Powers, Ready, Founded, Powered}
+use Rattle.powers.specs.Blocks.{BlockRoom}
 use Rattle.powers.proofs.Kept.{founded-of, founded-less}
 use Rattle.settling.specs.Settled.{Settled}
 use Rattle.settling.specs.Settled as pairs
@@ -39,7 +40,7 @@ use Rattle.skeletons.specs.Skeletons.{Bucketed}
 use Rattle.halving.specs.Halving.{Family, Inside, Within, Sets, Marked, Topped, Halved, Halving, Counts}
 use Rattle.halving.proofs.Families.{topped-of, sets-marked, halved-yielded, yielded-halved}
 use Rattle.halving.proofs.Counting.{counts-sets}
-use Rattle.group_ends.specs.Ends.{Enough, Sizes, Rest}
+use Rattle.group_ends.specs.Ends.{Enough, Rest}
 use Rattle.edge_snippets.specs.Edges.{Gains}
 use Rattle.first_snippets.specs.Groups.{Base, AddedAll}
 use Rattle.group_ends.proofs.Rest.{rest-within, powers-rest, loops-rest, stage-rest, stage-shape, sizes-rest}
@@ -159,7 +160,7 @@ module _ {m : Machine} {n b : ℕ} {p p₁ : List ℕ} (g : Bucketed n p p₁) w
   bucketed f = founded-rest (omega arith) (bucketed-rest g) f
 
   -- p₁ is the part with its buckets
-  pub bucketed-base : (P R : XPath) × (t : Tree) × Founded P R t m n b p × Enough t b → Sizes n b p → Base m n b p₁
+  pub bucketed-base : (P R : XPath) × (t : Tree) × Founded P R t m n b p × Enough t b → BlockRoom n b p → Base m n b p₁
   bucketed-base (P, R, t, f, enough) sizes =
       let h = bucketed f in
       record { first = P; second = R; tree = t; stage = h .stage; loops = h .loops; powers = h .powers; buckets = g .buckets; enough = enough; sizes = sizes-rest (bucketed-rest g) sizes }

@@ -17,7 +17,7 @@ ghost use Rattle.loops.specs.Loops.{Stage};
 ghost use Rattle.powers.specs.Powers.{Founded};
 ghost use Rattle.powers.specs.Blocks.{BlockRoom};
 ghost use Rattle.skeletons.specs.Shape.{Shape};
-ghost use Rattle.group_ends.specs.Ends.{Enough, Sizes};
+ghost use Rattle.group_ends.specs.Ends.{Enough};
 ghost use Rattle.equalities.specs.Equalities.{Evaluated};
 ghost use Rattle.equalities.specs.Steps.{Empty, Prepares, Gathers};
 
@@ -33,7 +33,7 @@ fn prepare(p: &mut [u16], n: usize, b: usize, m: Machine)
 
 // All snippets, and how many there are: those that the first snippets of each value yield, and then their halves.
 fn gather(p: &mut [u16], n: usize, b: usize, m: Machine) -> usize
-    requires { ⌜ ((P R : XPath) × (t : Tree) × Founded P R t m n b (now p) × Enough t b) × (0 < b) × Empty n b (now p) × Sizes n b (now p) ⌝ }
+    requires { ⌜ ((P R : XPath) × (t : Tree) × Founded P R t m n b (now p) × Enough t b) × (0 < b) × Empty n b (now p) × BlockRoom n b (now p) ⌝ }
     ensures { λ r. ⌜ Gathers m n b (now (p .entry)) (now (p .exit)) r ⌝ }
 {
     buckets(p, n);

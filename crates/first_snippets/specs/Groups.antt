@@ -14,8 +14,9 @@ use Rattle.machine.specs.declared.Machine.{Machine}
 use Rattle.matrices.specs.Matrices.{Exactly}
 use Rattle.loops.specs.Loops.{Stage, Loops}
 use Rattle.powers.specs.Powers.{Powers}
+use Rattle.powers.specs.Blocks.{BlockRoom}
 use Rattle.skeletons.specs.Skeletons.{Buckets, Ranks}
-use Rattle.group_ends.specs.Ends.{Enough, Sizes, Rest}
+use Rattle.group_ends.specs.Ends.{Enough, Rest}
 use Rattle.edge_snippets.specs.Edges.{OfFirst, Gains, OfEdge}
 
 -- ── What is found ──
@@ -39,7 +40,7 @@ pub record Base (m : Machine) (n b : ℕ) (p : List ℕ) : Type 0 where
   pub powers : Powers first second tree n p b
   pub buckets : Buckets n p
   pub enough : Enough tree b
-  pub sizes : Sizes n b p
+  pub sizes : BlockRoom n b p
 
 -- and the rank r is that of some value
 pub record Grounds (m : Machine) (n b r : ℕ) (p : List ℕ) : Type 0 where

@@ -27,12 +27,13 @@ use Rattle.matrices.specs.Matrices.{Redrawn}
 use Rattle.matrices.proofs.Drawing.{redrawn-other}
 use Rattle.loops.specs.Loops.{Stage, Loops}
 use Rattle.powers.specs.Powers.{Powers}
+use Rattle.powers.specs.Blocks.{BlockRoom}
 use Rattle.powers.specs.Ladder.{Ladder, Stretch}
 use Rattle.powers.proofs.Kept.{power-kept}
 use Rattle.skeletons.specs.Shape.{Shape}
 use Rattle.skeletons.specs.Skeletons.{Ranks}
 use Rattle.skeletons.proofs.Shape.{drawn-shape}
-use Rattle.group_ends.specs.Ends.{Setting, Sizes, Given, Rest}
+use Rattle.group_ends.specs.Ends.{Setting, Given, Rest}
 
 pub rest-none : (c n b : ℕ) (p : List ℕ) → Rest c n b p p
 rest-none c n b p = record { same = same-none p }
@@ -72,7 +73,7 @@ module _ {c n b : ℕ} {p p′ : List ℕ} (h : Rest c n b p p′) where
   pub same-word : (a v : ℕ) → a < c → v < n → word p′ n a v ≡ word p n a v
   same-word a v l r = let y : suc a * n ≤ c * n = mul-le-mul-right n l in h .same .same (a * n + v) (inl (omega arith))
 
-  pub sizes-rest : Sizes n b p → Sizes n b p′
+  pub sizes-rest : BlockRoom n b p → BlockRoom n b p′
   sizes-rest s = let r = s .room in let l = h .same .long in record { few = s .few; low = s .low; room = omega arith }
 
   pub loops-rest : {P R : XPath} {t : Tree} → Loops P R t n p → Loops P R t n p′
@@ -152,5 +153,5 @@ stretch-kept h s = let r = s .room in let l = h .same .long in record {
 }
 
 -- there is room for the columns and the loops
-pub sizes-front : {n b : ℕ} {p : List ℕ} → Sizes n b p → 32 * n ≤ length p
+pub sizes-front : {n b : ℕ} {p : List ℕ} → BlockRoom n b p → 32 * n ≤ length p
 sizes-front {n} {b} s = let h : 32 * n ≤ (BLOCKS + 64 * b) * n = mul-le-mul-right n (omega arith) in let r = s .room in omega arith

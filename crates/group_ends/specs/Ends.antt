@@ -3,13 +3,11 @@ use Prim.Native.Nat.{ℕ, _+_, _*_, _^_, _≤_, _<_}
 use mathlib.Core.Logic.{_⊎_}
 use mathlib.Core.Bool.{Bool, true, false}
 use mathlib.Core.List.{List}
-use lib.ListN.{length}
-use Rattle.limits.specs.Limits.{documentNodes, nodeDigits, wordsPerDigit}
 use Rattle.xpath.specs.Syntax.{XPath}
 use Rattle.xpath.specs.Tree.{Tree, Down}
 use Rattle.snippets.specs.Snippets.{Skeleton}
 use Rattle.snippets.specs.Ways.{In, FromChild}
-use Rattle.layout.specs.Blocks.{BLOCKS, Aside}
+use Rattle.layout.specs.Blocks.{Aside}
 use Rattle.layout.specs.Groups.{IN, LEFTIN, RIGHTIN}
 use Rattle.layout.specs.Table.{COLUMNS}
 use Rattle.layout.specs.Words.{word, Same}
@@ -17,6 +15,7 @@ use Rattle.machine.specs.declared.Machine.{Machine}
 use Rattle.matrices.specs.Matrices.{Exactly}
 use Rattle.loops.specs.Loops.{Stage, Loops}
 use Rattle.powers.specs.Powers.{Powers}
+use Rattle.powers.specs.Blocks.{BlockRoom}
 use Rattle.skeletons.specs.Skeletons.{Group}
 
 -- what comes from the next skeleton node on a side
@@ -36,12 +35,6 @@ pub record Setting (P R : XPath) (t : Tree) (d : List ℕ) (m : Machine) (n b r 
 abbrev pub Enough : Tree → ℕ → Type 0
 Enough t b = (x y l : ℕ) → Down t x y l → l < 2 ^ b
 
--- there is room for the powers below b
-pub record Sizes (n b : ℕ) (p : List ℕ) : Type 0 where
-  pub few : n ≤ documentNodes
-  pub low : b ≤ nodeDigits
-  pub room : (BLOCKS + wordsPerDigit * b) * n ≤ length p
-
 -- some comparison and some value are given
 pub record Given (m : Machine) (n b r : ℕ) (p : List ℕ) : Type 0 where
   pub first : XPath
@@ -50,7 +43,7 @@ pub record Given (m : Machine) (n b r : ℕ) (p : List ℕ) : Type 0 where
   pub value : List ℕ
   pub setting : Setting first second tree value m n b r p
   pub enough : Enough tree b
-  pub sizes : Sizes n b p
+  pub sizes : BlockRoom n b p
 
 -- ── What may change ──
 -- only the columns from c on and the snippets' rows may be different

@@ -11,10 +11,11 @@ use Rattle.layout.specs.Groups.{IN, LEFTIN, ABOVE}
 use Rattle.layout.specs.Words.{word, Within}
 use Rattle.machine.specs.declared.Machine.{Machine}
 use Rattle.matrices.specs.Matrices.{Exactly}
+use Rattle.powers.specs.Blocks.{BlockRoom}
 use Rattle.powers.specs.Ladder.{Ladder}
 use Rattle.loops.specs.Loops.{Stage, Loops}
 use Rattle.skeletons.specs.Skeletons.{IsNoted, Group}
-use Rattle.group_ends.specs.Ends.{inward, Setting, Enough, Sizes, Sides, Risen}
+use Rattle.group_ends.specs.Ends.{inward, Setting, Enough, Sides, Risen}
 
 -- ── From below ──
 -- v is a skeleton node of some value, on a tree with its powers
@@ -27,7 +28,7 @@ pub record Placed (n b r v : ℕ) (p : List ℕ) : Type 0 where
   pub group : Group tree value n r p
   pub skeleton : Skeleton tree value v
   pub enough : Enough tree b
-  pub sizes : Sizes n b p
+  pub sizes : BlockRoom n b p
 
 -- the words of the two columns are 0, for the nodes below v whose block is noted
 pub record Cleared (n v : ℕ) (p p′ : List ℕ) : Type 0 where
