@@ -15,7 +15,7 @@ use Rattle.rule_parts.specs.Standing.{PathAt}
 use Rattle.automaton.specs.declared.sets.Scan.{Scan}
 use Rattle.automaton.specs.declared.automaton.Automaton.{Automaton}
 use Rattle.automaton.specs.Scanned.{Sets, Room, Scans, Related, Relates}
-use Rattle.automaton.specs.Compared.{Ended, Started, FollowSquare, OnePath, TwoPaths, Sums, Tells, TellsAlone, TellsFollow, TellsFollowAlone}
+use Rattle.automaton.specs.Compared.{Ended, Started, OnePath, TwoPaths, Sums, Tells, TellsAlone, TellsFollow, TellsFollowAlone}
 use Rattle.automaton.proofs.Truth.{tells-or, tells-and, tells-more, through}
 use Rattle.automaton.proofs.SetLaws.{single-tells}
 use Rattle.automaton.proofs.Relations.{Joined, joined-tells, clear-tells}

@@ -12,7 +12,7 @@ use Rattle.rule_parts.specs.declared.kinds.PathKind.{PathKind}
 use Rattle.rule_parts.specs.declared.kinds.PathKind.the-variants.{Seq, Union, Star}
 use Rattle.rule_parts.proofs.Inner.{seq-inner, union-inner, star-inner}
 use Rattle.automaton.specs.declared.sets.Scan.{Scan}
-use Rattle.automaton.specs.Scanned.{Scanned, Scans, Related, Relates}
+use Rattle.automaton.specs.Scanned.{Scans, Related, Relates}
 use Rattle.automaton.proofs.Truth.{tells-more}
 use Rattle.automaton.proofs.Relations.{Joined, joined-tells, same-tells}
 use Rattle.automaton.proofs.Shapes.{Leaves, shaped, no-next}

@@ -10,7 +10,6 @@ use Rattle.xpath.proofs.Order.{less-transitive}
 use Rattle.document_spec.specs.Library.{Node}
 use Rattle.document_spec.specs.Binary.{stringOf}
 use Rattle.ranks.specs.Ranks.{Ranked}
-use Rattle.constants.specs.declared.Place.{Place}
 use Rattle.constants.specs.Places.{rank, Nearest, Placed}
 
 -- what is used of the ranks of n nodes

@@ -3,7 +3,6 @@ use crate::rules::Kind;
 use lexer::Class;
 use lexer::Ending;
 use limits::Document;
-ghost use mathlib.Core.Path.{_≡_};
 ghost use Prim.Native.Nat.{_≤_};
 ghost use lib.ListN.{length};
 ghost use Rattle.lexer.specs.Reading.{Ended};

@@ -1,19 +1,16 @@
 -- Each kind of test is settled by its pass.
-use Prim.Native.Nat.{ℕ, suc, _+_, _*_, _≤_, _<_}
+use Prim.Native.Nat.{ℕ, suc, _+_, _≤_, _<_}
 use native.Mathlib.Numerals.{add-one}
 use native.Mathlib.Omega.{arith}
 use mathlib.Core.Path.{_≡_, refl, sym, ap, _∙_, subst}
 use mathlib.Core.Logic.{_⊎_, inl, inr, ⊎-map}
 use mathlib.Core.Bool.{true}
-use mathlib.Core.List.{List, [], _∷_, _++_}
-use lib.ListN.{length, getD}
+use mathlib.Core.List.{List}
+use lib.ListN.{length}
 use lib.Seq.{slice}
-use Rattle.lists.specs.Text.{bytes}
-use Rattle.xpath.specs.Syntax.{Op, Test, named, not, and, or, compare, compareTo, XPath}
-use Rattle.xpath.specs.Meaning.{Holds}
+use Rattle.xpath.specs.Syntax.{Test, named, not, and, or, compare, compareTo}
 use Rattle.document_spec.specs.Library.{Node}
 use Rattle.document_spec.specs.Library as Library
-use Rattle.document_spec.specs.Binary.{treeOf}
 use Rattle.rule_spec.specs.Spelling.{spellTest}
 use Rattle.rule_spec.proofs.Reading.{test-head}
 use Rattle.lexer.proofs.Laws.{slice-of}
@@ -22,7 +19,7 @@ use Rattle.table.specs.Tabled.{Tabled}
 use Rattle.rule_parts.specs.Standing.{Spans, TestAt}
 use Rattle.rule_parts.specs.Kinds.{testKind}
 use Rattle.rule_parts.specs.declared.kinds.TestKind.{TestKind}
-use Rattle.rule_parts.specs.declared.kinds.TestKind.the-variants.{Named, Not, And, Or, Comparison}
+use Rattle.rule_parts.specs.declared.kinds.TestKind.the-variants.{Named, Not, And, Or}
 use Rattle.rule_parts.proofs.Inner.{spans-next}
 use Rattle.test_bits.specs.Columns.{held, Settled}
 use Rattle.test_numbers.specs.Tests.{testsOf, test}

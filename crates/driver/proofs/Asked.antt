@@ -1,21 +1,13 @@
 -- What a comparison's evaluator asks, and what it gives.
-use Prim.Native.Nat.{ℕ, suc, _+_, _-_, _*_, _≤_, _<_}
+use Prim.Native.Nat.{ℕ, suc, _+_, _-_, _≤_, _<_}
 use native.Mathlib.Numerals.{add-one}
 use native.Mathlib.Omega.{arith}
-use mathlib.Core.Path.{_≡_, refl, sym, ap, _∙_, subst}
-use mathlib.Core.Logic.{_⊎_, inl, inr, ⊎-elim}
-use mathlib.Core.List.{List, [], _∷_, _++_, append-nil}
-use lib.ListN.{length, getD, length-append}
-use lib.Seq.{slice}
-use Rattle.lists.specs.Text.{bytes}
-use Rattle.limits.specs.Limits.{scratchWords}
-use Rattle.xpath.specs.Syntax.{Op, Test, compare, compareTo, XPath, empty, size}
+use mathlib.Core.Path.{_≡_, sym, subst}
+use mathlib.Core.List.{List, _++_, append-nil}
+use lib.ListN.{length}
+use Rattle.xpath.specs.Syntax.{Test, empty, size}
 use Rattle.document_spec.specs.Library.{Node}
-use Rattle.rule_parts.specs.Standing.{Spans, TestAt, PathAt}
-use Rattle.rule_parts.specs.Middles.{FirstSide, Parted}
-use Rattle.rule_parts.specs.declared.Middle.{Middle}
 use Rattle.rule_parts.specs.declared.kinds.Operator.{Operator}
-use Rattle.rule_parts.proofs.Inner.{spans-split, spans-next}
 use Rattle.automaton.specs.Compared.{TwoPaths}
 use Rattle.test_numbers.specs.Tests.{testsOf, pathTests, test, Light}
 use Rattle.test_numbers.specs.Numbering.{Brackets, TwoNumbered, NumbersTwo, OneNumbered, NumbersOne}
@@ -25,8 +17,7 @@ use Rattle.test_numbers.proofs.Following.{room-compare, inner-compare, room-com
 use Rattle.compiler.specs.Machines.{Machined, OnePath, MachinedAlone}
 use Rattle.machine.specs.declared.Machine.{Machine}
 use Rattle.machine.specs.Meaning.{IsMachine}
-use Rattle.driver.specs.Tasks.{Task, Paths, Constant}
-use Rattle.driver.proofs.Arms.{spans-slice}
+use Rattle.driver.specs.Tasks.{Paths, Constant}
 
 -- ── Two paths ──
 module _ {s rule : List ℕ} {ns : List Node} {T : Test} {n at k : ℕ} {t : List ℕ} {behind : ℕ} {o : Operator} (h : Paths s rule ns T n at k t behind o) where

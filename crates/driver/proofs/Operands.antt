@@ -1,18 +1,18 @@
 -- Which comparison stands at an offset: the second operand is a constant exactly if it begins with a quote.
-use Prim.Native.Nat.{ℕ, suc, _+_, _-_, _≤_, _<_}
+use Prim.Native.Nat.{ℕ, _+_, _-_, _≤_}
 use native.Mathlib.Omega.{arith}
 use mathlib.Core.Path.{_≡_, refl, sym, ap, _∙_, subst}
-use mathlib.Core.Logic.{_⊎_, inl, inr}
+use mathlib.Core.Logic.{inl, inr}
 use mathlib.Core.Bool.{true, false}
-use mathlib.Core.List.{List, [], _∷_, _++_}
-use lib.ListN.{length, drop, length-append}
+use mathlib.Core.List.{List, _++_}
+use lib.ListN.{length}
 use lib.Seq.{slice}
 use Rattle.lists.specs.Text.{bytes}
-use Rattle.xpath.specs.Syntax.{Op, Test, compare, compareTo, XPath, empty, one, seq, union, star, toLeft, toRight, fromLeft, fromRight, stay}
+use Rattle.xpath.specs.Syntax.{Test, compareTo, XPath, empty, one, seq, union, star, toLeft, toRight, fromLeft, fromRight, stay}
 use Rattle.document_spec.specs.Library.{Node}
 use Rattle.rule_spec.specs.Spelling.{spellPath, spellStep}
 use Rattle.tokens.specs.Readers.{Lacks, Stood}
-use Rattle.rule_parts.specs.Standing.{Spans, TestAt, PathAt}
+use Rattle.rule_parts.specs.Standing.{TestAt}
 use Rattle.rule_parts.specs.Middles.{Parted}
 use Rattle.rule_parts.specs.declared.Middle.{Middle}
 use Rattle.rule_parts.specs.declared.kinds.TestKind.the-variants.{Comparison}

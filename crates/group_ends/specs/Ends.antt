@@ -1,5 +1,5 @@
 -- Where a comparison's paths end among the nodes of one value: what is given, what may change, and the positions at each skeleton node that end inside it or beside it.
-use Prim.Native.Nat.{ℕ, _+_, _*_, _^_, _≤_, _<_}
+use Prim.Native.Nat.{ℕ, _*_, _^_, _≤_, _<_}
 use mathlib.Core.Logic.{_⊎_}
 use mathlib.Core.Bool.{Bool, true, false}
 use mathlib.Core.List.{List}

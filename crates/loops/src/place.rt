@@ -5,7 +5,7 @@ use layout::words::get;
 ghost use mathlib.Core.Path.{_≡_};
 ghost use mathlib.Core.Bool.{true, false};
 ghost use Prim.Native.Nat.{_+_, _≤_, _<_};
-ghost use Rattle.limits.specs.Limits.{documentNodes, positions};
+ghost use Rattle.limits.specs.Limits.{positions};
 ghost use Rattle.layout.specs.Part.{loopAt};
 ghost use Rattle.layout.specs.Table.{PARENT};
 ghost use Rattle.layout.specs.Words.{word};

@@ -1,12 +1,12 @@
 -- The pairs as words: a matrix for each node, and what the words of the loops, of the edges and of the snippets of power 0 put into it.
-use Prim.Native.Nat.{ℕ, _+_, _*_, _<_}
+use Prim.Native.Nat.{ℕ, _<_}
 use mathlib.Core.Path.{_≡_}
 use mathlib.Core.Logic.{_⊎_}
 use mathlib.Core.Bool.{Bool, true, false}
 use mathlib.Core.List.{List}
 use Rattle.limits.specs.Limits.{positions}
 use Rattle.layout.specs.Blocks.{downAt, upAt, snippetAt}
-use Rattle.layout.specs.Part.{loopAt, PAIRS}
+use Rattle.layout.specs.Part.{loopAt}
 use Rattle.layout.specs.Table.{PARENT}
 use Rattle.layout.specs.Words.{word}
 use Rattle.matrices.specs.Matrices.{Related, Before}

@@ -1,10 +1,9 @@
 -- The tree in a comparison's part, and which of the part's columns may change.
-use Prim.Native.Nat.{ℕ, _*_, _≤_, _<_}
+use Prim.Native.Nat.{ℕ, _≤_, _<_}
 use mathlib.Core.Path.{_≡_}
 use mathlib.Core.Logic.{_⊎_}
 use mathlib.Core.Bool.{Bool}
 use mathlib.Core.List.{List}
-use lib.ListN.{length, getD}
 use Rattle.limits.specs.Limits.{documentNodes}
 use Rattle.xpath.specs.Tree.{Tree, Child, WellFormed}
 use Rattle.layout.specs.Table.{PARENT, RANK, column}

@@ -1,14 +1,12 @@
 -- The cells of a node's words and of the link to it: which are apart, and that all of them are the table's own.
 use Prim.Native.Nat.{ℕ, _*_, _≤_, _<_}
-use mathlib.Core.Path.{_≡_, refl, sym, _∙_, subst}
+use mathlib.Core.Path.{_≡_, refl, sym, subst}
 use mathlib.Core.Logic.{_≢_}
 use mathlib.Core.Bool.{Bool, true, false}
 use mathlib.Core.List.{List, [], _∷_}
-use lib.ListN.{length}
 use lib.Dec.{ltb}
-use native.Mathlib.Nat.{mul-le-mul-right}
 use native.Mathlib.Omega.{arith}
-use Rattle.layout.specs.Table.{COLUMNS, column, Room}
+use Rattle.layout.specs.Table.{COLUMNS, column}
 use Rattle.layout.specs.Words.{cell, Wrote, Kept}
 use Rattle.layout.proofs.Cells.{wrote-then}
 use Rattle.table.specs.Writes.{entered, hung, parentBy}

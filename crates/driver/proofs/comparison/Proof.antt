@@ -1,5 +1,4 @@
 -- `driver::comparison` meets its contract.
-use Prim.Native.Nat.{ℕ, _*_, _≤_, _<_}
 use native.Mathlib.Omega.{arith}
 use Rattle.test_numbers.specs.Tests.{testsOf, test}
 use Rattle.driver.proofs.Frames.{scratch-room}

@@ -1,10 +1,10 @@
 -- `exponents::exponent` meets its contract: the table's rule is a test at each of its entries, which is computed.
-use mathlib.Core.Path.{_≡_, refl, subst, sym}
+use mathlib.Core.Path.{_≡_, subst}
 use mathlib.Core.List.{List, [], _∷_, _++_}
 use mathlib.Core.Bool.{Bool}
 use Prim.Native.Nat.{ℕ, suc, _-_, _^_, _<_}
 use native.Mathlib.Omega.{arith}
-use lib.Dec.{T, leb, ltb, leb→le, ltb→lt}
+use lib.Dec.{leb, ltb, leb→le, ltb→lt}
 use lib.ListN.{getD, replicate, length}
 use borrow.Author.Needs.{needs}
 use Rattle.exponents.specs.Exponent.{Exponent}

@@ -3,7 +3,6 @@ use mathlib.Core.Path.{_≡_, refl, sym, ap, _∙_}
 use Prim.Native.Nat.{_≤_, _+_, _-_}
 use native.Mathlib.Omega.{arith}
 use lib.ListN.{getD}
-use Rattle.bits.specs.Sets.{size}
 use Rattle.bits.proofs.SetLaws.{size-le}
 use Rattle.matrices.specs.Matrices.{pairs}
 use Rattle.matrices.proofs.Pairs.{pairs-more, pairs-le, pairs-none}

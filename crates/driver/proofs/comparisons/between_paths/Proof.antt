@@ -1,7 +1,6 @@
 -- `driver::comparisons::between_paths` meets its contract.
-use Prim.Native.Nat.{ℕ, _+_, _*_, _≤_, _<_}
 use native.Mathlib.Omega.{arith}
-use mathlib.Core.Path.{_≡_, refl, _∙_}
+use mathlib.Core.Path.{refl}
 use Rattle.driver.proofs.Frames.{scratch-room}
 use Rattle.driver.proofs.Answers.{some-nodes}
 use Rattle.driver.proofs.Arms.{number-small}

@@ -1,7 +1,7 @@
 -- `driver::comparisons::compare` meets its contract.
-use Prim.Native.Nat.{ℕ, _+_, _-_, _≤_}
+use Prim.Native.Nat.{_+_, _-_}
 use native.Mathlib.Omega.{arith}
-use mathlib.Core.Path.{_≡_, sym, ap, subst}
+use mathlib.Core.Path.{sym, ap, subst}
 use Rattle.tokens.specs.Readers.{Stood}
 use Rattle.document_spec.specs.Binary.{treeOf}
 use Rattle.test_numbers.specs.Tests.{testsOf, test}

@@ -1,7 +1,6 @@
 -- `driver::comparisons::with_constant` meets its contract.
-use Prim.Native.Nat.{ℕ, _+_, _*_, _≤_, _<_}
 use native.Mathlib.Omega.{arith}
-use mathlib.Core.Path.{_≡_, refl, _∙_}
+use mathlib.Core.Path.{refl, _∙_}
 use Rattle.driver.proofs.Frames.{scratch-room, scene-tabled}
 use Rattle.driver.proofs.Answers.{some-nodes}
 use Rattle.driver.proofs.Arms.{number-small}

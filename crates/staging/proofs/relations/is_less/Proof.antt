@@ -1,5 +1,5 @@
 -- `staging::relations::is_less` meets its contract.
-use mathlib.Core.Path.{sym, subst}
+use mathlib.Core.Path.{subst}
 use Rattle.xpath.proofs.Order.{less-distinct, less-asymmetric}
 use Rattle.values.specs.Ordered.{Ordered}
 use Rattle.staging.proofs.Operators.{told-yes, told-no}

@@ -1,6 +1,6 @@
 -- `staging::relations::is_same` meets its contract.
 use mathlib.Core.Path.{sym, subst}
-use Rattle.xpath.proofs.Order.{less-distinct, less-asymmetric}
+use Rattle.xpath.proofs.Order.{less-distinct}
 use Rattle.values.specs.Ordered.{Ordered}
 use Rattle.staging.proofs.Operators.{told-yes, told-no}
 use borrow.Author.Needs.{needs}
