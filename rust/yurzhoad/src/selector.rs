@@ -62,8 +62,10 @@ impl Selector {
     /// of such a library allocates memory.
     pub fn reserve(&mut self, nodes: usize) {
         if nodes > self.marks.len() {
-            self.scratch.resize(needed_words(nodes), 0);
-            self.marks.resize(nodes, 0);
+            // New ones, not longer ones: what a buffer holds does not matter,
+            // and memory that comes as zeros is not written twice.
+            self.scratch = vec![0; needed_words(nodes)];
+            self.marks = vec![0; nodes];
         }
     }
 
