@@ -1,7 +1,8 @@
-//! A selector of the crate `yurzhoad` beside the bare call of the archive: what
-//! the wrapper costs.
+//! A selector of the crate `yurzhoad`, and the command over it, beside the bare
+//! call of the archive: what the wrappers cost.
 
 use std::cell::RefCell;
+use std::ffi::OsString;
 use std::hint::black_box;
 
 use crate::timing::{ratio, time, Subject, Times};
@@ -24,15 +25,24 @@ pub fn print() {
         let rule = Rule::check(rule).expect("an accepted rule");
         println!("\n{name}: {}, {NODE_LIMIT} nodes", rule.as_str());
         for (method_name, method) in METHODS {
-            let subjects = [
-                bare(method, &library, &rule),
-                wrapped(method, &library, &rule),
-            ];
+            let subjects = subjects(method, &library, &rule);
             let selected = assert_same_counts(&subjects);
             let times = time(&subjects);
-            print_line(method_name, selected, &times[0], &times[1]);
+            println!("  {method_name}, {selected} marked");
+            for (subject, its) in subjects.iter().zip(&times) {
+                print_line(subject.name, its, &times[0]);
+            }
         }
     }
+}
+
+/// The bare call first: the others are held against it.
+fn subjects<'a>(method: Method, library: &'a Library, rule: &'a Rule) -> [Subject<'a>; 3] {
+    [
+        bare(method, library, rule),
+        wrapped(method, library, rule),
+        command(method, library, rule),
+    ]
 }
 
 /// The call of the archive, with buffers that were lent before.
@@ -75,26 +85,46 @@ fn wrapped<'a>(method: Method, library: &'a Library, rule: &'a Rule) -> Subject<
     }
 }
 
-fn assert_same_counts(subjects: &[Subject; 2]) -> usize {
-    let [bare, wrapped] = subjects.each_ref().map(|subject| (subject.call)());
-    assert_eq!(bare, wrapped);
+/// `yurzhoad select` without the start of its process: it reads the library,
+/// checks both, has buffers of its own, and prints each node with its path.
+fn command<'a>(method: Method, library: &'a Library, rule: &'a Rule) -> Subject<'a> {
+    let mut arguments = vec!["select", rule.as_str(), "-"];
+    if method == Method::Plain {
+        arguments.push("--plain");
+    }
+    let arguments: Vec<OsString> = arguments.into_iter().map(OsString::from).collect();
+    let call = move || {
+        let (mut out, mut err) = (Vec::new(), Vec::new());
+        let mut input = black_box(library.bytes());
+        let status = yurzhoad_command::run(&arguments, &mut input, &mut out, &mut err);
+        assert_eq!(status, 0);
+        out.iter().filter(|byte| **byte == b'\n').count()
+    };
+    Subject {
+        name: "command",
+        bytes: library.bytes().len(),
+        call: Box::new(call),
+    }
+}
+
+fn assert_same_counts(subjects: &[Subject; 3]) -> usize {
+    let [bare, wrapped, command] = subjects.each_ref().map(|subject| (subject.call)());
+    assert_eq!((bare, bare), (wrapped, command));
     bare
 }
 
-fn print_line(name: &str, selected: usize, bare: &Times, wrapped: &Times) {
+fn print_line(name: &str, its: &Times, bare: &Times) {
     println!(
-        "  {name:10}{selected} marked, bare{:9.1} ({:.1}) us, selector{:9.1} ({:.1}) us, it takes {} times as long",
-        bare.median * 1e6,
-        bare.fastest * 1e6,
-        wrapped.median * 1e6,
-        wrapped.fastest * 1e6,
-        ratio(wrapped, bare, 3),
+        "    {name:10}{:9.1} ({:.1}) us, {} times the bare call",
+        its.median * 1e6,
+        its.fastest * 1e6,
+        ratio(its, bare, 3),
     );
 }
 
 #[cfg(test)]
 mod tests {
-    use super::{assert_same_counts, bare, wrapped, METHODS, RULES};
+    use super::{assert_same_counts, subjects, METHODS, RULES};
     use evaluator::document::spell;
     use evaluator::samples::libraries::formulary;
     use yurzhoad::{Library, Rule};
@@ -106,11 +136,7 @@ mod tests {
         for (name, rule) in RULES {
             let rule = Rule::check(rule).expect("an accepted rule");
             for (_, method) in METHODS {
-                let subjects = [
-                    bare(method, &library, &rule),
-                    wrapped(method, &library, &rule),
-                ];
-                let selected = assert_same_counts(&subjects);
+                let selected = assert_same_counts(&subjects(method, &library, &rule));
                 assert!(selected > 0, "{name}");
             }
         }
