@@ -4,7 +4,7 @@ use std::ffi::{OsStr, OsString};
 use std::fs;
 use std::io::Write;
 use std::path::{Path, PathBuf};
-use std::process::{self, Command, Output, Stdio};
+use std::process::{self, Child, Command, Output, Stdio};
 use std::sync::atomic::{AtomicUsize, Ordering};
 use std::thread;
 
@@ -91,6 +91,16 @@ impl Desk {
         command
     }
 
+    /// Starts the command in this folder, with a pipe for each stream.
+    pub fn start<A: AsRef<OsStr>>(&self, arguments: impl IntoIterator<Item = A>) -> Child {
+        self.command(arguments)
+            .stdin(Stdio::piped())
+            .stdout(Stdio::piped())
+            .stderr(Stdio::piped())
+            .spawn()
+            .expect("the program starts")
+    }
+
     /// Runs the command in this folder, with nothing on standard input.
     pub fn run<A: AsRef<OsStr>>(&self, arguments: impl IntoIterator<Item = A>) -> Ran {
         self.run_on(b"", arguments)
@@ -102,13 +112,7 @@ impl Desk {
         input: &[u8],
         arguments: impl IntoIterator<Item = A>,
     ) -> Ran {
-        let mut child = self
-            .command(arguments)
-            .stdin(Stdio::piped())
-            .stdout(Stdio::piped())
-            .stderr(Stdio::piped())
-            .spawn()
-            .expect("the program starts");
+        let mut child = self.start(arguments);
         let mut pipe = child.stdin.take().expect("a pipe");
         let bytes = input.to_vec();
         // The program may end before it has read all: then the pipe breaks,

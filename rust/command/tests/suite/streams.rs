@@ -154,13 +154,7 @@ fn a_reader_that_leaves_ends_the_run_quietly() {
 /// Runs the command with a rule that it gets when nobody reads its output any
 /// more.
 fn run_unread(arguments: &[&str], rule: &[u8]) -> Ran {
-    let mut child = Desk::new()
-        .command(arguments)
-        .stdin(Stdio::piped())
-        .stdout(Stdio::piped())
-        .stderr(Stdio::piped())
-        .spawn()
-        .expect("the program starts");
+    let mut child = Desk::new().start(arguments);
     drop(child.stdout.take());
     let mut input = child.stdin.take().expect("a pipe");
     input.write_all(rule).expect("the program reads it");
