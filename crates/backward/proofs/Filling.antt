@@ -1,6 +1,7 @@
 -- Two columns filled, and nothing seen.
 use Prim.Native.Nat.{ℕ, _+_, _*_, _≤_}
 use mathlib.Core.Path.{_∙_}
+use mathlib.Core.Logic.{⊎-elim}
 use mathlib.Core.List.{List}
 use native.Mathlib.Nat.{mul-le-mul-right}
 use native.Mathlib.Omega.{arith}
@@ -29,7 +30,10 @@ blanked {n} {c} {x} {p} {p₁} {p₂} {p₃} space paired f g h =
     spared =
         let low : LEAST * n ≤ c * n = mul-le-mul-right n (paired .0) in
         record {
-          long = h .within .long ∙ g .within .long ∙ f .within .long;
-          front = λ k l. h .within .front k (omega arith) ∙ g .within .front k (omega arith) ∙ f .within .front k l;
-          aside = λ k l r. h .within .front k (omega arith) ∙ g .within .front k r ∙ f .within .behind k (omega arith);
+          same = record {
+            long = h .within .long ∙ g .within .long ∙ f .within .long;
+            same = λ k. ⊎-elim
+                (λ l. h .within .front k (omega arith) ∙ g .within .front k (omega arith) ∙ f .within .front k l)
+                (λ (l, r). h .within .front k (omega arith) ∙ g .within .front k r ∙ f .within .behind k (omega arith));
+          };
         }

@@ -13,7 +13,7 @@ use Rattle.reach.specs.Work.{Seen, Work, Added}
 use Rattle.plain.specs.Plain.{Answered}
 use Rattle.retracing.specs.Backward.{LinkedBothWays, Closed, Ends, Backed}
 use Rattle.backward.specs.Constants.{IsHit, HitAt}
-use Rattle.reach.proofs.Adding.{added-same, added-into}
+use Rattle.reach.proofs.Adding.{spared-front, added-same, added-into}
 use Rattle.reach.proofs.Clearing.{cleared-unseen}
 use Rattle.retracing.proofs.Spreading.{added-linked}
 use Rattle.retracing.proofs.Ending.{closed-none, ends-same, ends-closed, ends-as, ends-then}
@@ -53,7 +53,7 @@ hitting-step {m} {n} {w} {p₀ = p₀} {p = p} h l g =
     }
   where
     hit : word p n HIT w ≡ word p₀ n HIT w
-    hit = h .added .spared .front (cell n HIT w) (omega arith)
+    hit = spared-front (h .added .spared) (cell n HIT w) (omega arith)
 
     from : (x : ℕ) → HitBelow p₀ n (w + 1) x → Dec (x ≡ w) → HitBelow p₀ n w x ⊎ HitAt p n w x
     from x (r, e) (yes z) = inr (z, hit ∙ ap (λ (y : ℕ). word p₀ n HIT y) (sym z) ∙ e)
@@ -74,7 +74,7 @@ pub hits-answered : {m : Machine} {n len : ℕ} {p p₁ p₂ p₃ : List ℕ} �
     → Answered n (λ v. Seen p₂ n v 0) p₂ p₃ → Answered n (Hits m n p) p p₃
 hits-answered {m} {n} {len} {p} {p₁} {p₂} {p₃} f g a =
     record {
-      long = a .long ∙ g .spared .long ∙ f .within .long;
+      long = a .long ∙ g .spared .same .long ∙ f .within .long;
       answers = λ v l. ⊎-elim (λ (s, e). inl (to v l (g .seen v 0 l (omega arith) .0 s), e)) (λ (s, e). inr (λ h. s (from v l h), e)) (a .answers v l);
     }
   where

@@ -10,23 +10,24 @@ use lib.ListN.{getD}
 use Rattle.xpath.specs.Syntax.{Op, eq}
 use Rattle.layout.specs.Groups.{FIRST, NEXT, MARKED}
 use Rattle.layout.specs.Sweeps.{LEAST, ABOVE}
-use Rattle.layout.specs.Table.{RANK}
+use Rattle.layout.specs.Table.{RANK, SmallRanks}
 use Rattle.layout.specs.Words.{cell, word, Within}
-use Rattle.layout.proofs.Frames.{within-frame, frame-same}
-use Rattle.table.specs.Links.{Points}
+use Rattle.layout.proofs.Frames.{within-frame, frame-same, same-wider}
 use Rattle.rule_parts.specs.Kinds.{operator}
 use Rattle.rule_parts.specs.declared.kinds.Operator.{Operator}
 use Rattle.machine.specs.declared.Machine.{Machine}
 use Rattle.machine.specs.Walks.{Stops, Meets}
-use Rattle.skeletons.specs.Skeletons.{Least, Buckets}
+use Rattle.buckets.specs.Buckets.{Buckets}
+use Rattle.buckets.proofs.Least.{buckets-kept}
 use Rattle.rank_sets.specs.declared.ranges.Range.{Range}
-use Rattle.rank_sets.specs.Ends.{Small, Held}
+use Rattle.rank_sets.specs.Ends.{Held}
 use Rattle.rank_sets.specs.Ranges.{Ranged, Across}
 use Rattle.rank_sets.proofs.Ranged.{across-some}
 use Rattle.rank_sets.proofs.Steady.{held-then, held-word, held-small}
 use Rattle.plain.specs.Plain.{Answered}
 use Rattle.plain.proofs.Walks.{stops-same, meets-same}
 use Rattle.reach.specs.Work.{Work, Spared}
+use Rattle.reach.proofs.Adding.{spared-front, spared-aside}
 use Rattle.retracing.specs.Backward.{LinkedBothWays}
 use Rattle.retracing.specs.Notes.{Seeded}
 use Rattle.backward.specs.Sweeps.{rangeOf, Extreme, Blank, Blanked, Risen, Fallen, Ranges}
@@ -46,7 +47,7 @@ rising-step {m} {n} {r} {p₀ = p₀} {p = p} small empty s g =
     sweeping-step small empty s g (λ w l e. sym (rank w l) ∙ e) (omega arith) (λ w u l h d e. let z = rank u h in omega arith) both
   where
     rank : (w : ℕ) → w < n → word p n RANK w ≡ word p₀ n RANK w
-    rank w l = s .added .spared .front (cell n RANK w) (omega arith)
+    rank w l = spared-front (s .added .spared) (cell n RANK w) (omega arith)
 
     part : (w : ℕ) → w < n → word p₀ n RANK w < r + 1 → Dec (word p₀ n RANK w < r) → (word p₀ n RANK w < r) ⊎ (word p n RANK w ≡ r)
     part w l h (yes k) = inl k
@@ -55,14 +56,14 @@ rising-step {m} {n} {r} {p₀ = p₀} {p = p} small empty s g =
     both : (w : ℕ) → w < n → ((word p₀ n RANK w < r) ⊎ (word p n RANK w ≡ r)) ↔ (word p₀ n RANK w < r + 1)
     both w l = (⊎-elim (λ k. omega arith) (λ e. let z = rank w l in omega arith), λ h. part w l h (decLt (word p₀ n RANK w) r))
 
-pub rising-all : {m : Machine} {n r len : ℕ} {p₀ p : List ℕ} → Small n p₀ → Rising m n r len p₀ p → n ≤ r → Risen m n p₀ p
+pub rising-all : {m : Machine} {n r len : ℕ} {p₀ p : List ℕ} → SmallRanks n p₀ → Rising m n r len p₀ p → n ≤ r → Risen m n p₀ p
 rising-all small s l = sweeping-all s (λ w h. let k = small w h in omega arith)
 
 -- ── By falling rank: those from r on are done ──
 abbrev pub Falling : Machine → ℕ → ℕ → ℕ → List ℕ → List ℕ → Type 0
 Falling m n r len p₀ p = Sweeping (λ a b. b ≤ a) 0 (λ w. suc (word p₀ n RANK w)) m n ABOVE (λ w. r ≤ word p₀ n RANK w) len p₀ p
 
-pub falling-none : {m : Machine} {n : ℕ} {p : List ℕ} → Small n p → Blank n ABOVE 0 p → LinkedBothWays n p → Falling m n n 0 p p
+pub falling-none : {m : Machine} {n : ℕ} {p : List ℕ} → SmallRanks n p → Blank n ABOVE 0 p → LinkedBothWays n p → Falling m n n 0 p p
 falling-none small b linked = sweeping-none b linked (λ w l d. let k = small w l in absurd (omega arith))
 
 pub falling-step : {m : Machine} {n r len len′ : ℕ} {p₀ p p′ : List ℕ} → m .second < 16 → Work n 0 p₀ → Falling m n r len p₀ p → 0 < r → Seeded m n (λ u. word p n RANK u ≡ r - 1) ABOVE r len len′ p p′
@@ -71,7 +72,7 @@ falling-step {m} {n} {r} {p₀ = p₀} {p = p} small empty s some g =
     sweeping-step small empty s g (λ w l e. let z = rank w l in omega arith) (omega arith) (λ w u l h d e. let z = rank u h in omega arith) both
   where
     rank : (w : ℕ) → w < n → word p n RANK w ≡ word p₀ n RANK w
-    rank w l = s .added .spared .front (cell n RANK w) (omega arith)
+    rank w l = spared-front (s .added .spared) (cell n RANK w) (omega arith)
 
     part : (w : ℕ) → w < n → r - 1 ≤ word p₀ n RANK w → Dec (word p₀ n RANK w < r) → (r ≤ word p₀ n RANK w) ⊎ (word p n RANK w ≡ r - 1)
     part w l h (yes k) = let z = rank w l in inr (omega arith)
@@ -85,43 +86,19 @@ falling-all s l = sweeping-all s (λ w h. omega arith)
 
 -- ── What the sweeps leave ──
 spared-held : {n c : ℕ} {p q : List ℕ} → Spared n c p q → Held n p q
-spared-held s = record { middle = record { long = s .long; same = λ k (l, h). s .front k h } }
-
--- the same ranks and buckets
-module _ {n : ℕ} {p q : List ℕ} (rank : (w : ℕ) → w < n → word q n RANK w ≡ word p n RANK w) where
-  least-to : {v r w : ℕ} → Least n p v r w → Least n q v r w
-  least-to {w = w} l = record { inside = l .inside; from = l .from; ranked = rank w (l .inside) ∙ l .ranked; least = λ u a b e. l .least u a b (sym (rank u b) ∙ e) }
-
-  least-from : {v r w : ℕ} → Least n q v r w → Least n p v r w
-  least-from {w = w} l = record { inside = l .inside; from = l .from; ranked = sym (rank w (l .inside)) ∙ l .ranked; least = λ u a b e. l .least u a b (rank u b ∙ e) }
-
-  points-to : {v r w : ℕ} → Points (Least n p v r) w → Points (Least n q v r) w
-  points-to (inl l) = inl (least-to l)
-  points-to (inr (e, none)) = inr (e, λ x l. none x (least-from l))
-
-  buckets-kept : ((r : ℕ) → r < n → word q n FIRST r ≡ word p n FIRST r) → ((v : ℕ) → v < n → word q n NEXT v ≡ word p n NEXT v) → Buckets n p → Buckets n q
-  buckets-kept first next b =
-      record {
-        first = λ r l. subst (λ (y : ℕ). Points (Least n q 0 r) y) (sym (first r l)) (points-to (b .first r l));
-        next = λ v l.
-            subst (λ (y : ℕ). Points (Least n q (suc v) (word q n RANK v)) y) (sym (next v l))
-            (subst (λ (y : ℕ). Points (Least n q (suc v) y) (word p n NEXT v)) (sym (rank v l)) (points-to (b .next v l)));
-      }
+spared-held s = record { middle = same-wider (λ k (l, h). inl h) (s .same) }
 
 pub spared-buckets : {n : ℕ} (c : ℕ) {p q : List ℕ} → LEAST ≤ c → Spared n c p q → Buckets n p → Buckets n q
 spared-buckets {n} c l s =
     let low : LEAST * n ≤ c * n = mul-le-mul-right n l in
-    buckets-kept
-    (λ w h. s .front (cell n RANK w) (omega arith))
-    (λ w h. s .aside (cell n FIRST w) (omega arith) (omega arith))
-    (λ w h. s .aside (cell n NEXT w) (omega arith) (omega arith))
+    buckets-kept (λ v h. spared-front s (cell n RANK v) (omega arith)) (λ r h. spared-aside s (cell n FIRST r) (omega arith) (omega arith)) (λ v h. spared-aside s (cell n NEXT v) (omega arith) (omega arith))
 
 -- what a sweep asks of the words before its columns
 abbrev pub Ready : ℕ → List ℕ → Type 0
-Ready n p = LinkedBothWays n p × Buckets n p × Small n p
+Ready n p = LinkedBothWays n p × Buckets n p × SmallRanks n p
 
 pub spared-ready : {n : ℕ} (c : ℕ) {p q : List ℕ} → LEAST ≤ c → Spared n c p q → Ready n p → Ready n q
-spared-ready c l s (linked, buckets, small) = (linked-same (λ k l h. s .front k h) linked, spared-buckets c l s buckets, held-small (spared-held s) small)
+spared-ready c l s (linked, buckets, small) = (linked-same (λ k l h. spared-front s k h) linked, spared-buckets c l s buckets, held-small (spared-held s) small)
 
 -- ── The ranges ──
 ranged-of : {n : ℕ} {E : ℕ → Type 0} {rank : ℕ → ℕ} (a : Range) → Extreme (λ x y. x ≤ y) 65_535 n rank E (a .least) → Extreme (λ x y. y ≤ x) 0 n (λ w. suc (rank w)) E (a .above) → Ranged n E rank a
@@ -152,7 +129,7 @@ module _ {m : Machine} {n : ℕ} {p p₁ p₂ p₃ p₄ : List ℕ} (a : Blanked
 
   -- the least ranks stay while the greatest are found
   kept : (k : ℕ) → LEAST * n ≤ k → k < ABOVE * n → getD p₄ k 0 ≡ getD p₂ k 0
-  kept k l h = d .spared .aside k (omega arith) h ∙ c .spared .aside k (omega arith) h
+  kept k l h = spared-aside (d .spared) k (omega arith) h ∙ spared-aside (c .spared) k (omega arith) h
 
   module _ (i v : ℕ) (l : v < n) where
     least : (x y : ℕ) → y ≡ x → Extreme (λ a b. a ≤ b) 65_535 n (word p₁ n RANK) (λ w. Stops m n p₁ i v w) x → Extreme (λ a b. a ≤ b) 65_535 n (word p n RANK) (λ w. Stops m n p i v w) y
@@ -180,7 +157,7 @@ pub bucketed-held : {n : ℕ} {p q : List ℕ} → Within n FIRST MARKED p q →
 bucketed-held w = record { middle = frame-same (λ k h. inl (omega arith)) (within-frame w) }
 
 -- p₁ is the part with the buckets, and p₂ the part with the ranges
-pub order-answered : {m : Machine} {n : ℕ} {o : Operator} {p p₁ p₂ p₃ : List ℕ} → n ≤ 4096 → Small n p → Within n FIRST MARKED p p₁ → Ranges m n p₁ p₂
+pub order-answered : {m : Machine} {n : ℕ} {o : Operator} {p p₁ p₂ p₃ : List ℕ} → n ≤ 4096 → SmallRanks n p → Within n FIRST MARKED p p₁ → Ranges m n p₁ p₂
     → Answered n (λ v. Across o (rangeOf p₂ n 0 v) (rangeOf p₂ n 1 v)) p₂ p₃ → (q : Op) → q ≢ eq → o ≡ operator q → Answered n (Meets m n p q) p p₃
 order-answered {m} {n} {o} {p} {p₁} {p₂} {p₃} few small w g a q d e =
     record {

@@ -3,6 +3,7 @@ mod constants;
 mod order;
 mod sweeps;
 
+use buckets::buckets;
 use constants::answer_seen;
 use constants::spread_hits;
 use layout::Part;
@@ -10,7 +11,6 @@ use layout::words::fill;
 use machine::Machine;
 use order::answer_ordered;
 use rule_parts::kinds::Operator;
-use skeletons::buckets::buckets;
 use sweeps::sweep;
 ghost use mathlib.Core.Logic.{_≢_};
 ghost use mathlib.Core.Path.{_≡_};
@@ -20,7 +20,7 @@ ghost use Rattle.xpath.specs.Syntax.{Op, eq};
 ghost use Rattle.rule_parts.specs.Kinds.{operator};
 ghost use Rattle.layout.specs.Part.{Space};
 ghost use Rattle.machine.specs.Walks.{Meets, Hits};
-ghost use Rattle.rank_sets.specs.Ends.{Small};
+ghost use Rattle.layout.specs.Table.{SmallRanks};
 ghost use Rattle.plain.specs.Plain.{Answered};
 ghost use Rattle.retracing.specs.Backward.{LinkedBothWays};
 
@@ -36,7 +36,7 @@ pub fn compare_constant(p: &mut [u16], n: usize, m: Machine)
 
 // The two paths of a comparison by a sign other than =, which only asks for the least and the greatest rank where each path ends.
 pub fn compare_order(p: &mut [u16], n: usize, m: Machine, o: Operator)
-    requires { ⌜ Space n (now p) × Small n (now p) × (m .second < positions) × LinkedBothWays n (now p) ⌝ }
+    requires { ⌜ Space n (now p) × SmallRanks n (now p) × (m .second < positions) × LinkedBothWays n (now p) ⌝ }
     ensures { λ _. ⌜ ((q : Op) → q ≢ eq → o ≡ operator q → Answered n (Meets m n (now (p .entry)) q) (now (p .entry)) (now (p .exit))) ⌝ }
 {
     buckets(p, n);

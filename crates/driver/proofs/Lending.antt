@@ -27,8 +27,7 @@ use Rattle.evaluators.specs.Evaluators.{PartRoom, Staged, Adds, Compared, Hit}
 use Rattle.evaluators.specs.declared.Evaluator.{Evaluator}
 use Rattle.staging.specs.Drawing.{Copied, Stayed, Judged}
 use Rattle.driver.specs.Tasks.{Scene, Task, Paths, Constant, Apart, Answers, Compares}
-use Rattle.layout.proofs.Frames.{within-none}
-use Rattle.layout.proofs.Frames.{frame-then}
+use Rattle.layout.proofs.Frames.{within-none, frame-then}
 use Rattle.driver.proofs.Frames.{scratch-room, scene-same, within-apart}
 use Rattle.driver.proofs.Parts.{part, part-long}
 use Rattle.driver.proofs.Answers.{some-nodes, drawn-apart, drawn-stage, answered}

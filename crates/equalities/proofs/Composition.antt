@@ -22,7 +22,7 @@ use Rattle.snippets.proofs.Settles.{sound, yielded-down}
 use Rattle.snippets.proofs.Counting.{down-inside, ends-small}
 use Rattle.snippets.proofs.Direct.{first-iff, yielded-iff}
 use Rattle.layout.specs.Blocks.{BLOCKS, snippetAt}
-use Rattle.layout.specs.Part.{STAYS, ANSWER}
+use Rattle.layout.specs.Part.{ANSWER}
 use Rattle.layout.specs.Words.{word}
 use Rattle.layout.proofs.Frames.{same-wider}
 use Rattle.machine.specs.declared.Machine.{Machine}
@@ -35,15 +35,15 @@ use Rattle.powers.proofs.Kept.{founded-of, founded-less}
 use Rattle.settling.specs.Settled.{Settled}
 use Rattle.settling.specs.Settled as pairs
 use Rattle.settling.proofs.Finding.{answers-hold}
-use Rattle.skeletons.specs.Shape.{Shape}
-use Rattle.skeletons.specs.Skeletons.{Bucketed}
+use Rattle.machine.specs.Shape.{Shape}
+use Rattle.buckets.specs.Buckets.{Bucketed}
 use Rattle.halving.specs.Halving.{Family, Inside, Within, Sets, Marked, Topped, Halved, Halving, Counts}
 use Rattle.halving.proofs.Families.{topped-of, sets-marked, halved-yielded, yielded-halved}
 use Rattle.halving.proofs.Counting.{counts-sets}
 use Rattle.group_ends.specs.Ends.{Enough, Rest}
 use Rattle.edge_snippets.specs.Edges.{Gains}
 use Rattle.first_snippets.specs.Groups.{Base, AddedAll}
-use Rattle.group_ends.proofs.Rest.{rest-within, powers-rest, loops-rest, stage-rest, stage-shape, sizes-rest}
+use Rattle.group_ends.proofs.Rest.{rest-within, founded-rest, stage-shape, sizes-rest}
 use Rattle.edge_snippets.proofs.Lengths.{exponent-below}
 use Rattle.equalities.specs.Equalities.{Answers, Evaluated}
 use Rattle.equalities.specs.Steps.{Cleared, Empty, Prepares, FromFirst, Gathers}
@@ -72,9 +72,6 @@ module _ {P R : XPath} {t : Tree} where
       record { power = exponent-below {k = k} {b = b} {l = 2 ^ k} (omega arith) (enough x y (2 ^ k) d); lower = omega arith; apart = d; first = omega arith; second = omega arith }
 
 -- ── What stays ──
-founded-rest : {P R : XPath} {t : Tree} {m : Machine} {c n b : ℕ} {p p′ : List ℕ} → STAYS < c → Rest c n b p p′ → Founded P R t m n b p → Founded P R t m n b p′
-founded-rest late r f = record { stage = stage-rest r late (f .stage); loops = loops-rest r (f .loops); powers = powers-rest r (f .powers) }
-
 halving-rest : {n b : ℕ} {p p′ : List ℕ} → Halving n b p p′ → Rest 16 n b p p′
 halving-rest h = record { same = same-wider (λ k. ⊎-elim (λ l e y i a c d z. omega arith) (λ (l, aside). aside)) (h .same) }
 
@@ -97,7 +94,7 @@ module _ {m : Machine} {n : ℕ} {p p₁ : List ℕ} (given : (P R : XPath) × (
   pub prepared : {b : ℕ} {p₂ p₃ : List ℕ} → 0 < n → ((P R : XPath) (t : Tree) → Ready P R t m n p₁ → Powered P R t n b p₁ p₂) → Cleared n (b * n) p₂ p₃ → Prepares m n b p p₃
   prepared some powers cleared = record {
     long = cleared .same .long ∙ (let ((P, R, t, found), long) = looped in powers P R t found .frame .long ∙ long);
-    founded = λ P R t stage. let r = ready P R t stage in founded-rest (omega arith) (cleared-rest cleared some) (founded-of r (powers P R t r));
+    founded = λ P R t stage. let r = ready P R t stage in founded-rest (cleared-rest cleared some) (omega arith) (founded-of r (powers P R t r));
     empty = cleared-empty cleared;
   }
 
@@ -157,19 +154,18 @@ module _ {P R : XPath} {t : Tree} {m : Machine} {n b : ℕ} {p p′ : List ℕ} 
 -- ── From the buckets on ──
 module _ {m : Machine} {n b : ℕ} {p p₁ : List ℕ} (g : Bucketed n p p₁) where
   bucketed : {P R : XPath} {t : Tree} → Founded P R t m n b p → Founded P R t m n b p₁
-  bucketed f = founded-rest (omega arith) (bucketed-rest g) f
+  bucketed f = founded-rest (bucketed-rest g) (omega arith) f
 
   -- p₁ is the part with its buckets
   pub bucketed-base : (P R : XPath) × (t : Tree) × Founded P R t m n b p × Enough t b → BlockRoom n b p → Base m n b p₁
   bucketed-base (P, R, t, f, enough) sizes =
-      let h = bucketed f in
-      record { first = P; second = R; tree = t; stage = h .stage; loops = h .loops; powers = h .powers; buckets = g .buckets; enough = enough; sizes = sizes-rest (bucketed-rest g) sizes }
+      record { first = P; second = R; tree = t; founded = bucketed f; buckets = g .buckets; enough = enough; sizes = sizes-rest (bucketed-rest g) sizes }
 
   -- p₂ has what the first snippets yield, and p₃ all snippets
   pub gathered : {r : ℕ} {p₂ p₃ : List ℕ} → 0 < b → Empty n b p → AddedAll m n b (m .first) p₁ p₂ → Halving n b p₂ p₃ → Counts n b p₃ r → Gathers m n b p p₃ r
   gathered {r} {p₂} {p₃} some empty a h c = record {
     long = h .same .long ∙ a .rest .same .long ∙ g .within .long;
-    founded = λ P R t f. founded-rest (omega arith) (halving-rest h) (added f);
+    founded = λ P R t f. founded-rest (halving-rest h) (omega arith) (added f);
     number = λ P R t f enough. all-number (bucketed f) enough some none (gains f) (added f .powers) h c;
     marked = λ P R t f enough. edge-marked (bucketed f) enough some none (gains f) (added f .powers) h;
   }
@@ -178,10 +174,10 @@ module _ {m : Machine} {n b : ℕ} {p p₁ : List ℕ} (g : Bucketed n p p₁) w
       none = bucketed-empty g empty
 
       added : {P R : XPath} {t : Tree} → Founded P R t m n b p → Founded P R t m n b p₂
-      added f = founded-rest (omega arith) (a .rest) (bucketed f)
+      added f = founded-rest (a .rest) (omega arith) (bucketed f)
 
       gains : {P R : XPath} {t : Tree} → Founded P R t m n b p → Gains t n b (FromFirst P R t) p₁ p₂
-      gains {P} {R} {t} f = let k = bucketed f in a .found P R t (k .stage) (k .loops) (k .powers) (k .stage .machine .first)
+      gains {P} {R} {t} f = let k = bucketed f in a .found P R t k (k .stage .machine .first)
 
 -- ── The answers ──
 one-or-none : {A : Type 0} (w : ℕ) → w ≤ 1 → (w ≡ 1) ↔ A → (A × (w ≡ 1)) ⊎ ((¬ A) × (w ≡ 0))

@@ -1,6 +1,7 @@
 // An equality between two paths, evaluated by snippets in a comparison's part of the scratch.
 mod clear;
 
+use buckets::buckets;
 use clear::clear_snippets;
 use first_snippets::add_groups;
 use halving::count;
@@ -9,14 +10,13 @@ use loops::find_loops;
 use machine::Machine;
 use powers::find_powers;
 use settling::settle;
-use skeletons::buckets::buckets;
 ghost use Prim.Native.Nat.{_<_};
 ghost use Rattle.xpath.specs.Syntax.{XPath};
 ghost use Rattle.xpath.specs.Tree.{Tree};
 ghost use Rattle.loops.specs.Loops.{Stage};
 ghost use Rattle.powers.specs.Powers.{Founded};
 ghost use Rattle.powers.specs.Blocks.{BlockRoom};
-ghost use Rattle.skeletons.specs.Shape.{Shape};
+ghost use Rattle.machine.specs.Shape.{Shape};
 ghost use Rattle.group_ends.specs.Ends.{Enough};
 ghost use Rattle.equalities.specs.Equalities.{Evaluated};
 ghost use Rattle.equalities.specs.Steps.{Empty, Prepares, Gathers};

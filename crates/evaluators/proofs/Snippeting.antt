@@ -20,9 +20,9 @@ use Rattle.test_numbers.proofs.Counted.{counted-pair, counted-no-pair, own-uneq
 use Rattle.loops.specs.Loops.{Stage}
 use Rattle.plain.specs.Plain.{Answered}
 use Rattle.plain.proofs.Signs.{equal-sign}
-use Rattle.skeletons.specs.Shape.{Shape}
+use Rattle.machine.specs.Shape.{Shape}
 use Rattle.layout.proofs.Frames.{within-back}
-use Rattle.skeletons.proofs.Shape.{shape-within, drawn-within}
+use Rattle.machine.proofs.Shape.{shape-within, drawn-within}
 use Rattle.levels.specs.Levels.{Levelled}
 use Rattle.group_ends.specs.Ends.{Enough}
 use Rattle.equalities.specs.Equalities.{Evaluated}

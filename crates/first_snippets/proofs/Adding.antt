@@ -18,28 +18,28 @@ use Rattle.layout.specs.Table.{RANK}
 use Rattle.layout.specs.Words.{word}
 use Rattle.table.specs.Links.{Points}
 use Rattle.machine.specs.declared.Machine.{Machine}
-use Rattle.loops.specs.Loops.{Stage, Loops}
-use Rattle.powers.specs.Powers.{Powers}
-use Rattle.skeletons.specs.Skeletons.{Least, Buckets, Ranks, Grouped}
-use Rattle.skeletons.proofs.Grouping.{least-node, least-none}
+use Rattle.powers.specs.Powers.{Founded}
+use Rattle.buckets.specs.Buckets.{Least, Buckets}
+use Rattle.group_marks.specs.Groups.{Ranks, Grouped}
+use Rattle.buckets.proofs.Least.{least-node, least-none, buckets-kept}
 use Rattle.group_ends.specs.Ends.{Setting, Given, Rest}
 use Rattle.first_snippets.specs.Groups.{Yields, Base, Grounds, Added, OfRanks, AddedOf, Somewhere, Alone}
 use Rattle.group_ends.specs.Steps.{Rose}
 use Rattle.first_snippets.specs.Steps.{Sank}
-use Rattle.group_ends.proofs.Rest.{rest-none, rest-then, rest-more, rest-within, same-word, powers-rest, loops-rest, sizes-rest, stage-rest, stage-shape, setting-rest}
+use Rattle.group_ends.proofs.Rest.{rest-none, rest-then, rest-more, rest-within, same-word, sizes-rest, founded-rest, stage-shape, setting-rest}
 use Rattle.edge_snippets.proofs.Gains.{gains-same, gains-then, gains-iff, gains-before}
 
 -- ── One value ──
-marked-setting : {P R : XPath} {t : Tree} {d : List ℕ} {m : Machine} {n b r : ℕ} {p p₁ : List ℕ} → Grouped n r p p₁ → Stage P R t m n p → Loops P R t n p → Powers P R t n p b → Ranks t d n r p → Setting P R t d m n b r p₁
-marked-setting {t = t} {d} {n = n} {b} {p = p} {p₁} g stage loops powers ranks =
+marked-setting : {P R : XPath} {t : Tree} {d : List ℕ} {m : Machine} {n b r : ℕ} {p p₁ : List ℕ} → Grouped n r p p₁ → Founded P R t m n b p → Ranks t d n r p → Setting P R t d m n b r p₁
+marked-setting {t = t} {d} {n = n} {b} {p = p} {p₁} g f ranks =
     let h : Rest MARKED n b p p₁ = rest-within (omega arith) (g .within) in
-    record { stage = stage-rest h (omega arith) stage; loops = loops-rest h loops; powers = powers-rest h powers; group = g .group t d (stage-shape stage) ranks }
+    record { founded = founded-rest h (omega arith) f; group = g .group t d (stage-shape (f .stage)) ranks }
 
 pub given-marked : {m : Machine} {n b r : ℕ} {p p₁ : List ℕ} → Grounds m n b r p → Grouped n r p p₁ → Given m n b r p₁
 given-marked {n = n} {b} {p = p} {p₁} s g =
     let o = s .base in
     let h : Rest MARKED n b p p₁ = rest-within (omega arith) (g .within) in
-    record { first = o .first; second = o .second; tree = o .tree; value = s .value; setting = marked-setting g (o .stage) (o .loops) (o .powers) (s .ranks); enough = o .enough; sizes = sizes-rest h (o .sizes) }
+    record { first = o .first; second = o .second; tree = o .tree; value = s .value; setting = marked-setting g (o .founded) (s .ranks); enough = o .enough; sizes = sizes-rest h (o .sizes) }
 
 -- each edge is that above its lower node
 edges-direct : (P R : XPath) (t : Tree) (d : List ℕ) → WellFormed t → {n : ℕ} → t .size ≡ n → (k a y i j : ℕ) → ((z : ℕ) × (z < n) × Yields P R t d z k a y i j) ↔ Direct t P R d k a y i j
@@ -51,55 +51,31 @@ edges-direct P R t d wf size k a y i j = (
 pub group-added : {m : Machine} {n b first r : ℕ} {p p₁ p₂ p₃ : List ℕ} → Grouped n r p p₁ → Rose m n b r p₁ p₂ → Sank m n b first r n p₂ p₃ → Added m n b first r p p₃
 group-added {m} {n} {b} {first} {r} {p} {p₁} {p₂} {p₃} g u s = record {
   rest = rest-then (rest-within (omega arith) (g .within)) (rest-then (rest-more (omega arith) up) (rest-more (omega arith) (s .rest)));
-  found = λ P R t d stage loops powers ranks split.
-      let set = marked-setting g stage loops powers ranks in
+  found = λ P R t d f ranks split.
+      let set = marked-setting g f ranks in
       let (sunk, gains) = s .found P R t d (setting-rest up set) split (u .found P R t d set) in
-      gains-iff (λ k a y i j _ _ _ _ _. edges-direct P R t d (stage .formed) (stage .drawn .size) k a y i j) (gains-before (λ l h. u .within .behind l (omega arith) ∙ g .within .behind l (omega arith)) gains);
+      gains-iff (λ k a y i j _ _ _ _ _. edges-direct P R t d (f .stage .formed) (f .stage .drawn .size) k a y i j) (gains-before (λ l h. u .within .behind l (omega arith) ∙ g .within .behind l (omega arith)) gains);
 }
   where
     up : Rest 12 n b p₁ p₂
     up = rest-within (omega arith) (u .within)
 
 -- ── The nodes by rank ──
-least-same : {n v r w : ℕ} {p p′ : List ℕ} → ((u : ℕ) → u < n → word p′ n RANK u ≡ word p n RANK u) → Least n p v r w → Least n p′ v r w
-least-same {w = w} same l = record { inside = l .inside; from = l .from; ranked = same w (l .inside) ∙ l .ranked; least = λ u a c e. l .least u a c (sym (same u c) ∙ e) }
-
-points-same : {n v r x : ℕ} {p p′ : List ℕ} → ((u : ℕ) → u < n → word p′ n RANK u ≡ word p n RANK u) → Points (Least n p v r) x → Points (Least n p′ v r) x
-points-same same (inl l) = inl (least-same same l)
-points-same same (inr (e, f)) = inr (e, λ w l. f w (least-same (λ u h. sym (same u h)) l))
-
-pub buckets-same : {n : ℕ} {p p′ : List ℕ} → ((c v : ℕ) → (c ≡ RANK) ⊎ ((c ≡ FIRST) ⊎ (c ≡ NEXT)) → v < n → word p′ n c v ≡ word p n c v) → Buckets n p → Buckets n p′
-buckets-same {n} {p} {p′} same f = record {
-  first = λ r l. subst (λ (x : ℕ). Points (Least n p′ 0 r) x) (sym (same FIRST r (inr (inl refl)) l)) (points-same ranks (f .first r l));
-  next = λ v l.
-      subst (λ (x : ℕ). Points (Least n p′ (suc v) (word p′ n RANK v)) x) (sym (same NEXT v (inr (inr refl)) l))
-      (subst (λ (x : ℕ). Points (Least n p′ (suc v) x) (word p n NEXT v)) (sym (ranks v l)) (points-same ranks (f .next v l)));
-}
-  where
-    ranks : (u : ℕ) → u < n → word p′ n RANK u ≡ word p n RANK u
-    ranks u l = same RANK u (inl refl) l
-
 -- all but the buckets
 pub base-by : {m : Machine} {c n b : ℕ} {p p′ : List ℕ} → Rest c n b p p′ → STAYS < c → Buckets n p′ → Base m n b p → Base m n b p′
 base-by h l buckets s = record {
   first = s .first;
   second = s .second;
   tree = s .tree;
-  stage = stage-rest h l (s .stage);
-  loops = loops-rest h (s .loops);
-  powers = powers-rest h (s .powers);
+  founded = founded-rest h l (s .founded);
   buckets = buckets;
   enough = s .enough;
   sizes = sizes-rest h (s .sizes);
 }
 
 pub base-rest : {m : Machine} {n b : ℕ} {p p′ : List ℕ} → Rest MARKED n b p p′ → Base m n b p → Base m n b p′
-base-rest {n = n} {p = p} {p′} h s = base-by h (omega arith) (buckets-same (λ c v e l. same-word h c v (go c e) l) (s .buckets)) s
-  where
-    go : (c : ℕ) → (c ≡ RANK) ⊎ ((c ≡ FIRST) ⊎ (c ≡ NEXT)) → c < MARKED
-    go c (inl e) = omega arith
-    go c (inr (inl e)) = omega arith
-    go c (inr (inr e)) = omega arith
+base-rest h s =
+    base-by h (omega arith) (buckets-kept (λ v l. same-word h RANK v (omega arith) l) (λ r l. same-word h FIRST r (omega arith) l) (λ v l. same-word h NEXT v (omega arith) l) (s .buckets)) s
 
 module _ {n r w : ℕ} {p : List ℕ} (buckets : Buckets n p) (few : n ≤ 4096) (rank : r < n) (first : w ≡ word p n FIRST r) where
   here : Points (Least n p 0 r) w
@@ -128,20 +104,20 @@ module _ {n r w : ℕ} {p : List ℕ} (buckets : Buckets n p) (few : n ≤ 4096)
           go (inr q) = absurd (least-none (omega arith) next u q a i)
 
 -- ── One rank ──
-stage-ranks : {P R : XPath} {t : Tree} {m : Machine} {n r w : ℕ} {p : List ℕ} → Stage P R t m n p → w < n → word p n RANK w ≡ r → Ranks t (t .value w) n r p
-stage-ranks {w = w} stage node e u h = (λ q. stage .drawn .same u w h node .0 (q ∙ sym e), λ q. stage .drawn .same u w h node .1 q ∙ e)
+founded-ranks : {P R : XPath} {t : Tree} {m : Machine} {n b r w : ℕ} {p : List ℕ} → Founded P R t m n b p → w < n → word p n RANK w ≡ r → Ranks t (t .value w) n r p
+founded-ranks {w = w} f node e u h = let same = f .stage .drawn .same u w h node in (λ q. same .0 (q ∙ sym e), λ q. same .1 q ∙ e)
 
 pub grounds-of : {m : Machine} {n b r : ℕ} {p : List ℕ} → Base m n b p → r < n → Somewhere n r p → Grounds m n b r p
-grounds-of s rank (w, node, e) = record { base = s; rank = rank; value = s .tree .value w; ranks = stage-ranks (s .stage) node e }
+grounds-of s rank (w, node, e) = record { base = s; rank = rank; value = s .tree .value w; ranks = founded-ranks (s .founded) node e }
 
 pub rank-added : {m : Machine} {n b first r : ℕ} {p p′ : List ℕ} → Somewhere n r p → Added m n b first r p p′ → AddedOf (λ z. z ≡ r) m n b first p p′
 rank-added {n = n} {r = r} {p} (w, node, e) h = record {
   rest = h .rest;
-  found = λ P R t stage loops powers split.
+  found = λ P R t f split.
       gains-iff (λ k x y i j _ _ _ _ _. (
         λ g. (w, node, e, g),
-        λ (u, a, q, g). subst (λ (d : List ℕ). Direct t P R d k x y i j) (stage-ranks stage node e u a .0 q) g,
-      )) (h .found P R t (t .value w) stage loops powers (stage-ranks stage node e) split);
+        λ (u, a, q, g). subst (λ (d : List ℕ). Direct t P R d k x y i j) (founded-ranks f node e u a .0 q) g,
+      )) (h .found P R t (t .value w) f (founded-ranks f node e) split);
 }
 
 -- where the skeleton has one node it has no edge
@@ -154,13 +130,14 @@ alone-skeleton {t} {d} wf {v} one {x} k =
 pub rank-alone : {m : Machine} {n b first r : ℕ} {p : List ℕ} → Alone n r p → AddedOf (λ z. z ≡ r) m n b first p p
 rank-alone {n = n} {b} {r = r} {p} alone = record {
   rest = rest-none MARKED n b p;
-  found = λ P R t stage loops powers split. gains-same (λ l h. refl) (λ k x y i j (w, node, e, g).
+  found = λ P R t f split. gains-same (λ l h. refl) (λ k x y i j (w, node, e, g).
       let (a, z, q, edge, lo, hi, s) = direct-iff t P R (t .value w) k x y i j .0 g in
-      let size = stage .drawn .size in
-      let one : (u : ℕ) → Has t (t .value w) u → u ≡ w = λ u h. let c = h .inside in alone u w (omega arith) node (stage-ranks stage node e u (omega arith) .1 (h .value)) e in
-      let top = alone-skeleton (stage .formed) one (edge .top) in
-      let bottom = alone-skeleton (stage .formed) one (edge .bottom) in
-      let h = down-le t (stage .formed) (edge .far) in
+      let wf = f .stage .formed in
+      let size = f .stage .drawn .size in
+      let one : (u : ℕ) → Has t (t .value w) u → u ≡ w = λ u h. let c = h .inside in alone u w (omega arith) node (founded-ranks f node e u (omega arith) .1 (h .value)) e in
+      let top = alone-skeleton wf one (edge .top) in
+      let bottom = alone-skeleton wf one (edge .bottom) in
+      let h = down-le t wf (edge .far) in
       let proper = edge .proper in
       absurd (omega arith));
 }
@@ -168,13 +145,13 @@ rank-alone {n = n} {b} {r = r} {p} alone = record {
 -- ── Several ranks ──
 module _ {m : Machine} {n b first : ℕ} where
   pub added-none : {S : ℕ → Type 0} (p : List ℕ) → ((z : ℕ) → ¬ S z) → AddedOf S m n b first p p
-  added-none p none = record { rest = rest-none MARKED n b p; found = λ P R t stage loops powers split. gains-same (λ l h. refl) (λ k x y i j (w, node, e, g). absurd (none _ e)) }
+  added-none p none = record { rest = rest-none MARKED n b p; found = λ P R t f split. gains-same (λ l h. refl) (λ k x y i j (w, node, e, g). absurd (none _ e)) }
 
   pub added-then : {S U W : ℕ → Type 0} {p p₁ p₂ : List ℕ} → AddedOf S m n b first p p₁ → AddedOf U m n b first p₁ p₂ → ((z : ℕ) → (S z ⊎ U z) ↔ W z) → AddedOf W m n b first p p₂
   added-then {S} {U} {W} {p} {p₁} {p₂} g h both = record {
     rest = rest-then (g .rest) (h .rest);
-    found = λ P R t stage loops powers split.
-        gains-then (g .found P R t stage loops powers split) (h .found P R t (stage-rest (g .rest) (omega arith) stage) (loops-rest (g .rest) loops) (powers-rest (g .rest) powers) split)
+    found = λ P R t f split.
+        gains-then (g .found P R t f split) (h .found P R t (founded-rest (g .rest) (omega arith) f) split)
         (λ k x y i j. (to P R t k x y i j, from P R t k x y i j));
   }
     where

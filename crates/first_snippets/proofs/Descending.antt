@@ -23,7 +23,9 @@ use Rattle.machine.specs.declared.Machine.{Machine}
 use Rattle.matrices.specs.Matrices.{Exactly}
 use Rattle.powers.specs.Powers.{Lifts}
 use Rattle.powers.specs.Ladder.{Ladder}
-use Rattle.skeletons.specs.Skeletons.{IsNoted, Arrives, Ascent}
+use Rattle.powers.proofs.Kept.{founded-ready}
+use Rattle.group_marks.specs.Groups.{IsNoted}
+use Rattle.skeletons.specs.Skeletons.{Arrives, Ascent}
 use Rattle.skeletons.proofs.Judging.{empty-block}
 use Rattle.group_ends.specs.Ends.{inward, Setting, Rest, Risen}
 use Rattle.edge_snippets.specs.Edges.{OfFirst, Gains, OfEdge, EdgeAt, Gained, BothParts}
@@ -84,13 +86,13 @@ module _ {m : Machine} {n b first r v : ℕ} where
       rest = put-rest node put;
       found = λ P R t d s k split risen sunk.
           let top = go P R t d s (a .arrives t d (s .group) k) in (
-            sunk-more n p p₁ (λ u h. put .other (cell n ABOVE u) (omega arith, tt)) (λ _. exactly-none (word p₁ n ABOVE v) (put .here .0 ∙ e) (λ i. above-top t P R d (s .stage .formed) v i k top)) sunk,
-            gains-same (put-behind node put) (λ k x y i j (z, l, e, g). top-none P R t d (s .stage .formed) top z l e),
+            sunk-more n p p₁ (λ u h. put .other (cell n ABOVE u) (omega arith, tt)) (λ _. exactly-none (word p₁ n ABOVE v) (put .here .0 ∙ e) (λ i. above-top t P R d (s .founded .stage .formed) v i k top)) sunk,
+            gains-same (put-behind node put) (λ k x y i j (z, l, e, g). top-none P R t d (s .founded .stage .formed) top z l e),
           );
     }
       where
         go : (P R : XPath) (t : Tree) (d : List ℕ) → Setting P R t d m n b r p → Arrives t d v x l c → (s : ℕ) → Skeleton t d s → Under t s v → s ≡ v
-        go P R t d s (inl (e, (side, child, under))) = let h = skeleton-inside t d (s .stage .formed) x (e .top) in let z = s .stage .drawn .size in absurd (f (omega arith))
+        go P R t d s (inl (e, (side, child, under))) = let h = skeleton-inside t d (s .founded .stage .formed) x (e .top) in let z = s .founded .stage .drawn .size in absurd (f (omega arith))
         go P R t d s (inr (e, top)) = top
 
     -- one with an edge above it
@@ -98,8 +100,8 @@ module _ {m : Machine} {n b first r v : ℕ} where
         (lowers : (P R : XPath) (t : Tree) (u : ℕ) → Ladder P R t n b p → Down t u v l → Lifts P R t v u out w) (gained : Gained (BothParts v l) n b v l first inside out p₁ p₂) where
       above-found : (P R : XPath) (t : Tree) (d : List ℕ) → Setting P R t d m n b r p → Edge t d x v l → Exactly out (Out t P R d x v) → Exactly w (Above t P R d v)
       above-found P R t d s e q i h = (
-        λ z. let (j, r, y, g) = lowers P R t x (ladder-of s) (e .far) i h .0 z in above-iff t P R d (s .stage .formed) x v l i e .1 (j, q j r .0 y, g),
-        λ z. let (j, y, g) = above-iff t P R d (s .stage .formed) x v l i e .0 z in let r = comes-few P R t (s .stage .machine .few) g h in lowers P R t x (ladder-of s) (e .far) i h .1 (j, r, q j r .1 y, g),
+        λ z. let (j, r, y, g) = lowers P R t x (ladder-of s) (e .far) i h .0 z in above-iff t P R d (s .founded .stage .formed) x v l i e .1 (j, q j r .0 y, g),
+        λ z. let (j, y, g) = above-iff t P R d (s .founded .stage .formed) x v l i e .0 z in let r = comes-few P R t (s .founded .stage .machine .few) g h in lowers P R t x (ladder-of s) (e .far) i h .1 (j, r, q j r .1 y, g),
       )
 
       of-edge : (P R : XPath) (t : Tree) (d : List ℕ) → WellFormed t → Edge t d x v l → (k a y i j : ℕ) → OfEdge P R t d x v l k a y i j ↔ Yields P R t d v k a y i j
@@ -118,10 +120,10 @@ module _ {m : Machine} {n b first r v : ℕ} where
               → Sunk P R t d n p₂ (suc v) × Gains t n b (Yields P R t d v) p p₂
           go P R t d s k split risen sunk (inr (e, top)) = absurd (omega arith)
           go P R t d s k split risen sunk (inl (e, (side, child, under))) =
-              let wf = s .stage .formed in
+              let wf = s .founded .stage .formed in
               let h = down-le t wf (e .far) in
               let proper = e .proper in
-              let q = outs .found P R t d (s .stage) (s .loops) (s .group) (risen .sides) (sunk x (omega arith) (e .top)) side v l child under e in
+              let q = outs .found P R t d (founded-ready (s .founded)) (s .group) (risen .sides) (sunk x (omega arith) (e .top)) side v l child under e in
               let later : Rest 12 n b p p₁ = rest-more (omega arith) (put-rest node put) in
               let at : EdgeAt P R t d n b x v l first inside out p₁ = record {
                 ladder = ladder-of (setting-rest later s);
@@ -149,8 +151,8 @@ module _ {m : Machine} {n b first r : ℕ} where
     rest = rest-then (g .rest) (h .rest);
     found = λ P R t d s split risen.
         let (sunk, gains) = g .found P R t d s split risen in
-        let wf = s .stage .formed in
-        let (more, added) = h .found P R t d (setting-rest (rest-more (omega arith) (g .rest)) s) split (risen-rest wf (s .stage .drawn .size) (g .rest) risen) sunk in (
+        let wf = s .founded .stage .formed in
+        let (more, added) = h .found P R t d (setting-rest (rest-more (omega arith) (g .rest)) s) split (risen-rest wf (s .founded .stage .drawn .size) (g .rest) risen) sunk in (
           (λ u l k. more u (omega arith) k),
           gains-then gains added (λ k a y i j. (to P R t d k a y i j, from P R t d k a y i j)),
         );

@@ -1,10 +1,10 @@
 -- The values of a list, one after the other; and the list of all.
-use Prim.Native.Nat.{ℕ, _+_, _*_, _≤_, _<_}
+use Prim.Native.Nat.{ℕ, _+_, _<_}
 use mathlib.Core.Path.{_≡_, sym, ap, _∙_, subst}
 use mathlib.Core.Logic.{_⊎_, inl, inr}
 use mathlib.Core.List.{List, [], _∷_}
 use native.Mathlib.Decide.{ℕ-discrete}
-use native.Mathlib.Nat.{eq-or-lt-of-le, mul-le-mul-right}
+use native.Mathlib.Nat.{eq-or-lt-of-le}
 use native.Mathlib.Omega.{arith}
 use Rattle.xpath.specs.Syntax.{XPath}
 use Rattle.xpath.specs.Tree.{Tree}
@@ -15,13 +15,14 @@ use Rattle.layout.specs.Table.{RANK}
 use Rattle.layout.specs.Words.{cell, word, Wrote}
 use Rattle.layout.proofs.Frames.{within-none, within-then, within-put}
 use Rattle.machine.specs.declared.Machine.{Machine}
-use Rattle.loops.specs.Loops.{Stage}
+use Rattle.powers.specs.Powers.{Founded}
 use Rattle.group_ends.specs.Ends.{Rest}
 use Rattle.first_snippets.specs.Groups.{Base, OfRanks, AddedOf, Listed, Listing, AddedAll}
 use Rattle.first_snippets.specs.Steps.{Ranged}
-use Rattle.group_ends.proofs.Rest.{rest-then, rest-more, rest-within, same-word, powers-rest, loops-rest, stage-rest}
+use Rattle.group_ends.proofs.Rest.{rest-then, rest-more, rest-within, same-word, founded-rest}
 use Rattle.edge_snippets.proofs.Gains.{gains-iff, gains-before}
-use Rattle.first_snippets.proofs.Adding.{buckets-same, base-by, added-none, added-then}
+use Rattle.buckets.proofs.Least.{buckets-kept}
+use Rattle.first_snippets.proofs.Adding.{base-by, added-none, added-then}
 
 -- ── The list of all ranks ──
 pub ranged-none : (n : ℕ) (p : List ℕ) → Ranged n 0 p p
@@ -39,15 +40,11 @@ pub ranged-listing : {n : ℕ} {p p′ : List ℕ} → Ranged n n p p′ → Lis
 ranged-listing f = record { few = omega arith; ranks = λ i h. let e = f .entries i h in omega arith }
 
 pub ranged-base : {m : Machine} {n b : ℕ} {p p′ : List ℕ} → Ranged n n p p′ → Base m n b p → Base m n b p′
-ranged-base {n = n} {b} {p} {p′} f s = base-by rest (omega arith) (buckets-same same (s .buckets)) s
+ranged-base {n = n} {b} {p} {p′} f s =
+    base-by rest (omega arith) (buckets-kept (λ v l. same-word rest RANK v (omega arith) l) (λ r l. f .within .behind (cell n FIRST r) (omega arith)) (λ v l. f .within .behind (cell n NEXT v) (omega arith)) (s .buckets)) s
   where
     rest : Rest LIST n b p p′
     rest = rest-within (omega arith) (f .within)
-
-    same : (c v : ℕ) → (c ≡ RANK) ⊎ ((c ≡ FIRST) ⊎ (c ≡ NEXT)) → v < n → word p′ n c v ≡ word p n c v
-    same c v (inl e) l = same-word rest c v (omega arith) l
-    same c v (inr (inl e)) l = let h : 9 * n ≤ c * n = mul-le-mul-right n (omega arith) in f .within .behind (c * n + v) (omega arith)
-    same c v (inr (inr e)) l = let h : 9 * n ≤ c * n = mul-le-mul-right n (omega arith) in f .within .behind (c * n + v) (omega arith)
 
 -- ── One entry after the other ──
 module _ {m : Machine} {n b first : ℕ} where
@@ -76,22 +73,22 @@ module _ {m : Machine} {n b first : ℕ} where
   pub ranged-all : {p p₁ p₂ : List ℕ} → Ranged n n p p₁ → AddedOf (Listed n n p₁) m n b first p₁ p₂ → AddedAll m n b first p p₂
   ranged-all {p} {p₁} {p₂} f h = record {
     rest = rest-then rest (rest-more (omega arith) (h .rest));
-    found = λ P R t stage loops powers split.
-        let stage₁ = stage-rest rest (omega arith) stage in
+    found = λ P R t founded split.
+        let founded₁ = founded-rest rest (omega arith) founded in
         gains-before (λ l q. f .within .behind l (omega arith))
-        (gains-iff (λ k x y i j _ _ _ _ _. ((λ (w, node, e, g). (t .value w, g)), from P R t stage₁ k x y i j)) (h .found P R t stage₁ (loops-rest rest loops) (powers-rest rest powers) split));
+        (gains-iff (λ k x y i j _ _ _ _ _. ((λ (w, node, e, g). (t .value w, g)), from P R t founded₁ k x y i j)) (h .found P R t founded₁ split));
   }
     where
       rest : Rest LIST n b p p₁
       rest = rest-within (omega arith) (f .within)
 
-      from : (P R : XPath) (t : Tree) → Stage P R t m n p₁ → (k x y i j : ℕ) → (d : List ℕ) × Direct t P R d k x y i j → OfRanks (Listed n n p₁) P R t n p₁ k x y i j
-      from P R t stage k x y i j (d, g) =
+      from : (P R : XPath) (t : Tree) → Founded P R t m n b p₁ → (k x y i j : ℕ) → (d : List ℕ) × Direct t P R d k x y i j → OfRanks (Listed n n p₁) P R t n p₁ k x y i j
+      from P R t founded k x y i j (d, g) =
           let (a, z, q, edge, lo, hi, s) = direct-iff t P R d k x y i j .0 g in
           let has = edge .top .hasU in
           let u = edge .top .u in
           let low = has .inside in
-          let e = stage .drawn .size in
+          let e = founded .stage .drawn .size in
           let node : u < n = omega arith in
-          let small = stage .drawn .small u node in
+          let small = founded .stage .drawn .small u node in
           (u, node, (word p₁ n RANK u, small, f .entries (word p₁ n RANK u) small), subst (λ (d : List ℕ). Direct t P R d k x y i j) (sym (has .value)) g)

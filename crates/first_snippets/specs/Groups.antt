@@ -12,10 +12,10 @@ use Rattle.layout.specs.Table.{RANK}
 use Rattle.layout.specs.Words.{word}
 use Rattle.machine.specs.declared.Machine.{Machine}
 use Rattle.matrices.specs.Matrices.{Exactly}
-use Rattle.loops.specs.Loops.{Stage, Loops}
-use Rattle.powers.specs.Powers.{Powers}
+use Rattle.powers.specs.Powers.{Founded}
 use Rattle.powers.specs.Blocks.{BlockRoom}
-use Rattle.skeletons.specs.Skeletons.{Buckets, Ranks}
+use Rattle.buckets.specs.Buckets.{Buckets}
+use Rattle.group_marks.specs.Groups.{Ranks}
 use Rattle.group_ends.specs.Ends.{Enough, Rest}
 use Rattle.edge_snippets.specs.Edges.{OfFirst, Gains, OfEdge}
 
@@ -35,9 +35,7 @@ pub record Base (m : Machine) (n b : ℕ) (p : List ℕ) : Type 0 where
   pub first : XPath
   pub second : XPath
   pub tree : Tree
-  pub stage : Stage first second tree m n p
-  pub loops : Loops first second tree n p
-  pub powers : Powers first second tree n p b
+  pub founded : Founded first second tree m n b p
   pub buckets : Buckets n p
   pub enough : Enough tree b
   pub sizes : BlockRoom n b p
@@ -52,7 +50,7 @@ pub record Grounds (m : Machine) (n b r : ℕ) (p : List ℕ) : Type 0 where
 -- the rows have what the first snippets of the value of rank r yield; the columns before that of the marks stay
 pub record Added (m : Machine) (n b first r : ℕ) (p p′ : List ℕ) : Type 0 where
   pub rest : Rest MARKED n b p p′
-  pub found : (P R : XPath) (t : Tree) (d : List ℕ) → Stage P R t m n p → Loops P R t n p → Powers P R t n p b → Ranks t d n r p → OfFirst P first
+  pub found : (P R : XPath) (t : Tree) (d : List ℕ) → Founded P R t m n b p → Ranks t d n r p → OfFirst P first
       → Gains t n b (Direct t P R d) p p′
 
 -- ── The snippets of several values ──
@@ -63,7 +61,7 @@ OfRanks S P R t n p k x y i j = (w : ℕ) × (w < n) × S (word p n RANK w) × D
 -- the rows have it
 pub record AddedOf (S : ℕ → Type 0) (m : Machine) (n b first : ℕ) (p p′ : List ℕ) : Type 0 where
   pub rest : Rest MARKED n b p p′
-  pub found : (P R : XPath) (t : Tree) → Stage P R t m n p → Loops P R t n p → Powers P R t n p b → OfFirst P first → Gains t n b (OfRanks S P R t n p) p p′
+  pub found : (P R : XPath) (t : Tree) → Founded P R t m n b p → OfFirst P first → Gains t n b (OfRanks S P R t n p) p p′
 
 -- ── A list of values ──
 -- the rank z is among the first c entries of the list
@@ -78,7 +76,7 @@ pub record Listing (n c : ℕ) (p : List ℕ) : Type 0 where
 -- the rows have what the first snippets of all values yield; the columns before that of the list stay
 pub record AddedAll (m : Machine) (n b first : ℕ) (p p′ : List ℕ) : Type 0 where
   pub rest : Rest LIST n b p p′
-  pub found : (P R : XPath) (t : Tree) → Stage P R t m n p → Loops P R t n p → Powers P R t n p b → OfFirst P first
+  pub found : (P R : XPath) (t : Tree) → Founded P R t m n b p → OfFirst P first
       → Gains t n b (λ k x y i j. (d : List ℕ) × Direct t P R d k x y i j) p p′
 
 -- some node has the rank r

@@ -3,18 +3,18 @@ mod listing;
 mod sinking;
 
 use group_ends::rising::rise;
+use group_marks::marks::mark_group;
 use layout::Groups;
 use layout::words::get;
 use listing::list_ranks;
 use machine::Machine;
 use sinking::sink;
-use skeletons::marks::mark_group;
 ghost use mathlib.Core.Path.{_≡_};
 ghost use mathlib.Core.Bool.{true, false};
 ghost use Prim.Native.Nat.{_≤_, _<_};
 ghost use Rattle.limits.specs.Limits.{documentNodes};
 ghost use Rattle.layout.specs.Table.{Room};
-ghost use Rattle.skeletons.specs.Skeletons.{Buckets};
+ghost use Rattle.buckets.specs.Buckets.{Buckets};
 ghost use Rattle.first_snippets.specs.Groups.{Base, Grounds, Added, Listed, Listing, AddedOf, AddedAll, Somewhere, Alone};
 
 // What the first snippets of the value of rank `r` yield. The members of `first` are the positions of the first path.

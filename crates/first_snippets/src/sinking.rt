@@ -1,14 +1,14 @@
 // From above: each skeleton node has its positions that end elsewhere from the next skeleton node above it, and the edge between the two yields its snippets.
 use edge_snippets::yields::add_edge;
 use group_ends::outside::outside;
+use group_marks::blocks::block_end;
+use group_marks::blocks::is_empty;
 use layout::Groups;
 use layout::words::get;
 use layout::words::put;
 use machine::Machine;
 use powers::lower;
 use skeletons::Climb;
-use skeletons::blocks::block_end;
-use skeletons::blocks::is_empty;
 use skeletons::skeleton::climb;
 use skeletons::skeleton::is_skeleton;
 ghost use mathlib.Core.List.{List};

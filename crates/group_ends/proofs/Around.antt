@@ -17,8 +17,8 @@ use Rattle.layout.specs.Words.{word}
 use Rattle.machine.specs.declared.Machine.{Machine}
 use Rattle.matrices.proofs.Members.{union-iff}
 use Rattle.matrices.specs.Matrices.{Exactly}
-use Rattle.loops.specs.Loops.{Stage, Loops}
-use Rattle.skeletons.specs.Skeletons.{Ranks, Group}
+use Rattle.powers.specs.Powers.{Ready}
+use Rattle.group_marks.specs.Groups.{Ranks, Group}
 use Rattle.group_ends.specs.Ends.{inward, Sides}
 use Rattle.group_ends.specs.Steps.{Outside}
 use Rattle.group_ends.proofs.Ascending.{on-left, on-right}
@@ -48,12 +48,12 @@ side-found : {P R : XPath} {t : Tree} {d : List ℕ} {x : ℕ} (n : ℕ) (p : Li
 side-found n p s k side i h = (λ e. s side _ k i h .0 e .0, λ f. s side _ k i h .1 (f, omega arith))
 
 pub outside-found : {m : Machine} {n r x c : ℕ} {p : List ℕ} (a o f s w : ℕ) → x < n → a ≡ word p n ABOVE x
-    → ((P R : XPath) (t : Tree) (d : List ℕ) → Stage P R t m n p → Loops P R t n p → Ranks t d n r p → Exactly o (Own t P R d x))
+    → ((P R : XPath) (t : Tree) (d : List ℕ) → Ready P R t m n p → Ranks t d n r p → Exactly o (Own t P R d x))
     → ((word p n LEFT x ≡ c) × (f ≡ word p n RIGHTIN x)) ⊎ ((word p n LEFT x ≢ c) × (f ≡ word p n LEFTIN x))
     → ((i : ℕ) → bit s i ≡ or (bit o i) (bit f i)) → ((i : ℕ) → bit w i ≡ or (bit a i) (bit s i)) → Outside m n r x c w p
 outside-found {m} {n} {r} {x} {c} {p} a o f s w node same own beside one two = record {
-  found = λ P R t d stage loops group sides above side y l child under e.
-      out-exactly (stage .formed) a o f s w child under e (subst (λ (z : ℕ). Exactly z (Above t P R d x)) (sym same) above) (own P R t d stage loops (group .ranks))
+  found = λ P R t d ready group sides above side y l child under e.
+      out-exactly (ready .stage .formed) a o f s w child under e (subst (λ (z : ℕ). Exactly z (Above t P R d x)) (sym same) above) (own P R t d ready (group .ranks))
       (go P R t d group sides (e .top) side child beside) one two;
 }
   where

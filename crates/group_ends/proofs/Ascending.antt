@@ -30,7 +30,8 @@ use Rattle.matrices.specs.Matrices.{Exactly}
 use Rattle.loops.specs.Loops.{Stage}
 use Rattle.powers.specs.Powers.{Lifts}
 use Rattle.powers.specs.Ladder.{Ladder, Stretch}
-use Rattle.skeletons.specs.Skeletons.{IsNoted, Group, Arrives, Ascent}
+use Rattle.group_marks.specs.Groups.{IsNoted, Group}
+use Rattle.skeletons.specs.Skeletons.{Arrives, Ascent}
 use Rattle.skeletons.proofs.Judging.{empty-block}
 use Rattle.group_ends.specs.Ends.{inward, Setting, Given, Rest, Sides, Risen}
 use Rattle.group_ends.specs.Steps.{Placed, Cleared, Handed, Rises, Rose}
@@ -159,7 +160,7 @@ module _ {m : Machine} {n b r : ℕ} where
         within = within-then w (h .within);
         found = λ P R t d s.
             let z = setting-rest (rest-within (omega arith) w) s in
-            subst (λ (x : ℕ). Risen P R t d n p₂ x) (omega arith) (h .found P R t d z (risen-none P R t d (s .stage .formed) (s .stage .drawn .size) (s .group .noted) c));
+            subst (λ (x : ℕ). Risen P R t d n p₂ x) (omega arith) (h .found P R t d z (risen-none P R t d (s .founded .stage .formed) (s .founded .stage .drawn .size) (s .group .noted) c));
       }
 
   -- a node that is not in the skeleton
@@ -168,7 +169,7 @@ module _ {m : Machine} {n b r : ℕ} where
     within = within-none p;
     found = λ P R t d s h. record {
       inside = λ u l k. h .inside u (go P R t d s u k (eq-or-lt-of-le l)) k;
-      sides = sides-skip P R t d (s .stage .formed) (s .stage .drawn .size) v p (λ x l e. f P R t d s (e .bottom)) (h .sides);
+      sides = sides-skip P R t d (s .founded .stage .formed) (s .founded .stage .drawn .size) v p (λ x l e. f P R t d s (e .bottom)) (h .sides);
     };
   }
     where
@@ -217,8 +218,8 @@ module _ {m : Machine} {n b r : ℕ} where
           subst (λ (z : ℕ). Exactly (word p₂ n IN z) (In t P R d z)) e
           (subst (λ (z : ℕ). Exactly z (In t P R d v)) (sym (before-within (h .within) IN v (omega arith) node ∙ put .here .0)) (ins P R t d s (f .sides)))
       inside P R t d s f u k (inr l) =
-          let q = skeleton-inside t d (s .stage .formed) u k in
-          let e = s .stage .drawn .size in
+          let q = skeleton-inside t d (s .founded .stage .formed) u k in
+          let e = s .founded .stage .drawn .size in
           subst (λ (z : ℕ). Exactly z (In t P R d u)) (sym (before-within (h .within) IN u (omega arith) (omega arith) ∙ put .other (cell n IN u) (omega arith, tt))) (f .inside u l k)
 
 -- ── Clearing ──

@@ -14,15 +14,15 @@ use Rattle.layout.specs.Table.{RANK}
 use Rattle.layout.specs.Words.{word}
 use Rattle.machine.specs.declared.Machine.{Machine}
 use Rattle.matrices.specs.Matrices.{Exactly, Before}
-use Rattle.loops.specs.Loops.{Stage, Loops}
-use Rattle.skeletons.specs.Skeletons.{Ranks}
+use Rattle.powers.specs.Powers.{Ready}
+use Rattle.group_marks.specs.Groups.{Ranks}
 
-module _ (P R : XPath) (t : Tree) (d : List ℕ) {m : Machine} {n r v : ℕ} {p : List ℕ} (stage : Stage P R t m n p) (loops : Loops P R t n p) (ranks : Ranks t d n r p) (node : v < n) where
+module _ (P R : XPath) (t : Tree) (d : List ℕ) {m : Machine} {n r v : ℕ} {p : List ℕ} (ready : Ready P R t m n p) (ranks : Ranks t d n r p) (node : v < n) where
   -- of a node of the group
   pub own-here : (w at : ℕ) → word p n RANK v ≡ r → at ≡ loopAt n v → Exactly w (Before p at (m .last)) → Exactly w (Own t P R d v)
   own-here w at e place asked i l = (
-    λ x. let (j, q, a, c) = before i l .0 x in (record { inside = subst (λ (z : ℕ). v < z) (sym (stage .drawn .size)) node; value = ranks v node .0 e }, (j, stage .machine .last j .0 a, loops v i j node l q .0 c)),
-    λ (h, (j, a, c)). let q = comes-few P R t (stage .machine .few) c l in before i l .1 (j, q, stage .machine .last j .1 a, loops v i j node l q .1 c),
+    λ x. let (j, q, a, c) = before i l .0 x in (record { inside = subst (λ (z : ℕ). v < z) (sym (ready .stage .drawn .size)) node; value = ranks v node .0 e }, (j, ready .stage .machine .last j .0 a, ready .loops v i j node l q .0 c)),
+    λ (h, (j, a, c)). let q = comes-few P R t (ready .stage .machine .few) c l in before i l .1 (j, q, ready .stage .machine .last j .1 a, ready .loops v i j node l q .1 c),
   )
     where
       before : Exactly w (Before p (loopAt n v) (m .last))

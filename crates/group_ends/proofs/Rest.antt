@@ -2,37 +2,36 @@
 use Prim.Native.Nat.{ℕ, suc, _+_, _*_, _/_, _%_, _≤_, _<_}
 use mathlib.Core.Path.{_≡_, refl, sym, subst}
 use mathlib.Core.Logic.{_⊎_, inl, inr, ⊎-elim, ⊎-map, _↔_}
-use mathlib.Core.Bool.{Bool, true, false}
+use mathlib.Core.Bool.{true}
 use mathlib.Core.List.{List}
 use lib.ListN.{length}
 use native.Mathlib.Nat.{mul-le-mul-right}
 use native.Mathlib.Omega.{arith}
 use Rattle.bits.specs.Sets.{bit}
-use Rattle.xpath.specs.Syntax.{Test, XPath, stay}
-use Rattle.xpath.specs.Tree.{Tree, Child}
-use Rattle.xpath.specs.Meaning.{Less, Holds}
+use Rattle.xpath.specs.Syntax.{XPath}
+use Rattle.xpath.specs.Tree.{Tree}
 use Rattle.positions.specs.Positions.{Comes}
 use Rattle.snippets.specs.Marks.{Marked}
 use Rattle.snippets.proofs.Marks.{skeleton-inside}
 use Rattle.layout.specs.Blocks.{BLOCKS, blockAt, snippetAt, Aside, upperAt}
 use Rattle.layout.specs.Groups.{MARKED}
 use Rattle.layout.specs.Part.{STAYS}
-use Rattle.layout.specs.Table.{PARENT, RANK, column}
-use Rattle.layout.specs.Words.{NONE, word, Within}
+use Rattle.layout.specs.Table.{RANK}
+use Rattle.layout.specs.Words.{word, Within}
 use Rattle.layout.proofs.Frames.{within-frame, same-none, same-then, same-wider, frame-same}
-use Rattle.table.specs.Links.{Points}
 use Rattle.machine.specs.declared.Machine.{Machine}
-use Rattle.machine.specs.Meaning.{IsStep, Drawn}
+use Rattle.machine.specs.Meaning.{Drawn}
+use Rattle.machine.proofs.Kept.{drawn-same}
 use Rattle.matrices.specs.Matrices.{Redrawn}
 use Rattle.matrices.proofs.Drawing.{redrawn-other}
 use Rattle.loops.specs.Loops.{Stage, Loops}
-use Rattle.powers.specs.Powers.{Powers}
+use Rattle.powers.specs.Powers.{Powers, Founded}
 use Rattle.powers.specs.Blocks.{BlockRoom}
 use Rattle.powers.specs.Ladder.{Ladder, Stretch}
 use Rattle.powers.proofs.Kept.{power-kept}
-use Rattle.skeletons.specs.Shape.{Shape}
-use Rattle.skeletons.specs.Skeletons.{Ranks}
-use Rattle.skeletons.proofs.Shape.{drawn-shape}
+use Rattle.machine.specs.Shape.{Shape}
+use Rattle.group_marks.specs.Groups.{Ranks}
+use Rattle.machine.proofs.Shape.{drawn-shape}
 use Rattle.group_ends.specs.Ends.{Setting, Given, Rest}
 
 pub rest-none : (c n b : ℕ) (p : List ℕ) → Rest c n b p p
@@ -83,29 +82,15 @@ module _ {c n b : ℕ} {p p′ : List ℕ} (h : Rest c n b p p′) where
   ranks-rest t {d} {r} l f w q = subst (λ (x : ℕ). (x ≡ r) ↔ (t .value w ≡ d)) (sym (same-word RANK w l q)) (f w q)
 
   module _ (l : STAYS < c) where
-    side-early : (side : Bool) → column side < c
-    side-early true = omega arith
-    side-early false = omega arith
-
     -- the links, the ranks and the tests stand in columns before
     drawn-rest : {P R : XPath} {t : Tree} → Drawn P R t n p → Drawn P R t n p′
-    drawn-rest {P} {R} {t} g = record {
-      size = g .size;
-      few = g .few;
-      children = λ side v r. subst (λ x. Points (Child t side v) x) (sym (same-word (column side) v (side-early side) r)) (g .children side v r);
-      parents = λ v r. subst (λ x. ((v ≡ 0) × (x ≡ NONE)) ⊎ ((0 < v) × (x ≡ t .parent v))) (sym (same-word PARENT v (omega arith) r)) (g .parents v r);
-      small = λ v r. subst (λ x. x < n) (sym (same-word RANK v (omega arith) r)) (g .small v r);
-      ordered = λ v w r q.
-          subst (λ x. (x < word p′ n RANK w) ↔ Less (t .value v) (t .value w)) (sym (same-word RANK v (omega arith) r))
-          (subst (λ x. (word p n RANK v < x) ↔ Less (t .value v) (t .value w)) (sym (same-word RANK w (omega arith) q)) (g .ordered v w r q));
-      same = λ v w r q.
-          subst (λ x. (x ≡ word p′ n RANK w) ↔ (t .value v ≡ t .value w)) (sym (same-word RANK v (omega arith) r))
-          (subst (λ x. (word p n RANK v ≡ x) ↔ (t .value v ≡ t .value w)) (sym (same-word RANK w (omega arith) q)) (g .same v w r q));
-      tests = λ v j r q. subst (λ x. (bit x j ≡ true) ↔ ((T : Test) × IsStep P R j (stay T) × Holds t T v)) (sym (same-word STAYS v l r)) (g .tests v j r q);
-    }
+    drawn-rest = drawn-same (λ a v q r. same-word a v (omega arith) r)
 
-    pub stage-rest : {P R : XPath} {t : Tree} {m : Machine} → Stage P R t m n p → Stage P R t m n p′
+    stage-rest : {P R : XPath} {t : Tree} {m : Machine} → Stage P R t m n p → Stage P R t m n p′
     stage-rest s = record { formed = s .formed; machine = s .machine; drawn = drawn-rest (s .drawn) }
+
+    pub founded-rest : {P R : XPath} {t : Tree} {m : Machine} → Founded P R t m n b p → Founded P R t m n b p′
+    founded-rest f = record { stage = stage-rest (f .stage); loops = loops-rest (f .loops); powers = powers-rest (f .powers) }
 
 -- ── The setting ──
 pub stage-shape : {P R : XPath} {t : Tree} {m : Machine} {n : ℕ} {p : List ℕ} → Stage P R t m n p → Shape t n p
@@ -113,17 +98,15 @@ stage-shape s = drawn-shape (s .formed) (s .drawn)
 
 pub setting-rest : {P R : XPath} {t : Tree} {d : List ℕ} {m : Machine} {n b r : ℕ} {p p′ : List ℕ} → Rest 12 n b p p′ → Setting P R t d m n b r p → Setting P R t d m n b r p′
 setting-rest {t = t} {d} {n = n} {p′ = p′} h s =
-    let stage = stage-rest h (omega arith) (s .stage) in
+    let founded = founded-rest h (omega arith) (s .founded) in
     record {
-      stage = stage;
-      loops = loops-rest h (s .loops);
-      powers = powers-rest h (s .powers);
+      founded = founded;
       group = record {
-        shape = stage-shape stage;
+        shape = stage-shape (founded .stage);
         ranks = ranks-rest h t (omega arith) (s .group .ranks);
         marks = λ v l. subst (λ (x : ℕ). Marked t d v ↔ (x % 2 ≡ 1)) (sym (same-word h MARKED v (omega arith) l)) (s .group .marks v l);
         noted = λ v k.
-            let i = skeleton-inside t d (s .stage .formed) v k in let e = s .stage .drawn .size in
+            let i = skeleton-inside t d (s .founded .stage .formed) v k in let e = s .founded .stage .drawn .size in
             subst (λ (x : ℕ). x / 2 ≡ 1) (sym (same-word h MARKED (v / 16) (omega arith) (omega arith))) (s .group .noted v k);
       };
     }
@@ -132,7 +115,7 @@ pub given-rest : {m : Machine} {n b r : ℕ} {p p′ : List ℕ} → Rest 12 n b
 given-rest h g = record { first = g .first; second = g .second; tree = g .tree; value = g .value; setting = setting-rest h (g .setting); enough = g .enough; sizes = sizes-rest h (g .sizes) }
 
 pub ladder-of : {P R : XPath} {t : Tree} {d : List ℕ} {m : Machine} {n b r : ℕ} {p : List ℕ} → Setting P R t d m n b r p → Ladder P R t n b p
-ladder-of s = record { formed = s .stage .formed; few = s .stage .machine .few; loops = s .loops; powers = s .powers }
+ladder-of s = let f = s .founded in record { formed = f .stage .formed; few = f .stage .machine .few; loops = f .loops; powers = f .powers }
 
 pub ladder-rest : {P R : XPath} {t : Tree} {c n b : ℕ} {p p′ : List ℕ} → Rest c n b p p′ → Ladder P R t n b p → Ladder P R t n b p′
 ladder-rest h l = record { formed = l .formed; few = l .few; loops = loops-rest h (l .loops); powers = powers-rest h (l .powers) }

@@ -13,10 +13,9 @@ use Rattle.layout.specs.Table.{COLUMNS}
 use Rattle.layout.specs.Words.{word, Same}
 use Rattle.machine.specs.declared.Machine.{Machine}
 use Rattle.matrices.specs.Matrices.{Exactly}
-use Rattle.loops.specs.Loops.{Stage, Loops}
-use Rattle.powers.specs.Powers.{Powers}
+use Rattle.powers.specs.Powers.{Founded}
 use Rattle.powers.specs.Blocks.{BlockRoom}
-use Rattle.skeletons.specs.Skeletons.{Group}
+use Rattle.group_marks.specs.Groups.{Group}
 
 -- what comes from the next skeleton node on a side
 abbrev pub inward : Bool → ℕ
@@ -26,9 +25,7 @@ inward false = RIGHTIN
 -- ── What is given ──
 -- a comparison of two paths on a tree with its loops and its powers, and the marks of the nodes of rank r, which have the value d
 pub record Setting (P R : XPath) (t : Tree) (d : List ℕ) (m : Machine) (n b r : ℕ) (p : List ℕ) : Type 0 where
-  pub stage : Stage P R t m n p
-  pub loops : Loops P R t n p
-  pub powers : Powers P R t n p b
+  pub founded : Founded P R t m n b p
   pub group : Group t d n r p
 
 -- the powers below b are enough for every way down the tree

@@ -13,8 +13,8 @@ use Rattle.machine.specs.declared.Machine.{Machine}
 use Rattle.matrices.specs.Matrices.{Exactly}
 use Rattle.powers.specs.Blocks.{BlockRoom}
 use Rattle.powers.specs.Ladder.{Ladder}
-use Rattle.loops.specs.Loops.{Stage, Loops}
-use Rattle.skeletons.specs.Skeletons.{IsNoted, Group}
+use Rattle.powers.specs.Powers.{Ready}
+use Rattle.group_marks.specs.Groups.{IsNoted, Group}
 use Rattle.group_ends.specs.Ends.{inward, Setting, Enough, Sides, Risen}
 
 -- ── From below ──
@@ -55,5 +55,5 @@ pub record Rose (m : Machine) (n b r : ℕ) (p p′ : List ℕ) : Type 0 where
 -- ── Beside a child ──
 -- the members of w are the positions that at node x end outside of what is under its child c
 pub record Outside (m : Machine) (n r x c w : ℕ) (p : List ℕ) : Type 0 where
-  pub found : (P R : XPath) (t : Tree) (d : List ℕ) → Stage P R t m n p → Loops P R t n p → Group t d n r p → Sides P R t d n p 0 → Exactly (word p n ABOVE x) (Above t P R d x)
+  pub found : (P R : XPath) (t : Tree) (d : List ℕ) → Ready P R t m n p → Group t d n r p → Sides P R t d n p 0 → Exactly (word p n ABOVE x) (Above t P R d x)
       → (side : Bool) (y l : ℕ) → Child t side x c → Under t c y → Edge t d x y l → Exactly w (Out t P R d x y)

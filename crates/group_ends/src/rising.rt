@@ -1,15 +1,15 @@
 // From below: each skeleton node has its positions from the next skeleton nodes below it, and hands them up.
 use crate::own::own;
 use bits::union;
+use group_marks::blocks::block_end;
+use group_marks::blocks::block_start;
+use group_marks::blocks::is_empty;
 use layout::Groups;
 use layout::words::get;
 use layout::words::left;
 use layout::words::put;
 use machine::Machine;
 use powers::lift;
-use skeletons::blocks::block_end;
-use skeletons::blocks::block_start;
-use skeletons::blocks::is_empty;
 use skeletons::skeleton::climb;
 use skeletons::skeleton::is_skeleton;
 ghost use mathlib.Core.List.{List};
@@ -22,8 +22,8 @@ ghost use Rattle.snippets.specs.Snippets.{Skeleton};
 ghost use Rattle.snippets.specs.Ways.{In};
 ghost use Rattle.layout.specs.Part.{PAIRS};
 ghost use Rattle.layout.specs.Table.{Room};
-ghost use Rattle.loops.specs.Loops.{Stage, Loops};
-ghost use Rattle.skeletons.specs.Skeletons.{Ranks};
+ghost use Rattle.powers.specs.Powers.{Ready};
+ghost use Rattle.group_marks.specs.Groups.{Ranks};
 ghost use Rattle.matrices.specs.Matrices.{Exactly};
 ghost use Rattle.group_ends.specs.Ends.{Given, Sides};
 ghost use Rattle.group_ends.specs.Steps.{Placed, Cleared, Handed, Rises, Rose};
@@ -55,7 +55,7 @@ fn clear(p: &mut [u16], n: usize)
 // The positions that at node `v` end at or below it.
 fn gathered(p: &[u16], n: usize, m: Machine, v: usize, r: usize) -> u16
     requires { ⌜ (v < n) × (n ≤ documentNodes) × (PAIRS * n ≤ length (now p)) ⌝ }
-    ensures { λ w. ⌜ ((P R : XPath) (t : Tree) (d : List ℕ) → Stage P R t m n (now (p .entry)) → Loops P R t n (now (p .entry)) → Ranks t d n r (now (p .entry)) → Skeleton t d v → Sides P R t d n (now (p .entry)) (suc v) → Exactly w (In t P R d v)) ⌝ }
+    ensures { λ w. ⌜ ((P R : XPath) (t : Tree) (d : List ℕ) → Ready P R t m n (now (p .entry)) → Ranks t d n r (now (p .entry)) → Skeleton t d v → Sides P R t d n (now (p .entry)) (suc v) → Exactly w (In t P R d v)) ⌝ }
 {
     let here = own(p, n, m, v, r);
     let a = get(p, n, Groups::LEFTIN, v) as u16;

@@ -1,5 +1,5 @@
 -- The table of a tree of n nodes, the first words of the scratch: columns of n words.
-use Prim.Native.Nat.{ℕ, _+_, _*_, _≤_}
+use Prim.Native.Nat.{ℕ, _+_, _*_, _≤_, _<_}
 use mathlib.Core.Bool.{Bool, true, false}
 use mathlib.Core.List.{List}
 use lib.ListN.{length}
@@ -47,3 +47,7 @@ offsetOf t n v = word t n LOW v + wordValues * word t n HIGH v
 -- the scratch has room for the table
 abbrev pub Room : ℕ → List ℕ → Type 0
 Room n t = COLUMNS * n ≤ length t
+
+-- each node's rank is below n
+abbrev pub SmallRanks : ℕ → List ℕ → Type 0
+SmallRanks n t = (v : ℕ) → v < n → word t n RANK v < n

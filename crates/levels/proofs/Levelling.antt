@@ -11,8 +11,8 @@ use Rattle.layout.specs.Groups.{LEVEL}
 use Rattle.layout.specs.Table.{PARENT}
 use Rattle.layout.specs.Words.{NONE, cell, word, Wrote, Within}
 use Rattle.layout.proofs.Frames.{within-none, within-then, within-put, before-within}
-use Rattle.skeletons.specs.Shape.{Shape}
-use Rattle.skeletons.proofs.Shape.{shape-within, parent-of, parent-case}
+use Rattle.machine.specs.Shape.{Shape}
+use Rattle.machine.proofs.Shape.{shape-within, parent-of, parent-case}
 use Rattle.levels.specs.Levels.{Levelled}
 
 -- ── The levels so far ──

@@ -3,7 +3,7 @@ use Prim.Native.Nat.{ℕ, suc, _≤_, _<_}
 use mathlib.Core.List.{List}
 use Rattle.xpath.specs.Tree.{Tree, Down}
 use Rattle.layout.specs.Words.{Within}
-use Rattle.skeletons.specs.Shape.{Shape}
+use Rattle.machine.specs.Shape.{Shape}
 use Rattle.layout.specs.Groups.{LEVEL}
 
 -- every way down the tree has fewer than r edges, and there are r nodes at least; no other column has changed

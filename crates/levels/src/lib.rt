@@ -12,7 +12,7 @@ ghost use Rattle.xpath.specs.Tree.{Tree};
 ghost use Rattle.layout.specs.Groups.{LEVEL};
 ghost use Rattle.layout.specs.Table.{PARENT, Room};
 ghost use Rattle.layout.specs.Words.{cell, word, Wrote};
-ghost use Rattle.skeletons.specs.Shape.{Shape};
+ghost use Rattle.machine.specs.Shape.{Shape};
 ghost use Rattle.levels.specs.Levels.{Levelled};
 
 // Node `v` lies one level below its parent, whose level is known. Its own level is handed back.

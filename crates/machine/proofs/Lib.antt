@@ -1,3 +1,4 @@
 pub mod Kept
+pub mod Shape
 pub mod Walking
 pub mod Comparing

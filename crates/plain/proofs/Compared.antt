@@ -12,14 +12,15 @@ use Rattle.bits.specs.Sets.{bit}
 use Rattle.bits.proofs.SetLaws.{bit-none, bit-suc}
 use Rattle.xpath.specs.Syntax.{Op, eq}
 use Rattle.layout.specs.Part.{MARK, HIT, Space}
-use Rattle.layout.specs.Table.{RANK}
+use Rattle.layout.specs.Table.{RANK, SmallRanks}
 use Rattle.layout.specs.Words.{cell, word}
 use Rattle.rule_parts.specs.Kinds.{operator}
 use Rattle.machine.specs.declared.Machine.{Machine}
 use Rattle.machine.specs.Walks.{Stops, Meets, Hits}
 use Rattle.reach.specs.Reached.{Reached}
+use Rattle.reach.proofs.Adding.{spared-front}
 use Rattle.rank_sets.specs.declared.ranges.Range.{Range}
-use Rattle.rank_sets.specs.Ends.{Ended, Small, Held, Steady}
+use Rattle.rank_sets.specs.Ends.{Ended, Held, Steady}
 use Rattle.rank_sets.specs.Marks.{Marked}
 use Rattle.rank_sets.specs.Ranges.{Ranged, Across}
 use Rattle.rank_sets.proofs.Steady.{held-then, held-word, steady-then}
@@ -71,7 +72,7 @@ module _ {m : Machine} {n v : ℕ} (fits : m .last < 65536) where
       same w l = held-word (steady-reached h .held) HIT w (omega arith) (omega arith) l
 
   -- ── Equal ranks ──
-  module _ {p p₁ p₂ p₃ p₄ : List ℕ} (b : v < n) (small : Small n p) (c : Steady n p p₁) (f : Reached m n 0 v p₁ p₂) (k : Marked n (m .last) p₂ p₃)
+  module _ {p p₁ p₂ p₃ p₄ : List ℕ} (b : v < n) (small : SmallRanks n p) (c : Steady n p p₁) (f : Reached m n 0 v p₁ p₂) (k : Marked n (m .last) p₂ p₃)
       (s : Reached m n (m .second) v p₃ p₄) where
     first : Held n p p₂
     first = held-then (c .held) (steady-reached f .held)
@@ -86,7 +87,7 @@ module _ {m : Machine} {n v : ℕ} (fits : m .last < 65536) where
     rank h w l = held-word h RANK w (omega arith) (omega arith) l
 
     mark : (r : ℕ) → r < n → word p₄ n MARK r ≡ word p₃ n MARK r
-    mark r l = s .spared .front (cell n MARK r) (omega arith)
+    mark r l = spared-front (s .spared) (cell n MARK r) (omega arith)
 
     pub equal-told : {t : Bool} → (t ≡ true) ↔ ((u : ℕ) × (u < n) × Ended n (m .last) p₄ u × (word p₄ n MARK (word p₄ n RANK u) ≡ 1))
         → (t ≡ true) ↔ Meets m n p eq v
@@ -111,6 +112,6 @@ module _ {m : Machine} {n v : ℕ} (fits : m .last < 65536) where
     none-told z q (w, u, l, r, x, y, c) = ranged-empty range z w l x
 
     module _ {p₂ : List ℕ} {a′ : Range} (s : Reached m n (m .second) v p₁ p₂) (g′ : Ranged n (Ended n (m .last) p₂) (word p₂ n RANK) a′) where
-      pub ordered-told : Space n p → Small n p → (q : Op) → q ≢ eq → Across (operator q) a a′ ↔ Meets m n p q v
+      pub ordered-told : Space n p → SmallRanks n p → (q : Op) → q ≢ eq → Across (operator q) a a′ ↔ Meets m n p q v
       ordered-told space small = across-some (space .few) small range
           (ranged-same (ends b (steady-reached f .held) s) (λ w l. sym (held-word (ordered-steady f s .held) RANK w (omega arith) (omega arith) l)) g′)

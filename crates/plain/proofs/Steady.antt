@@ -1,11 +1,11 @@
 -- What stays as it was behind a walk, and where an answer is written.
 use Prim.Native.Nat.{ℕ, _<_}
-use mathlib.Core.Logic.{inr}
+use mathlib.Core.Logic.{inl, inr}
 use mathlib.Core.List.{List, [], _∷_}
 use native.Mathlib.Omega.{arith}
 use Rattle.layout.specs.Part.{ANSWER, MARK}
 use Rattle.layout.specs.Words.{cell, Wrote}
-use Rattle.layout.proofs.Frames.{within-frame, within-put, frame-same}
+use Rattle.layout.proofs.Frames.{within-frame, within-put, frame-same, same-wider}
 use Rattle.machine.specs.declared.Machine.{Machine}
 use Rattle.reach.specs.Reached.{Reached}
 use Rattle.rank_sets.specs.Ends.{Held, Steady}
@@ -15,5 +15,5 @@ held-answer r w = record { middle = frame-same (λ k h. inr (omega arith)) (with
 
 pub steady-reached : {m : Machine} {n i v : ℕ} {p p′ : List ℕ} → Reached m n i v p p′ → Steady n p p′
 steady-reached h =
-    let s = h .spared in
-    record { held = record { middle = record { long = s .long; same = λ k (l, r). s .front k r } }; answers = record { long = s .long; same = λ k l. s .front k (omega arith) } }
+    let s = h .spared .same in
+    record { held = record { middle = same-wider (λ k (l, r). inl r) s }; answers = same-wider (λ k l. inl (omega arith)) s }

@@ -13,11 +13,12 @@ ghost use Rattle.limits.specs.Limits.{positions};
 ghost use Rattle.xpath.specs.Syntax.{eq};
 ghost use Rattle.layout.specs.Part.{Space};
 ghost use Rattle.machine.specs.Walks.{Meets};
-ghost use Rattle.rank_sets.specs.Ends.{Small, Steady};
+ghost use Rattle.layout.specs.Table.{SmallRanks};
+ghost use Rattle.rank_sets.specs.Ends.{Steady};
 
 // Whether the paths from node `v` end at nodes of one rank.
 pub fn equal_at(p: &mut [u16], n: usize, m: Machine, v: usize) -> bool
-    requires { ⌜ Space n (now p) × Small n (now p) × (m .second < positions) × (v < n) ⌝ }
+    requires { ⌜ Space n (now p) × SmallRanks n (now p) × (m .second < positions) × (v < n) ⌝ }
     ensures { λ r. ⌜ Steady n (now (p .entry)) (now (p .exit)) × ((r ≡ true) ↔ Meets m n (now (p .entry)) eq v) ⌝ }
 {
     fill(p, n, Part::MARK, 0);

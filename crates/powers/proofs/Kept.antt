@@ -51,6 +51,10 @@ ready-kept {p = p} {p′} front f = record { stage = stage-kept (λ l h. front l
 pub founded-of : {P R : XPath} {t : Tree} {m : Machine} {n b : ℕ} {p p′ : List ℕ} → Ready P R t m n p → Powered P R t n b p p′ → Founded P R t m n b p′
 founded-of ready f = let r = ready-kept (f .frame .front) ready in record { stage = r .stage; loops = r .loops; powers = f .powers }
 
+-- the powers aside
+pub founded-ready : {P R : XPath} {t : Tree} {m : Machine} {n b : ℕ} {p : List ℕ} → Founded P R t m n b p → Ready P R t m n p
+founded-ready f = record { stage = f .stage; loops = f .loops }
+
 -- fewer powers
 pub founded-less : {P R : XPath} {t : Tree} {m : Machine} {n b c : ℕ} {p : List ℕ} → c ≤ b → Founded P R t m n b p → Founded P R t m n c p
 founded-less h f = record { stage = f .stage; loops = f .loops; powers = λ k y l r. f .powers k y (omega arith) r }

@@ -6,9 +6,9 @@ use mathlib.Core.List.{List, [], _∷_}
 use native.Mathlib.Decide.{ℕ-discrete}
 use native.Mathlib.Omega.{arith}
 use Rattle.layout.specs.Part.{MARK, SEEN}
-use Rattle.layout.specs.Table.{RANK}
+use Rattle.layout.specs.Table.{RANK, SmallRanks}
 use Rattle.layout.specs.Words.{cell, word, Wrote}
-use Rattle.rank_sets.specs.Ends.{Ended, Small, Steady}
+use Rattle.rank_sets.specs.Ends.{Ended, Steady}
 use Rattle.rank_sets.specs.Marks.{Clear, MarkedAt, Marked}
 use Rattle.rank_sets.proofs.Ended.{ended-same}
 use Rattle.rank_sets.proofs.Steady.{steady-none, steady-then, steady-mark, held-word}
@@ -31,7 +31,7 @@ marking-none n last p z =
     }
 
 -- ── One node more ──
-module _ {n last i : ℕ} {p₀ p : List ℕ} (small : Small n p₀) (b : i < n) (g : Marking n last i p₀ p) where
+module _ {n last i : ℕ} {p₀ p : List ℕ} (small : SmallRanks n p₀) (b : i < n) (g : Marking n last i p₀ p) where
   -- the rank of i as it was
   rank : word p n RANK i ≡ word p₀ n RANK i
   rank = held-word (g .steady .held) RANK i (omega arith) (omega arith) b

@@ -7,10 +7,10 @@ use native.Mathlib.Nat.{mul-le-mul-right}
 use native.Mathlib.Omega.{arith}
 use lib.ListN.{getD}
 use Rattle.layout.specs.Part.{MARK, SEEN, Space}
-use Rattle.layout.specs.Table.{LEFT, RANK}
+use Rattle.layout.specs.Table.{LEFT, RANK, SmallRanks}
 use Rattle.layout.specs.Words.{cell, word, Wrote, Within}
 use Rattle.layout.proofs.Frames.{within-frame, within-put, same-none, same-then, same-back, frame-same}
-use Rattle.rank_sets.specs.Ends.{Small, Held, Steady}
+use Rattle.rank_sets.specs.Ends.{Held, Steady}
 
 -- ── Links, ranks, tests and hits ──
 pub held-none : (n : ℕ) (p : List ℕ) → Held n p p
@@ -34,7 +34,7 @@ module _ {n : ℕ} {p p′ : List ℕ} (h : Held n p p′) where
   pub held-space : Space n p → Space n p′
   held-space s = let e = h .middle .long in let r = s .room in record { some = s .some; few = s .few; room = omega arith }
 
-  pub held-small : Small n p → Small n p′
+  pub held-small : SmallRanks n p → SmallRanks n p′
   held-small s v l = subst (λ x. x < n) (sym (held-word RANK v (omega arith) (omega arith) l)) (s v l)
 
 -- ── The answers too ──

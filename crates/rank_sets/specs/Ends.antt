@@ -1,11 +1,11 @@
--- Where a walk ends, the ranks of the nodes, and what a test at one node leaves as it was.
+-- Where a walk ends, and what a test at one node leaves as it was.
 use Prim.Native.Nat.{ℕ, _*_, _≤_, _<_}
 use mathlib.Core.Path.{_≡_}
 use mathlib.Core.Bool.{true}
 use mathlib.Core.List.{List}
 use Rattle.bits.specs.Sets.{bit}
 use Rattle.layout.specs.Part.{SEEN}
-use Rattle.layout.specs.Table.{LEFT, RANK}
+use Rattle.layout.specs.Table.{LEFT}
 use Rattle.layout.specs.Words.{word, Same}
 
 -- the walk that the part has seen comes to w at one of the last positions
@@ -13,10 +13,6 @@ pub record Ended (n last : ℕ) (p : List ℕ) (w : ℕ) : Type 0 where
   pub position : ℕ
   pub among : bit last position ≡ true
   pub seen : bit (word p n SEEN w) position ≡ true
-
--- each rank is one of n
-abbrev pub Small : ℕ → List ℕ → Type 0
-Small n p = (v : ℕ) → v < n → word p n RANK v < n
 
 -- the links, the ranks, the bracketed tests and the hits are as they were
 pub record Held (n : ℕ) (p p′ : List ℕ) : Type 0 where

@@ -9,14 +9,14 @@ ghost use mathlib.Core.Logic.{_↔_};
 ghost use mathlib.Core.Path.{_≡_};
 ghost use Prim.Native.Nat.{ℕ, _<_};
 ghost use Rattle.layout.specs.Part.{MARK, Space};
-ghost use Rattle.layout.specs.Table.{RANK, Room};
+ghost use Rattle.layout.specs.Table.{RANK, Room, SmallRanks};
 ghost use Rattle.layout.specs.Words.{word};
-ghost use Rattle.rank_sets.specs.Ends.{Ended, Small};
+ghost use Rattle.rank_sets.specs.Ends.{Ended};
 ghost use Rattle.rank_sets.specs.Marks.{Clear, MarkedAt, Marked};
 
 // The rank of node `w` is marked if the walk ends there.
 fn mark_rank(p: &mut [u16], n: usize, last: u16, w: usize)
-    requires { ⌜ Space n (now p) × Small n (now p) × (w < n) ⌝ }
+    requires { ⌜ Space n (now p) × SmallRanks n (now p) × (w < n) ⌝ }
     ensures { λ _. ⌜ MarkedAt n last w (now (p .entry)) (now (p .exit)) ⌝ }
 {
     if ends_at(p, n, last, w) {
@@ -27,7 +27,7 @@ fn mark_rank(p: &mut [u16], n: usize, last: u16, w: usize)
 
 // The ranks of the nodes where the walk ends are marked.
 pub fn mark_ranks(p: &mut [u16], n: usize, last: u16)
-    requires { ⌜ Space n (now p) × Small n (now p) × Clear n (now p) ⌝ }
+    requires { ⌜ Space n (now p) × SmallRanks n (now p) × Clear n (now p) ⌝ }
     ensures { λ _. ⌜ Marked n last (now (p .entry)) (now (p .exit)) ⌝ }
 {
     let mut w = 0;
@@ -39,7 +39,7 @@ pub fn mark_ranks(p: &mut [u16], n: usize, last: u16)
 
 // Whether the walk ends at node `w` and the rank of `w` is marked.
 fn marked_at(p: &[u16], n: usize, last: u16, w: usize) -> bool
-    requires { ⌜ Room n (now p) × Small n (now p) × (w < n) ⌝ }
+    requires { ⌜ Room n (now p) × SmallRanks n (now p) × (w < n) ⌝ }
     ensures { λ r. ⌜ (r ≡ true) ↔ (Ended n last (now (p .entry)) w × (word (now (p .entry)) n MARK (word (now (p .entry)) n RANK w) ≡ 1)) ⌝ }
 {
     if ends_at(p, n, last, w) {
@@ -51,7 +51,7 @@ fn marked_at(p: &[u16], n: usize, last: u16, w: usize) -> bool
 
 // Whether the walk ends at a node whose rank is marked.
 pub fn any_marked(p: &[u16], n: usize, last: u16) -> bool
-    requires { ⌜ Room n (now p) × Small n (now p) ⌝ }
+    requires { ⌜ Room n (now p) × SmallRanks n (now p) ⌝ }
     ensures { λ r. ⌜ (r ≡ true) ↔ ((w : ℕ) × (w < n) × Ended n last (now (p .entry)) w × (word (now (p .entry)) n MARK (word (now (p .entry)) n RANK w) ≡ 1)) ⌝ }
 {
     let mut w = 0;

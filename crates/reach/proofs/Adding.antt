@@ -1,21 +1,30 @@
 -- Laws of additions to the work list.
-use Prim.Native.Nat.{ℕ, _<_}
-use mathlib.Core.Path.{refl, _∙_}
+use Prim.Native.Nat.{ℕ, suc, _*_, _≤_, _<_}
+use mathlib.Core.Path.{_≡_, refl, _∙_}
 use mathlib.Core.Logic.{_⊎_, inl, inr, ⊎-elim, ⊎-map, _↔_}
 use mathlib.Core.List.{List}
+use lib.ListN.{getD}
 use native.Mathlib.Omega.{arith}
-use Rattle.layout.specs.Part.{Space}
+use Rattle.layout.specs.Part.{SEEN, Space}
+use Rattle.layout.proofs.Frames.{same-none, same-then}
 use Rattle.reach.specs.Work.{Seen, Work, Spared, Added}
 
 -- ── What stays as it was ──
 pub spared-none : (n d : ℕ) (p : List ℕ) → Spared n d p p
-spared-none n d p = record { long = refl; front = λ k h. refl; aside = λ k l h. refl }
+spared-none n d p = record { same = same-none p }
 
 pub spared-then : {n d : ℕ} {p q r : List ℕ} → Spared n d p q → Spared n d q r → Spared n d p r
-spared-then f g = record { long = g .long ∙ f .long; front = λ k h. g .front k h ∙ f .front k h; aside = λ k l h. g .aside k l h ∙ f .aside k l h }
+spared-then f g = record { same = same-then (f .same) (g .same) }
+
+module _ {n d : ℕ} {p q : List ℕ} (s : Spared n d p q) where
+  pub spared-front : (k : ℕ) → k < SEEN * n → getD q k 0 ≡ getD p k 0
+  spared-front k h = s .same .same k (inl h)
+
+  pub spared-aside : (k : ℕ) → suc SEEN * n ≤ k → k < d * n → getD q k 0 ≡ getD p k 0
+  spared-aside k l h = s .same .same k (inr (l, h))
 
 pub spared-space : {n d : ℕ} {p q : List ℕ} → Spared n d p q → Space n p → Space n q
-spared-space f s = let e = f .long in let r = s .room in record { some = s .some; few = s .few; room = omega arith }
+spared-space f s = let e = f .same .long in let r = s .room in record { some = s .some; few = s .few; room = omega arith }
 
 -- ── Additions ──
 -- what is seen already

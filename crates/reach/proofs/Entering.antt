@@ -145,7 +145,7 @@ module _ {n u w all new len : ℕ} {p : List ℕ} (work : Work n len p) (inside 
     entered-spared : Spared n NODES p p′
     entered-spared =
         let r = enter-room in
-        record { long = wrote .long; front = λ k h. wrote .other k (omega arith); aside = λ k l h. wrote .other k (omega arith, (omega arith, (omega arith, tt))) }
+        record { same = record { long = wrote .long; same = λ k. ⊎-elim (λ h. wrote .other k (omega arith)) (λ (l, h). wrote .other k (omega arith, (omega arith, (omega arith, tt)))) } }
 
     pub added-new : Added (At u w) n NODES len (len + 1) p p′
     added-new =

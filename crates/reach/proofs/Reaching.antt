@@ -9,7 +9,7 @@ use native.Mathlib.Omega.{arith}
 use lib.ListN.{getD}
 use Rattle.bits.specs.Sets.{bit, or, is}
 use Rattle.machine.specs.declared.Machine.{Machine}
-use Rattle.layout.specs.Part.{SEEN, NODES}
+use Rattle.layout.specs.Part.{SEEN, NODES, POSITIONS}
 use Rattle.layout.specs.Words.{word}
 use Rattle.machine.specs.Walks.{Leads, Walk, here, on}
 use Rattle.machine.proofs.Walking.{walk-inside}
@@ -17,14 +17,18 @@ use Rattle.reach.specs.Reached.{Reached}
 use Rattle.reach.specs.Work.{Seen, Has, nodeOf, Work, Spared, Added, At, Onward, After}
 use Rattle.matrices.proofs.Members.{single-in, single-out}
 use Rattle.reach.proofs.Walks.{leads-same, walk-on, walk-same}
-use Rattle.reach.proofs.Adding.{spared-none, spared-then, added-as}
+use Rattle.reach.proofs.Adding.{spared-none, spared-then, spared-front, added-as}
 use Rattle.reach.proofs.Clearing.{cleared-unseen}
 
 -- ── One entry ──
-pub added-after : {m : Machine} {n d len len′ : ℕ} {p p′ : List ℕ} (h f : ℕ)
-    → ((j : ℕ) → j < 16 → (bit f j ≡ true) ↔ ((i : ℕ) × (i < 16) × Has p n h i × (bit (getD (m .rows) i 0) j ≡ true)))
-    → Added (Onward m n p (nodeOf p n h) f) n d len len′ p p′ → Added (After m n p h) n d len len′ p p′
-added-after h f follow = added-as (λ u j l k. (λ (b, s). let (i, r, a, e) = follow j k .0 b in (i, r, a, e, s), λ (i, r, a, e, s). (follow j k .1 (i, r, a, e), s)))
+-- v and s are the node and the positions of entry h
+pub added-after : {m : Machine} {n d len len′ v s : ℕ} {p p′ : List ℕ} (h f : ℕ) → (v ≡ nodeOf p n h) × (s ≡ word p n POSITIONS h)
+    → ((j : ℕ) → j < 16 → (bit f j ≡ true) ↔ ((i : ℕ) × (i < 16) × (bit s i ≡ true) × (bit (getD (m .rows) i 0) j ≡ true)))
+    → Added (Onward m n p v f) n d len len′ p p′ → Added (After m n p h) n d len len′ p p′
+added-after {m} {n} {p = p} h f (node, set) follow = added-as (λ u j l k. (
+  λ (b, o). let (i, r, a, e) = follow j k .0 b in (i, r, ap (λ (y : ℕ). bit y i) (sym set) ∙ a, e, subst (λ (y : ℕ). Leads m n p y j u) node o),
+  λ (i, r, a, e, o). (follow j k .1 (i, r, ap (λ (y : ℕ). bit y i) set ∙ a, e), subst (λ (y : ℕ). Leads m n p y j u) (sym node) o),
+))
 
 -- an entry stays, and what comes after it too
 after-old : {R : ℕ → ℕ → Type 0} {m : Machine} {n d len len′ : ℕ} {p p′ : List ℕ} → Work n len p → Added R n d len len′ p p′
@@ -34,7 +38,7 @@ after-old {m} {n} {p′ = p′} work g k u j l (i, r, a, e, s) = (
   r,
   ap (λ (x : ℕ). bit x i) (sym (g .sets k l)) ∙ a,
   e,
-  leads-same (λ x l h. sym (g .spared .front x h)) (work .nodes k l) (subst (λ (x : ℕ). Leads m n p′ x j u) (g .nodes k l) s),
+  leads-same (λ x l h. sym (spared-front (g .spared) x h)) (work .nodes k l) (subst (λ (x : ℕ). Leads m n p′ x j u) (g .nodes k l) s),
 )
 
 -- ── The loop ──
@@ -84,7 +88,7 @@ working-step {m} {n} {i} {v} {h} {len} {p₀} {p} {p′} w l g =
     come : (u j : ℕ) → j < 16 → After m n p h u j → Walk m n p₀ i v j u
     come u j k (i′, r, a, e, s) =
         let b = w .work .nodes h l in
-        walk-on (w .sound (nodeOf p n h) i′ b r (w .work .told h i′ l r a)) k e (leads-same (λ x p q. sym (w .spared .front x q)) b s)
+        walk-on (w .sound (nodeOf p n h) i′ b r (w .work .told h i′ l r a)) k e (leads-same (λ x p q. sym (spared-front (w .spared) x q)) b s)
 
     close : (k u j : ℕ) → k < h + 1 → u < n → j < 16 → After m n p k u j → Dec (k ≡ h) → Seen p′ n u j
     close k u j r q t a (yes e) = g .seen u j q t .1 (inr (subst (λ (x : ℕ). After m n p x u j) e a))
@@ -98,7 +102,7 @@ module _ {m : Machine} {n i v h len : ℕ} {p₀ p : List ℕ} (w : Working m n 
   walked {j} (on {j = j′} {u = u′} r e t rest) l b s =
       let (k, q, z, a) = w .work .listed _ j l b s in let c = walk-inside l (on r e t here) in
       walked rest c r
-      (w .closed k u′ j′ (omega arith) c r (j, b, a, e, subst (λ (y : ℕ). Leads m n p y j′ u′) (sym z) (leads-same (λ x p q. w .spared .front x q) l t)))
+      (w .closed k u′ j′ (omega arith) c r (j, b, a, e, subst (λ (y : ℕ). Leads m n p y j′ u′) (sym z) (leads-same (λ x p q. spared-front (w .spared) x q) l t)))
 
   -- the columns but SEEN are those of a list p₁ before the loop
   pub working-all : {p₁ : List ℕ} → Spared n NODES p₁ p₀ → Reached m n i v p₁ p
@@ -106,7 +110,7 @@ module _ {m : Machine} {n i v h len : ℕ} {p₀ p : List ℕ} (w : Working m n 
       record {
         spared = spared-then g (w .spared);
         seen = λ j x b l. (
-          λ s. walk-same (λ k p q. sym (g .front k q)) (w .node) (w .sound x j l b s),
-          λ t. walked (walk-same (λ k p q. g .front k q) (w .node) t) (w .node) (w .small) (w .start),
+          λ s. walk-same (λ k p q. sym (spared-front g k q)) (w .node) (w .sound x j l b s),
+          λ t. walked (walk-same (λ k p q. spared-front g k q) (w .node) t) (w .node) (w .small) (w .start),
         );
       }

@@ -4,12 +4,12 @@ use mathlib.Core.Path.{_≡_}
 use mathlib.Core.Logic.{_⊎_, _↔_}
 use mathlib.Core.Bool.{true}
 use mathlib.Core.List.{List, [], _∷_}
-use lib.ListN.{length, getD}
+use lib.ListN.{getD}
 use Rattle.limits.specs.Limits.{positions}
 use Rattle.bits.specs.Sets.{bit, size}
 use Rattle.layout.specs.Part.{SEEN, NODES, POSITIONS, Space}
 use Rattle.layout.specs.Table.{LEFT, RIGHT}
-use Rattle.layout.specs.Words.{cell, word}
+use Rattle.layout.specs.Words.{cell, word, Same}
 use Rattle.machine.specs.declared.Machine.{Machine}
 use Rattle.machine.specs.Walks.{Leads}
 
@@ -46,9 +46,7 @@ pub record Work (n len : ℕ) (p : List ℕ) : Type 0 where
 
 -- the columns before d are as they were, but SEEN
 pub record Spared (n d : ℕ) (p p′ : List ℕ) : Type 0 where
-  pub long : length p′ ≡ length p
-  pub front : (k : ℕ) → k < SEEN * n → getD p′ k 0 ≡ getD p k 0
-  pub aside : (k : ℕ) → suc SEEN * n ≤ k → k < d * n → getD p′ k 0 ≡ getD p k 0
+  pub same : Same (λ k. (k < SEEN * n) ⊎ ((suc SEEN * n ≤ k) × (k < d * n))) p p′
 
 -- the positions j at nodes u that R holds of were added to a list of len entries, which has len′ now
 pub record Added (R : ℕ → ℕ → Type 0) (n d len len′ : ℕ) (p p′ : List ℕ) : Type 0 where

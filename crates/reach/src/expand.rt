@@ -1,5 +1,6 @@
 // One entry of the work list: its positions' followers, each taken from the entry's node where its step leads.
 use crate::list::add;
+use crate::list::entry_at;
 use bits::meet;
 use bits::union;
 use layout::Part;
@@ -62,9 +63,8 @@ pub fn expand(p: &mut [u16], n: usize, m: Machine, h: usize, len: usize) -> usiz
     requires { ⌜ Work n len (now p) × (h < len) ⌝ }
     ensures { λ r. ⌜ Added (After m n (now (p .entry)) h) n NODES len r (now (p .entry)) (now (p .exit)) ⌝ }
 {
-    let v = p[Part::NODES * n + h] as usize;
-    let w = p[Part::POSITIONS * n + h];
+    let e = entry_at(p, n, h, len);
     let rows = m.rows;
-    let f = followers(rows, w);
-    spread(p, n, m, v, f, len)
+    let f = followers(rows, e.set);
+    spread(p, n, m, e.node, f, len)
 }

@@ -2,11 +2,28 @@
 use bits::union;
 use layout::Part;
 use matrices::sets::without;
+ghost use mathlib.Core.Path.{_≡_};
 ghost use Prim.Native.Nat.{_*_, _<_};
 ghost use Rattle.limits.specs.Limits.{positions};
-ghost use Rattle.layout.specs.Part.{NODES, Space};
-ghost use Rattle.layout.specs.Words.{Wrote};
-ghost use Rattle.reach.specs.Work.{Work, Added, At, entered};
+ghost use Rattle.layout.specs.Part.{NODES, POSITIONS, Space};
+ghost use Rattle.layout.specs.Words.{word, Wrote};
+ghost use Rattle.reach.specs.Work.{nodeOf, Work, Added, At, entered};
+
+// An entry: a node, and the positions that were new there.
+pub struct Entry {
+    pub node: usize,
+    pub set: u16,
+}
+
+// Entry `h`.
+pub fn entry_at(p: &[u16], n: usize, h: usize, len: usize) -> Entry
+    requires { ⌜ Work n len (now p) × (h < len) ⌝ }
+    ensures { λ e. ⌜ (e .node ≡ nodeOf (now (p .entry)) n h) × (e .set ≡ word (now (p .entry)) n POSITIONS h) ⌝ }
+{
+    let node = p[Part::NODES * n + h] as usize;
+    let set = p[Part::POSITIONS * n + h];
+    Entry { node, set }
+}
 
 // Entry `len`: node `u` and the positions that are new there. `seen` are all that are seen there now.
 fn enter(p: &mut [u16], n: usize, u: usize, seen: u16, new: u16, len: usize)

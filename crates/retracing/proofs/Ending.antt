@@ -12,7 +12,7 @@ use Rattle.machine.specs.Walks.{on}
 use Rattle.reach.specs.Work.{Seen, Work, Added}
 use Rattle.reach.proofs.Walks.{leads-same, walk-same}
 use Rattle.retracing.specs.Backward.{Closed, Ends}
-use Rattle.reach.proofs.Adding.{added-then, added-into}
+use Rattle.reach.proofs.Adding.{spared-front, added-then, added-into}
 
 -- nothing is seen where the list is empty
 pub unseen : {n : ℕ} {p : List ℕ} → Work n 0 p → (v i : ℕ) → v < n → i < 16 → ¬ Seen p n v i
@@ -28,7 +28,7 @@ module _ {m : Machine} {n : ℕ} {p q : List ℕ} (same : (k : ℕ) → LEFT * n
 -- what is seen now was seen, or ends there
 pub ends-closed : {m : Machine} {n d a b : ℕ} {E : ℕ → Type 0} {p q : List ℕ} → Closed m n p → Added (Ends m n p E) n d a b p q → Closed m n q
 ends-closed closed g v i u j l h r k e t s =
-    let y = leads-same (λ x y z. sym (g .spared .front x z)) l t in
+    let y = leads-same (λ x y z. sym (spared-front (g .spared) x z)) l t in
     ⊎-elim
     (λ z. g .seen v i l h .1 (inl (closed v i u j l h r k e y z)))
     (λ (w, c, d, (o, f, z)). g .seen v i l h .1 (inr (w, c, d, (o, f, on k e y z))))
@@ -46,9 +46,9 @@ module _ {m : Machine} {n d a b : ℕ} {E F : ℕ → Type 0} {p q : List ℕ} w
   ends-then f g =
       let h = added-then f g in
       added-into
-      (λ v i l k x. inr (⊎-elim (ends-same (λ y z o. refl) (λ w r e. inl e) l) (ends-same (λ y z o. sym (f .spared .front y o)) (λ w r e. inr e) l) x))
+      (λ v i l k x. inr (⊎-elim (ends-same (λ y z o. refl) (λ w r e. inl e) l) (ends-same (λ y z o. sym (spared-front (f .spared) y o)) (λ w r e. inr e) l) x))
       (λ v i l k (w, r, e, s). h .seen v i l k .1 (⊎-elim
       (λ z. inr (inl (w, r, z, s)))
-      (λ z. inr (inr (ends-same (λ y z o. f .spared .front y o) (λ w r e. e) l (w, r, z, s))))
+      (λ z. inr (inr (ends-same (λ y z o. spared-front (f .spared) y o) (λ w r e. e) l (w, r, z, s))))
       e))
       h

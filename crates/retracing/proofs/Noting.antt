@@ -71,13 +71,6 @@ notes-put {n} {c} {v} l f g =
       second = noted-before (λ u h. put-other f (cell n (c + 1) u) (omega arith)) (put-noted g);
     }
 
--- the tests are of two members of a set
-pub notes-tested : (s second : ℕ) {n c x v : ℕ} {a b : Bool} {p q : List ℕ} → a ≡ bit s 0 → b ≡ bit s second
-    → Notes n c x (λ u. (u ≡ v) × (a ≡ true)) (λ u. (u ≡ v) × (b ≡ true)) p q → Notes n c x (λ u. (u ≡ v) × (bit s 0 ≡ true)) (λ u. (u ≡ v) × (bit s second ≡ true)) p q
-notes-tested s second {n} {c} {x} {v} {a} {b} {p} {q} e f g =
-    subst (λ y. Notes n c x (λ u. (u ≡ v) × (y ≡ true)) (λ u. (u ≡ v) × (bit s second ≡ true)) p q) e
-    (subst (λ y. Notes n c x (λ u. (u ≡ v) × (a ≡ true)) (λ u. (u ≡ v) × (y ≡ true)) p q) f g)
-
 -- ── Notes after notes ──
 notes-none : (n c x : ℕ) (p : List ℕ) {A B : ℕ → Type 0} → ((v : ℕ) → ¬ A v) → ((v : ℕ) → ¬ B v) → Notes n c x A B p p
 notes-none n c x p a b = record { frame = frame-none p; first = record { node = λ v l. inr (a v, refl) }; second = record { node = λ v l. inr (b v, refl) } }
@@ -93,6 +86,14 @@ module _ {n c x : ℕ} {A B C D : ℕ → Type 0} {p q : List ℕ} where
         first = noted-then (f .first) (g .first);
         second = noted-then (f .second) (g .second);
       }
+
+-- the tests are of two positions of entry h, whose node is v and whose positions are s
+pub notes-tested : {n c x v s : ℕ} {a b : Bool} {p q : List ℕ} (h second : ℕ) → (v ≡ nodeOf p n h) × (s ≡ word p n POSITIONS h) → a ≡ bit s 0 → b ≡ bit s second
+    → Notes n c x (λ u. (u ≡ v) × (a ≡ true)) (λ u. (u ≡ v) × (b ≡ true)) p q → Notes n c x (OfEntry p n 0 h) (OfEntry p n second h) p q
+notes-tested {n} {v = v} {s} {p = p} h second (node, set) e f = notes-as (λ u l. same 0 e) (λ u l. same second f)
+  where
+    same : {a : Bool} {u : ℕ} (i : ℕ) → a ≡ bit s i → ((u ≡ v) × (a ≡ true)) ↔ OfEntry p n i h u
+    same i e = (λ (o, t). (o ∙ node, ap (λ (y : ℕ). bit y i) (sym set) ∙ sym e ∙ t), λ (o, t). (o ∙ sym node, e ∙ ap (λ (y : ℕ). bit y i) set ∙ t))
 
 -- ── What is seen and the list stay ──
 module _ {n c x : ℕ} {A B : ℕ → Type 0} {p q : List ℕ} (paired : Paired c) (g : Notes n c x A B p q) where

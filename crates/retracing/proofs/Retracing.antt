@@ -6,14 +6,14 @@ use mathlib.Core.Logic.{_⊎_, inl, inr, ⊎-elim, _↔_}
 use mathlib.Core.List.{List}
 use lib.ListN.{getD}
 use Rattle.bits.specs.Sets.{bit}
-use Rattle.layout.specs.Part.{STAYS}
+use Rattle.layout.specs.Part.{STAYS, POSITIONS}
 use Rattle.layout.specs.Table.{LEFT, RIGHT, PARENT}
 use Rattle.layout.specs.Words.{word}
 use Rattle.machine.specs.declared.Machine.{Machine}
 use Rattle.machine.specs.Walks.{Leads, left, right, fromLeft, fromRight, stays}
 use Rattle.matrices.specs.Matrices.{Exactly}
-use Rattle.reach.specs.Work.{At, Added}
-use Rattle.retracing.specs.Backward.{LinkedBothWays, Sources, Descends, Into}
+use Rattle.reach.specs.Work.{nodeOf, At, Added}
+use Rattle.retracing.specs.Backward.{LinkedBothWays, Sources, Descends, Into, Before}
 use Rattle.reach.proofs.Adding.{added-then, added-as}
 
 -- the nodes next to u, and the positions there that come to a position of s at u: by a bracketed test, by a step up from the left child or from the right child, and by a step down from the parent
@@ -77,3 +77,9 @@ module _ {m : Machine} {n : ℕ} {p : List ℕ} {u s l r v here fromL fromR from
       → Added (At r fromR) n d i₂ i₃ p₂ p₃ → Added (At v fromUp) n d i₃ i₄ p₃ p₄ → Added (Into m n p u s) n d i₀ i₄ p p₄
   unfolding Next
   added-leads a b c e = added-as (λ x i h k. (comes x i h k, λ (j, q, f, t, y). leads x i j h k q f t y)) (added-then (added-then (added-then a b) c) e)
+
+-- u and s are the node and the positions of entry h
+pub added-entry : {m : Machine} {n d len len′ u s : ℕ} {p p′ : List ℕ} (h : ℕ) → (u ≡ nodeOf p n h) × (s ≡ word p n POSITIONS h)
+    → Added (Into m n p u s) n d len len′ p p′ → Added (Before m n p h) n d len len′ p p′
+added-entry {m} {n} {d} {len} {len′} {u} {s} {p} {p′} h (node, set) g =
+    subst (λ (x : ℕ). Added (Into m n p x (word p n POSITIONS h)) n d len len′ p p′) node (subst (λ (x : ℕ). Added (Into m n p u x) n d len len′ p p′) set g)

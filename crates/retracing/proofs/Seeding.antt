@@ -16,12 +16,12 @@ use Rattle.layout.specs.Words.{cell, word}
 use Rattle.table.specs.Links.{Points}
 use Rattle.machine.specs.declared.Machine.{Machine}
 use Rattle.machine.specs.Walks.{Stops}
-use Rattle.skeletons.specs.Skeletons.{Least, Buckets}
-use Rattle.skeletons.proofs.Grouping.{least-some}
+use Rattle.buckets.specs.Buckets.{Least, Buckets}
+use Rattle.buckets.proofs.Least.{least-some}
 use Rattle.reach.specs.Work.{Seen, Work, Added}
 use Rattle.retracing.specs.Backward.{LinkedBothWays, OfEntries, New, Closed, Ends, Backed}
 use Rattle.retracing.specs.Notes.{Paired, Notes, Seeded}
-use Rattle.reach.proofs.Adding.{added-same}
+use Rattle.reach.proofs.Adding.{spared-front, spared-aside, added-same}
 use Rattle.retracing.proofs.Entries.{entry-new, new-entry}
 use Rattle.retracing.proofs.Spreading.{added-linked}
 use Rattle.retracing.proofs.Ending.{ends-closed, ends-as, ends-then}
@@ -42,9 +42,10 @@ module _ {m : Machine} {n w c x len end : ℕ} {p q r : List ℕ} (list : Work n
       record {
         work = notes-work paired f (g .work);
         spared = record {
-          long = f .frame .long ∙ g .spared .long;
-          front = λ k h. notes-front paired f k (omega arith) ∙ g .spared .front k h;
-          aside = λ k l h. f .frame .front k h ∙ g .spared .aside k l (omega arith);
+          same = record {
+            long = f .frame .long ∙ g .spared .same .long;
+            same = λ k. ⊎-elim (λ h. notes-front paired f k (omega arith) ∙ spared-front (g .spared) k h) (λ (l, h). f .frame .front k h ∙ spared-aside (g .spared) k l (omega arith));
+          };
         };
         more = g .more;
         nodes = λ k h. notes-node paired f k ∙ g .nodes k h;
@@ -69,8 +70,8 @@ module _ {m : Machine} {n w c x len end : ℕ} {p q r : List ℕ} (list : Work n
       let low : LEAST * n ≤ c * n = mul-le-mul-right n (paired .0) in let high : c * n ≤ ABOVE * n = mul-le-mul-right n (paired .1) in
       record {
         added = one-added;
-        first = noted-before (λ v l. g .spared .aside (cell n c v) (omega arith) (omega arith)) (noted-as (fresh 0 (omega arith)) (f .first));
-        second = noted-before (λ v l. g .spared .aside (cell n (c + 1) v) (omega arith) (omega arith)) (noted-as (fresh (m .second) small) (f .second));
+        first = noted-before (λ v l. spared-aside (g .spared) (cell n c v) (omega arith) (omega arith)) (noted-as (fresh 0 (omega arith)) (f .first));
+        second = noted-before (λ v l. spared-aside (g .spared) (cell n (c + 1) v) (omega arith) (omega arith)) (noted-as (fresh (m .second) small) (f .second));
       }
 
 -- ── Node after node ──
@@ -144,7 +145,7 @@ module _ {m : Machine} {n r c x len w end end′ w′ : ℕ} {p₀ p p′ : List
   next : Points (Least n p₀ (suc w) r) w′
   next =
       let low : LEAST * n ≤ c * n = mul-le-mul-right n (paired .0) in
-      let q : word p′ n NEXT w ≡ word p₀ n NEXT w = g .added .spared .aside (cell n NEXT w) (omega arith) (omega arith) ∙ b .seeded .added .spared .aside (cell n NEXT w) (omega arith) (omega arith) in
+      let q : word p′ n NEXT w ≡ word p₀ n NEXT w = spared-aside (g .added .spared) (cell n NEXT w) (omega arith) (omega arith) ∙ spared-aside (b .seeded .added .spared) (cell n NEXT w) (omega arith) (omega arith) in
       subst (λ (y : ℕ). Points (Least n p₀ (suc w) r) y) (sym (e ∙ q))
       (subst (λ (y : ℕ). Points (Least n p₀ (suc w) y) (word p₀ n NEXT w)) (b .ranked l) (buckets .next w l))
 

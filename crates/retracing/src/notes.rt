@@ -1,7 +1,7 @@
 // What is noted of the entries that are new: a word in one of two columns for the start of the first path, in the other for that of the second.
 use bits::has;
-use layout::Part;
 use layout::words::put;
+use reach::list::entry_at;
 ghost use Prim.Native.Nat.{_≤_, _<_};
 ghost use Rattle.limits.specs.Limits.{positions, wordValues};
 ghost use Rattle.layout.specs.Table.{COLUMNS, Room};
@@ -24,10 +24,9 @@ fn note_entry(p: &mut [u16], n: usize, second: usize, h: usize, len: usize, c: u
     requires { ⌜ Work n len (now p) × (h < len) × (second < positions) × Paired c × (x < wordValues) ⌝ }
     ensures { λ _. ⌜ Notes n c x (OfEntry (now (p .entry)) n 0 h) (OfEntry (now (p .entry)) n second h) (now (p .entry)) (now (p .exit)) ⌝ }
 {
-    let v = p[Part::NODES * n + h] as usize;
-    let s = p[Part::POSITIONS * n + h];
-    put_if(p, n, c, v, has(s, 0), x);
-    put_if(p, n, c + 1, v, has(s, second as u16), x);
+    let e = entry_at(p, n, h, len);
+    put_if(p, n, c, e.node, has(e.set, 0), x);
+    put_if(p, n, c + 1, e.node, has(e.set, second as u16), x);
 }
 
 // The word `x` for the starts in the entries from `from` up to `len`.

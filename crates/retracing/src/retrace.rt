@@ -9,6 +9,7 @@ use limits::Rule;
 use machine::Machine;
 use reach::expand::if_linked;
 use reach::list::add;
+use reach::list::entry_at;
 ghost use mathlib.Core.Path.{_≡_};
 ghost use mathlib.Core.Bool.{true};
 ghost use mathlib.Core.Logic.{_↔_};
@@ -65,7 +66,6 @@ pub fn retrace(p: &mut [u16], n: usize, m: Machine, h: usize, len: usize) -> usi
     requires { ⌜ Work n len (now p) × LinkedBothWays n (now p) × (h < len) ⌝ }
     ensures { λ r. ⌜ Added (Before m n (now (p .entry)) h) n NODES len r (now (p .entry)) (now (p .exit)) ⌝ }
 {
-    let u = p[Part::NODES * n + h] as usize;
-    let s = p[Part::POSITIONS * n + h];
-    lead_in(p, n, m, u, s, len)
+    let e = entry_at(p, n, h, len);
+    lead_in(p, n, m, e.node, e.set, len)
 }

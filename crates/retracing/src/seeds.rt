@@ -11,7 +11,7 @@ ghost use Rattle.layout.specs.Table.{RANK};
 ghost use Rattle.layout.specs.Words.{word};
 ghost use Rattle.reach.specs.Work.{Work};
 ghost use Rattle.retracing.specs.Backward.{LinkedBothWays, Closed};
-ghost use Rattle.skeletons.specs.Skeletons.{Buckets};
+ghost use Rattle.buckets.specs.Buckets.{Buckets};
 ghost use Rattle.retracing.specs.Notes.{Paired, Seeded};
 
 // What ends at node `w`.

@@ -11,9 +11,8 @@ use Rattle.lists.specs.Lists.{All}
 use Rattle.lists.proofs.Lists.{all-occurs, all-append, all-imp, occurs-left, occurs-right}
 use Rattle.xpath.specs.Syntax.{Test}
 use Rattle.rule_spec.specs.Verdict.{Reads, Unreadable, TooDeep}
-use Rattle.rule_spec.specs.Readers.{Returns}
+use Rattle.rule_spec.specs.Readers.{Returns, Ends, Stop, Meet, Unnamed}
 use Rattle.rule_spec.specs.Machine.{Symbol, Stack, test, tail, Values, move, rest, State, state, over, stopped, closing, close, Key}
-use Rattle.rule_spec.specs.Readers.{Ends, Stop, Meet, Unnamed}
 use Rattle.rule_spec.proofs.Machine.{answer, ruleStart}
 use Rattle.rule_spec.proofs.Begins.{answer-reads}
 use Rattle.rule_spec.proofs.Comes.{passes}

@@ -15,10 +15,9 @@ use Rattle.limits.specs.Names.{Name}
 use Rattle.xpath.specs.Syntax.{Op, eq, ne, lt, le, gt, ge, Test, named, not, and, or, compare, compareTo, XPath, empty, one, seq, union, star, Step, toLeft, toRight, fromLeft, fromRight, stay, size}
 use Rattle.rule_spec.specs.Spelling.{sign, spellTest, spellPath, spellStep, Constant, LegalTest, LegalPath, LegalStep}
 use Rattle.rule_spec.specs.Parts.{Part, Sort, testParts, pathParts, stepParts}
-use Rattle.rule_spec.specs.Readers.{key, keys, spellOperand}
+use Rattle.rule_spec.specs.Readers.{key, keys, spellOperand, goes, Comes}
 use Rattle.rule_spec.specs.Bytes.{choose, isNameByte}
 use Rattle.rule_spec.specs.Machine.{Symbol, test, path, byte, label, tail, quoted, signed, orEqual, operand, Stack, Operand, Value, Values, comparing, move, State, over, Key}
-use Rattle.rule_spec.specs.Readers.{goes, Comes}
 use Rattle.rule_spec.proofs.Bytes.{letter-iff, nameByte-iff, printable-iff}
 use Rattle.rule_spec.proofs.Comes.{passes, fresh, comes-as, comes-none, comes-one, comes-two}
 

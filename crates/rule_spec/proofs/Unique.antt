@@ -10,10 +10,9 @@ use Rattle.lists.specs.Text.{NameByte}
 use Rattle.xpath.specs.Syntax.{Test, XPath}
 use Rattle.rule_spec.specs.Spelling.{spellTest, spellPath, LegalTest, LegalPath}
 use Rattle.rule_spec.specs.Parts.{Part, parts, testParts}
-use Rattle.rule_spec.specs.Readers.{Unnamed}
+use Rattle.rule_spec.specs.Readers.{Unnamed, keys}
 use Rattle.rule_spec.specs.Bytes.{isNameByte}
 use Rattle.rule_spec.specs.Machine.{Symbol, test, path, tail, Value, Values, move, rest, state, over, Answer, read, stopped, closing, close}
-use Rattle.rule_spec.specs.Readers.{keys}
 use Rattle.rule_spec.proofs.Bytes.{nameByte-iff}
 use Rattle.rule_spec.proofs.Machine.{read-inj, read-not-stopped, answer, ruleStart}
 use Rattle.rule_spec.proofs.Reading.{Pops, Any, pops-byte, Takes, recast, take-test, take-path}

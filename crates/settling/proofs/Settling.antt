@@ -4,24 +4,15 @@ use mathlib.Core.Path.{_≡_, refl, sym, subst}
 use mathlib.Core.Logic.{inl, inr, _↔_}
 use mathlib.Core.Bool.{Bool}
 use native.Mathlib.Omega.{arith}
-use Rattle.xpath.specs.Syntax.{XPath, Step, toLeft, toRight, fromLeft, fromRight, stay, compare, eq, size}
+use Rattle.xpath.specs.Syntax.{XPath, compare, eq, size}
 use Rattle.xpath.specs.Tree.{Tree, Child, WellFormed, Down, Under}
-use Rattle.xpath.specs.Meaning.{Moves, Holds}
+use Rattle.xpath.specs.Meaning.{Holds}
 use Rattle.xpath.proofs.Trees.{child-after, down-zero, towards, under-refl, root, dec-under}
-use Rattle.positions.specs.Positions.{Follows, Comes, Ends, second, StartOf}
-use Rattle.positions.proofs.Chains.{first-stays, second-stays}
+use Rattle.positions.specs.Positions.{Comes, Ends, second, StartOf}
 use Rattle.snippets.specs.Snippets.{Different, Yielded, SettledBy}
-use Rattle.snippets.proofs.Settles.{comes-join, sound, leave-top, settles}
+use Rattle.snippets.proofs.Settles.{comes-join, comes-ends, comes-first, comes-second, comes-inside, sound, leave-top, settles}
 use Rattle.snippets.proofs.Edges.{stepUp, moves-up, stepDown, moves-down, not-under, enters, leaves, pass-down}
 use Rattle.settling.specs.Pairs.{Meets, Settles, Closed}
-
--- a step leads to a node
-moves-inside : {t : Tree} → WellFormed t → (s : Step) (v u : ℕ) → Moves t s v u → v < t .size → u < t .size
-moves-inside wf toLeft v u c r = c .inside
-moves-inside wf toRight v u c r = c .inside
-moves-inside wf fromLeft v u c r = let h = child-after wf c in omega arith
-moves-inside wf fromRight v u c r = let h = child-after wf c in omega arith
-moves-inside wf (stay T) v u (e, h) r = omega arith
 
 module _ (P R : XPath) (t : Tree) where
   abbrev C : ℕ → ℕ → ℕ → ℕ → Type 0
@@ -30,32 +21,22 @@ module _ (P R : XPath) (t : Tree) where
   abbrev E : ℕ → ℕ → ℕ → Type 0
   E i v w = Ends P R t i v w
 
-  -- ── Chains ──
-  -- what every step keeps is kept by a chain
-  comes-keeps : (A : ℕ → ℕ → Type 0) → ((s : Step) (i v j u : ℕ) → Follows P R i j → Moves t s v u → A i v → A j u)
-      → {i v j w : ℕ} → C i v j w → A i v → A j w
-  comes-keeps A step Comes.here h = h
-  comes-keeps A step {i} {v} (Comes.on {j = j} {u = u} s f a m c) h = comes-keeps A step c (step s i v j u f m h)
-
-  comes-first : {v p x : ℕ} → C 0 v p x → p ≤ size P
-  comes-first c = comes-keeps (λ i v. i ≤ size P) (λ s i v j u f m h. first-stays P R i j h f) c (omega arith)
-
-  comes-second : {v q y : ℕ} → C (second P R) v q y → size P < q
-  comes-second c = comes-keeps (λ i v. size P < i) (λ s i v j u f m h. second-stays P R i j h f) c (omega arith)
-
-  comes-ends : {i v j u w : ℕ} → C i v j u → E j u w → E i v w
-  comes-ends c (k, l, e) = (k, l, comes-join t P R c e)
-
   module _ (S : ℕ → ℕ → ℕ → ℕ → Type 0) where
     -- ── The two starts ──
     -- what settles the two starts is the settling rule
     pub settles-start : ((x y p q : ℕ) → S x y p q → Different P R p q) → (v : ℕ) → Settles P R t S v 0 (second P R) ↔ SettledBy t P R S v
     settles-start apart v = (there, back)
       where
+        first : {p x : ℕ} → C 0 v p x → p ≤ size P
+        first c = comes-first t P R c (omega arith)
+
+        later : {q y : ℕ} → C (second P R) v q y → size P < q
+        later c = comes-second t P R c (omega arith)
+
         there : Settles P R t S v 0 (second P R) → SettledBy t P R S v
         there (inl h) = inl h
-        there (inr (x, y, p, q, s, inl (c, e))) = inr (x, y, p, q, 0, second P R, s, inl (comes-first c, refl), inr (comes-second e, refl), c, e)
-        there (inr (x, y, p, q, s, inr (c, e))) = inr (x, y, p, q, second P R, 0, s, inr (comes-second e, refl), inl (comes-first c, refl), e, c)
+        there (inr (x, y, p, q, s, inl (c, e))) = inr (x, y, p, q, 0, second P R, s, inl (first c, refl), inr (later e, refl), c, e)
+        there (inr (x, y, p, q, s, inr (c, e))) = inr (x, y, p, q, second P R, 0, s, inr (later e, refl), inl (first c, refl), e, c)
 
         starts : (x y p q a b : ℕ) → S x y p q → Different P R p q → StartOf P R p a → StartOf P R q b → C a v p x → C b v q y → Settles P R t S v 0 (second P R)
         starts x y p q a b s d (inl h) (inl k) c e = absurd (same d)
@@ -78,7 +59,7 @@ module _ (P R : XPath) (t : Tree) where
     -- ── Soundness ──
     -- what comes to a settled pair is settled
     pub settles-before : {v u a b a′ b′ : ℕ} → C a v a′ u → C b v b′ u → Settles P R t S u a′ b′ → Settles P R t S v a b
-    settles-before c e (inl (w, h, k)) = inl (w, comes-ends c h, comes-ends e k)
+    settles-before c e (inl (w, h, k)) = inl (w, comes-ends t P R c h, comes-ends t P R e k)
     settles-before c e (inr (x, y, p, q, s, inl (h, k))) = inr (x, y, p, q, s, inl (comes-join t P R c h, comes-join t P R e k))
     settles-before c e (inr (x, y, p, q, s, inr (h, k))) = inr (x, y, p, q, s, inr (comes-join t P R c h, comes-join t P R e k))
 
@@ -127,13 +108,10 @@ module _ (P R : XPath) (t : Tree) where
         carried : (v a b : ℕ) → v < t .size → C a v a′ z → C b v b′ z → L v a b
         carried v a b r c e = let (n, d) = root t wf v r in from-any n v a b d c e
 
-      comes-inside : {i v j w : ℕ} → C i v j w → v < t .size → w < t .size
-      comes-inside c r = comes-keeps (λ i v. v < t .size) (λ s i v j u f m h. moves-inside wf s v u m h) c r
-
       -- both end at one node
       ends-held : (v a b w : ℕ) → v < t .size → E a v w → E b v w → L v a b
       ends-held v a b w r (i, l, c) (j, k, e) =
-          let inside = comes-inside c r in
+          let inside = comes-inside t P R wf c r in
           carried w i j inside (λ a b h g. closed .ended w a b inside (i, l, h) (j, k, g)) v a b r c e
 
       -- a comes to the upper end of an edge and b to the lower one: the chain to the farther end passes the nearer one

@@ -11,9 +11,10 @@ use Rattle.snippets.specs.Snippets.{Skeleton}
 use Rattle.snippets.proofs.Nearest.{Climbed, climbed-none, climbed-step, climbed-top, edge-iff}
 use Rattle.layout.specs.Table.{PARENT}
 use Rattle.layout.specs.Words.{NONE, word}
-use Rattle.skeletons.specs.Shape.{Shape}
-use Rattle.skeletons.specs.Skeletons.{Group, Arrives, Ascent}
-use Rattle.skeletons.proofs.Shape.{parent-case}
+use Rattle.machine.specs.Shape.{Shape}
+use Rattle.group_marks.specs.Groups.{Group}
+use Rattle.skeletons.specs.Skeletons.{Arrives, Ascent}
+use Rattle.machine.proofs.Shape.{parent-case}
 
 -- ── The way so far ──
 -- the way has reached x by x's child c, m edges above y, and met no skeleton node before; or it has left the tree and met none

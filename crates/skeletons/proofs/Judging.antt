@@ -12,9 +12,9 @@ use Rattle.snippets.proofs.Marks.{BothMarked, skeleton-iff}
 use Rattle.layout.specs.Groups.{MARKED}
 use Rattle.layout.specs.Table.{LEFT, RIGHT, RANK, column}
 use Rattle.layout.specs.Words.{word}
-use Rattle.skeletons.specs.Skeletons.{IsNoted, Group}
-use Rattle.skeletons.specs.Steps.{MarkedNode}
-use Rattle.skeletons.proofs.Shape.{child-word, word-child}
+use Rattle.group_marks.specs.Groups.{IsNoted, Group}
+use Rattle.group_marks.specs.Steps.{MarkedNode}
+use Rattle.machine.proofs.Shape.{child-word, word-child}
 
 module _ {t : Tree} {d : List ℕ} {n r : ℕ} {p : List ℕ} (g : Group t d n r p) where
   has-word : (v : ℕ) → v < n → Has t d v ↔ (word p n RANK v ≡ r)

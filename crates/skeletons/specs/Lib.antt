@@ -1,3 +1,1 @@
-pub mod Shape
 pub mod Skeletons
-pub mod Steps

@@ -1,7 +1,4 @@
-// The groups of nodes of equal value, and the skeleton of a group: its nodes with the closest common ancestors of every two of them. All of it stands in columns of a comparison's part.
-pub mod blocks;
-pub mod buckets;
-pub mod marks;
+// The skeleton of a group of nodes of equal value, by the marks of the group: its nodes with the closest common ancestors of every two of them; and its edges.
 pub mod skeleton;
 
 // Where the way up from a skeleton node ends: at the first skeleton node above it, by so many edges, and through which child of that node.

@@ -1,6 +1,6 @@
 // The skeleton of a group, by its marks.
 use crate::Climb;
-use crate::blocks::is_empty;
+use group_marks::blocks::is_empty;
 use layout::Groups;
 use layout::Table;
 use layout::words::get;
@@ -15,9 +15,10 @@ ghost use Prim.Native.Nat.{ℕ, _<_};
 ghost use Rattle.xpath.specs.Tree.{Tree};
 ghost use Rattle.snippets.specs.Snippets.{Skeleton};
 ghost use Rattle.layout.specs.Table.{Room};
-ghost use Rattle.skeletons.specs.Shape.{Shape};
-ghost use Rattle.skeletons.specs.Skeletons.{Group, Ascent};
-ghost use Rattle.skeletons.specs.Steps.{MarkedNode};
+ghost use Rattle.machine.specs.Shape.{Shape};
+ghost use Rattle.group_marks.specs.Groups.{Group};
+ghost use Rattle.skeletons.specs.Skeletons.{Ascent};
+ghost use Rattle.group_marks.specs.Steps.{MarkedNode};
 
 // The word `v` is a node, and that node is marked.
 fn is_marked(p: &[u16], n: usize, v: usize) -> bool

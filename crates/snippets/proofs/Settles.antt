@@ -162,7 +162,7 @@ module _ (t : Tree) (P R : XPath) where
     near-inside v u r (inr (inl (side, c))) = c .inside
     near-inside v u r (inr (inr (side, c))) = let h = child-after wf c in omega arith
 
-    comes-inside : {i v j w : ℕ} → C i v j w → v < t .size → w < t .size
+    pub comes-inside : {i v j w : ℕ} → C i v j w → v < t .size → w < t .size
     comes-inside Comes.here r = r
     comes-inside {v = v} (Comes.on {u = u} s f n m c) r = comes-inside c (near-inside v u r (near s v u m))
 

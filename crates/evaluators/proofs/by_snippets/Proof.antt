@@ -2,7 +2,7 @@
 use mathlib.Core.Path.{sym, _∙_}
 use native.Mathlib.Omega.{arith}
 use Rattle.retracing.proofs.Linked.{linked-drawn}
-use Rattle.skeletons.proofs.Shape.{drawn-shape}
+use Rattle.machine.proofs.Shape.{drawn-shape}
 use Rattle.plain.proofs.Signs.{other-sign}
 use Rattle.evaluators.proofs.Staging.{stage-space, stage-second}
 use Rattle.evaluators.proofs.Snippeting.{stage-levelled, digits-asked, equal-compared, other-compared}

@@ -7,7 +7,7 @@ use Rattle.first_snippets.proofs.add_group.Statement.{statement}
 use Rattle.first_snippets.proofs.add_group.Tie as tie
 
 mark-group-requires : tie.Need-mark-group-requires
-mark-group-requires c κs = let s = c .before .before .pre in let h = sizes-front (s .base .sizes) in ((s .base .tree, stage-shape (s .base .stage)), omega arith, s .base .buckets, s .rank)
+mark-group-requires c κs = let s = c .before .before .pre in let h = sizes-front (s .base .sizes) in ((s .base .tree, stage-shape (s .base .founded .stage)), omega arith, s .base .buckets, s .rank)
 
 rise-requires : tie.Need-rise-requires
 rise-requires c κs = given-marked (c .before .before .before .before .before .before .pre) (c .before .before .before .mark-group .ensures)

@@ -3,7 +3,7 @@ use Prim.Native.Nat.{_-_}
 use mathlib.Core.Path.{_∙_}
 use native.Mathlib.Omega.{arith}
 use Rattle.layout.proofs.Frames.{room-within}
-use Rattle.skeletons.proofs.Shape.{shape-within}
+use Rattle.machine.proofs.Shape.{shape-within}
 use Rattle.levels.proofs.Levelling.{Levelling, some-nodes, root-within, levelling-root, parent-known, levelling-step, levelling-all}
 use Rattle.levels.proofs.levels.Statement.{statement}
 use Rattle.levels.proofs.levels.Tie as tie

@@ -54,7 +54,7 @@ loop-again c = working-step (c .before .before .before .before .before .loop .in
 same-length : tie.Need-same-length Inv-loop μ-loop
 same-length c =
     let a = c .before .before .before .before in let d = a .before .before .before .before .before in
-    c .before .loop .inv .spared .long ∙ a .add .ensures .spared .long ∙ d .fill .ensures .within .long
+    c .before .loop .inv .spared .same .long ∙ a .add .ensures .spared .same .long ∙ d .fill .ensures .within .long
 
 returns : tie.Need-returns Inv-loop μ-loop
 returns c =

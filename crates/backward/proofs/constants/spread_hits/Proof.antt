@@ -27,7 +27,7 @@ loop-again : tie.Need-loop-again Inv-loop μ-loop
 loop-again c = hitting-step (c .before .before .before .before .before .loop .inv) (c .before .before .before .before .loop-test .taken) (c .before .before .spread-hit .ensures)
 
 same-length : tie.Need-same-length Inv-loop μ-loop
-same-length c = c .before .loop .inv .added .spared .long
+same-length c = c .before .loop .inv .added .spared .same .long
 
 returns : tie.Need-returns Inv-loop μ-loop
 returns c = let b = c .before .loop in (b .len, hitting-all (b .inv) (c .loop-test .left))

@@ -35,7 +35,7 @@ loop-again c =
     (omega arith, falling-step (x .4) (x .0 .work) (b .loop .inv .1) (omega arith) (c .before .before .seed-rank .ensures))
 
 same-length : tie.Need-same-length Inv-loop μ-loop
-same-length c = c .before .loop .inv .1 .added .spared .long
+same-length c = c .before .loop .inv .1 .added .spared .same .long
 
 returns : tie.Need-returns Inv-loop μ-loop
 returns c = let l = c .loop-test .left in falling-all (c .before .loop .inv .1) (omega arith)

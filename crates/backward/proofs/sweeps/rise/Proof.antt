@@ -30,7 +30,7 @@ loop-again : tie.Need-loop-again Inv-loop μ-loop
 loop-again c = let b = c .before .before .before .before .before in let x = b .before .before .pre in rising-step (x .4) (x .0 .work) (b .loop .inv) (c .before .before .seed-rank .ensures)
 
 same-length : tie.Need-same-length Inv-loop μ-loop
-same-length c = c .before .loop .inv .added .spared .long
+same-length c = c .before .loop .inv .added .spared .same .long
 
 returns : tie.Need-returns Inv-loop μ-loop
 returns c = rising-all (c .before .before .before .pre .3) (c .before .loop .inv) (c .loop-test .left)

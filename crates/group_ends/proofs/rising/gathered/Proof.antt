@@ -26,7 +26,7 @@ union-requires-2 : tie.Need-union-requires-2
 union-requires-2 c κs = search needs
 
 returns : tie.Need-returns
-returns c P R t d stage loops ranks k sides = gathered-found P R t d (c .before .before .before .before .own .result) (c .before .before .before .get .result) (c .before .before .get2 .result) (c .before .union .result) (c .union2 .result) stage k sides (c .before .before .before .before .own .ensures P R t d stage loops ranks) (c .before .before .before .get .ensures .0) (c .before .before .get2 .ensures .0) (c .before .union .ensures) (c .union2 .ensures)
+returns c P R t d ready ranks k sides = gathered-found P R t d (c .before .before .before .before .own .result) (c .before .before .before .get .result) (c .before .before .get2 .result) (c .before .union .result) (c .union2 .result) (ready .stage) k sides (c .before .before .before .before .own .ensures P R t d ready ranks) (c .before .before .before .get .ensures .0) (c .before .before .get2 .ensures .0) (c .before .union .ensures) (c .union2 .ensures)
 
 pub gathered-spec : {M : Type 1} → statement M
 gathered-spec =

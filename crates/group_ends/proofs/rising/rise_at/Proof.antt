@@ -2,6 +2,7 @@
 use mathlib.Core.Path.{sym, _∙_}
 use mathlib.Core.Bool.{false≢true}
 use Rattle.group_ends.proofs.Ascending.{placed-rest, in-rest, rises-skip, rises-step}
+use Rattle.powers.proofs.Kept.{founded-ready}
 use borrow.Author.Needs.{needs}
 use Rattle.group_ends.proofs.rising.rise_at.Statement.{statement}
 use Rattle.group_ends.proofs.rising.rise_at.Tie as tie
@@ -25,7 +26,7 @@ same-length : tie.Need-same-length
 same-length c = search needs
 
 returns : tie.Need-returns
-returns c = let s = c .before .before .before .before .before .before .before .before .before .before .before .before .before .before .pre in rises-step (s .1) (λ P R t d z. c .before .before .before .before .before .before .before .before .before .before .before .is-skeleton .ensures t d (z .group) .0 (c .before .before .before .before .before .before .before .before .before .before .if1 .taken)) (λ P R t d z q. c .before .before .before .before .before .before .before .before .gathered .ensures P R t d (z .stage) (z .loops) (z .group .ranks) (c .before .before .before .before .before .before .before .before .before .before .before .is-skeleton .ensures t d (z .group) .0 (c .before .before .before .before .before .before .before .before .before .before .if1 .taken)) q) (c .before .before .before .before .before .before .put .ensures) (c .before .before .hand-up .ensures)
+returns c = let s = c .before .before .before .before .before .before .before .before .before .before .before .before .before .before .pre in rises-step (s .1) (λ P R t d z. c .before .before .before .before .before .before .before .before .before .before .before .is-skeleton .ensures t d (z .group) .0 (c .before .before .before .before .before .before .before .before .before .before .if1 .taken)) (λ P R t d z q. c .before .before .before .before .before .before .before .before .gathered .ensures P R t d (founded-ready (z .founded)) (z .group .ranks) (c .before .before .before .before .before .before .before .before .before .before .before .is-skeleton .ensures t d (z .group) .0 (c .before .before .before .before .before .before .before .before .before .before .if1 .taken)) q) (c .before .before .before .before .before .before .put .ensures) (c .before .before .hand-up .ensures)
 
 same-length-2 : tie.Need-same-length-2
 same-length-2 c = search needs

@@ -4,6 +4,7 @@ use mathlib.Core.Path.{_∙_}
 use native.Mathlib.Omega.{arith}
 use Rattle.layout.specs.Part.{MARK}
 use Rattle.layout.specs.Words.{cell}
+use Rattle.reach.proofs.Adding.{spared-front}
 use Rattle.rank_sets.proofs.Steady.{held-then, held-space, held-small, steady-marks}
 use Rattle.plain.proofs.Steady.{steady-reached}
 use Rattle.plain.proofs.Compared.{equal-steady, equal-told}
@@ -21,7 +22,7 @@ mark-ranks-requires : tie.Need-mark-ranks-requires
 mark-ranks-requires c κs =
     let x = c .before .before .before .before .before .before .before .before .before .before in let k = c .before .before .before .before .before .before .before .fill .ensures in let f = c .before .before .before .reach .ensures in
     let h = held-then (steady-marks (k .within) .held) (steady-reached f .held) in
-    (held-space h (x .pre .0), held-small h (x .pre .1), λ r l. f .spared .front (cell (x .args .n) MARK r) (omega arith) ∙ k .filled r l)
+    (held-space h (x .pre .0), held-small h (x .pre .1), λ r l. spared-front (f .spared) (cell (x .args .n) MARK r) (omega arith) ∙ k .filled r l)
 
 reach-requires-2 : tie.Need-reach-requires-2
 reach-requires-2 c κs = search needs

@@ -37,7 +37,7 @@ loop-again c =
     seeding-step (x .5) (x .6) (x .3) (b .loop .inv) (t .loop-test .taken) (s .seed .ensures) (c .get2 .ensures .0)
 
 same-length : tie.Need-same-length Inv-loop μ-loop
-same-length c = c .before .loop .inv .seeded .added .spared .long
+same-length c = c .before .loop .inv .seeded .added .spared .same .long
 
 returns : tie.Need-returns Inv-loop μ-loop
 returns c = seeding-all (c .before .loop .inv) (c .loop-test .left)

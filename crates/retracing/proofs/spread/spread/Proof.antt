@@ -36,7 +36,7 @@ loop-again : tie.Need-loop-again Inv-loop μ-loop
 loop-again c = backing-step (c .before .before .before .before .before .loop .inv) (c .before .before .before .before .loop-test .taken) (c .before .before .retrace .ensures)
 
 same-length : tie.Need-same-length Inv-loop μ-loop
-same-length c = c .before .loop .inv .grown .spared .long ∙ c .before .before .before .before .add .ensures .spared .long
+same-length c = c .before .loop .inv .grown .spared .same .long ∙ c .before .before .before .before .add .ensures .spared .same .long
 
 returns : tie.Need-returns Inv-loop μ-loop
 returns c =

@@ -3,7 +3,7 @@ use Prim.Native.Nat.{_<_}
 use mathlib.Core.Path.{sym, _∙_, subst}
 use mathlib.Core.Bool.{false≢true}
 use native.Mathlib.Omega.{arith}
-use Rattle.skeletons.proofs.Raising.{height, height-less}
+use Rattle.group_marks.proofs.Raising.{height, height-less}
 use Rattle.skeletons.proofs.Climbing.{Climbing, climbing-none, climbing-step, climbing-met, climbing-top}
 use Rattle.skeletons.proofs.skeleton.climb.Statement.{statement}
 use Rattle.skeletons.proofs.skeleton.climb.Tie as tie
