@@ -2,6 +2,7 @@
 use Prim.Native.Nat.{ℕ, _+_, _-_, _≤_, _<_}
 use mathlib.Core.Path.{_≡_, refl, sym, ap, _∙_, subst}
 use mathlib.Core.Logic.{_⊎_, inl, inr, _↔_}
+use mathlib.Core.Bool.{Bool, true, false, false≢true}
 use mathlib.Core.List.{List}
 use lib.ListN.{length, getD, take, drop, replicate, length-drop, length-replicate, getD-replicate, List·getD-eq-default}
 use lib.Seq.{take-all, getD-drop}
@@ -22,6 +23,13 @@ use Rattle.evaluation.specs.Outcomes.{refusedBy}
 use Rattle.select.specs.Session.{rest, Answered, Session}
 
 -- ── The two ways of `evaluate_input` ──
+pub not-longer : {b : Bool} {m n : ℕ} → (b ≡ true) ↔ (m < n) → b ≡ false → n ≤ m
+not-longer {b} {m} {n} f e = go (decLt m n)
+  where
+    go : Dec (m < n) → n ≤ m
+    go (yes l) = absurd (false≢true (sym e ∙ f .1 l))
+    go (no g) = omega arith
+
 pub answered-longer : (input scratch marks : List ℕ) → programInput < length input → Answered input scratch marks (refusedBy 1 0) scratch marks
 answered-longer input scratch marks l = record {
   longer = λ _. record { outcome = refl; sameScratch = refl; sameMarks = refl };

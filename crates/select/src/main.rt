@@ -35,7 +35,7 @@ fn evaluate_parts(
 fn evaluate_input(input: &[u8], scratch: &mut [u16], marks: &mut [u8]) -> Evaluation
     ensures { λ r. ⌜ Answered (now (input .entry)) (now (scratch .entry)) (now (marks .entry)) (outcomeOf r) (now (scratch .exit)) (now (marks .exit)) ⌝ }
 {
-    if input.len() > Program::MAX_INPUT {
+    if streams::is_longer(input) {
         return Evaluation {
             number: 1,
             place: 0,

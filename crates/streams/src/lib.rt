@@ -1,9 +1,22 @@
-// The two ends of a session: where the rule and the document stand in the input, and which nodes the output has.
+// The two ends of a session: whether the input is too long, where the rule and the document stand in it, and which nodes the output has.
+use limits::Program;
+ghost use mathlib.Core.Path.{_≡_};
+ghost use mathlib.Core.Bool.{true};
+ghost use mathlib.Core.Logic.{_↔_};
+ghost use Prim.Native.Nat.{_<_};
 ghost use lib.ListN.{length};
+ghost use Rattle.limits.specs.Limits.{programInput};
 ghost use Rattle.streams.specs.Input.{SplitAt};
 ghost use Rattle.streams.specs.Output.{NextMarked};
 
 const LF: u8 = 10;
+
+// Whether the input has more bytes than are read.
+pub fn is_longer(input: &[u8]) -> bool
+    ensures { λ r. ⌜ (r ≡ true) ↔ (programInput < length (now (input .entry))) ⌝ }
+{
+    input.len() > Program::MAX_INPUT
+}
 
 // Where the rule ends, and where the document begins.
 pub struct Bounds {
