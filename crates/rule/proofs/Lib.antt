@@ -1,7 +1,3 @@
-pub mod Tallied
-pub mod Calls
-pub mod Tests
-pub mod Paths
-pub mod Operands
 pub mod Counted
+pub mod Tallied
 pub mod Verdicts

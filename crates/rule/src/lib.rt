@@ -1,10 +1,7 @@
 // The rule check: any bytes get the verdict of numbers 5 to 9 of document 01.
-pub mod readers;
-mod tally;
-
 use limits::Rule;
-use readers::read_test;
-use tally::NOWHERE;
+use rule_readers::readers::read_test;
+use rule_readers::tally::NOWHERE;
 use tokens::read::Read;
 use tokens::read::Tally;
 ghost use mathlib.Core.Path.{_≡_};

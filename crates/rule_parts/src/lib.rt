@@ -3,8 +3,8 @@ pub mod kinds;
 
 use kinds::Operator;
 use kinds::read_sign;
-use rule::readers::read_path;
-use rule::readers::read_test;
+use rule_readers::readers::read_path;
+use rule_readers::readers::read_test;
 use tokens::read::Read;
 use tokens::read::Tally;
 ghost use mathlib.Core.Path.{_≡_};

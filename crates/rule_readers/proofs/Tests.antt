@@ -19,8 +19,8 @@ use Rattle.tokens.specs.declared.heads.TestHead.the-variants.{Name, Not, TwoTes
 use Rattle.tokens.specs.Tallies.{begun, weighed, noted, tallied}
 use Rattle.tokens.specs.Readers.{partsOf, sizeOf, Stands, Back, Halts, Reading}
 use Rattle.tokens.specs.Heads.{TestBegins}
-use Rattle.rule.specs.Calls.{Opened}
-use Rattle.rule.proofs.Tallied.{weighed-last}
+use Rattle.rule_readers.specs.Calls.{Opened}
+use Rattle.rule_readers.proofs.Tallied.{weighed-last}
 use Rattle.tokens.proofs.Halted.{back}
 use Rattle.tokens.proofs.Joins.{tallied-append, Lead, LeadParts, lead-reads, Fork, ForkParts, first-halts, second-halts, both, fork-reads, back-as}
 

@@ -1,9 +1,9 @@
--- `rule::tally::begin` meets its contract.
+-- `rule_readers::tally::begin` meets its contract.
 use native.Mathlib.Omega.{arith}
-use Rattle.rule.proofs.Tallied.{begun-some, begun-first, begun-later}
+use Rattle.rule_readers.proofs.Tallied.{begun-some, begun-first, begun-later}
 use borrow.Author.Needs.{needs}
-use Rattle.rule.proofs.tally.begin.Statement.{statement}
-use Rattle.rule.proofs.tally.begin.Tie as tie
+use Rattle.rule_readers.proofs.tally.begin.Statement.{statement}
+use Rattle.rule_readers.proofs.tally.begin.Tie as tie
 
 sub-t4 : tie.Need-sub-t4
 sub-t4 c = search needs

@@ -21,7 +21,7 @@ use Rattle.tokens.specs.Readers.{Stands, Back, Halts, Reading}
 use Rattle.tokens.specs.Heads.{PathByte, PathBegins}
 use Rattle.tokens.proofs.Halted.{back}
 use Rattle.tokens.proofs.Joins.{leaf-back, Lead, LeadParts, lead-reads, Fork, ForkParts, first-halts, fork-reads}
-use Rattle.rule.proofs.Tests.{only}
+use Rattle.rule_readers.proofs.Tests.{only}
 
 -- ── e l r L R ──
 module _ (s : List ℕ) {i n : ℕ} where

@@ -1,4 +1,4 @@
--- `rule::readers`: `comparison`, `read_path`, `read_test`, `second_operand` and `signed_operand` meet their contracts.
+-- `rule_readers::readers`: `comparison`, `read_path`, `read_test`, `second_operand` and `signed_operand` meet their contracts.
 -- What is left of the rule falls from call to call. What each reader leaves to be shown is answered in the order of its code: a sum fits, a call gets what it asks, an answer is right.
 use Prim.Native.Nat.{ℕ, _+_, _-_, _*_, _<_}
 use native.Mathlib.Omega.{arith}
@@ -12,34 +12,34 @@ use Rattle.tokens.specs.declared.heads.TestHead.{TestHead}
 use Rattle.tokens.specs.declared.heads.PathHead.{PathHead}
 use Rattle.tokens.specs.Readers.{Stands, Stood, SignRead}
 use Rattle.tokens.specs.Heads.{TestBegins, PathBegins}
-use Rattle.rule.proofs.Calls.{due, TestRoom, test-room, PathRoom, path-room}
+use Rattle.rule_readers.proofs.Calls.{due, TestRoom, test-room, PathRoom, path-room}
 use Rattle.tokens.proofs.Halted.{back, halted}
 use Rattle.tokens.proofs.Signs.{sign-forth}
-use Rattle.rule.proofs.Tests as tests
-use Rattle.rule.proofs.Paths as paths
-use Rattle.rule.proofs.Operands.{operand-halts, operand-reads, signed-reads}
-use Rattle.rule.proofs.readers.read_test.Kinds as kinds
-use Rattle.rule.proofs.readers.comparison.Reads as comparison
-use Rattle.rule.proofs.readers.+comparison+read_path+read_test+second_operand+signed_operand.Lts-comparison as comparison-lts
-use Rattle.rule.proofs.readers.read_path.Reads as read-path
-use Rattle.rule.proofs.readers.+comparison+read_path+read_test+second_operand+signed_operand.Lts-read_path as read-path-lts
-use Rattle.rule.proofs.readers.read_test.Reads as read-test
-use Rattle.rule.proofs.readers.+comparison+read_path+read_test+second_operand+signed_operand.Lts-read_test as read-test-lts
-use Rattle.rule.proofs.readers.second_operand.Reads as second-operand
-use Rattle.rule.proofs.readers.+comparison+read_path+read_test+second_operand+signed_operand.Lts-second_operand as second-operand-lts
-use Rattle.rule.proofs.readers.signed_operand.Reads as signed-operand
-use Rattle.rule.proofs.readers.+comparison+read_path+read_test+second_operand+signed_operand.Lts-signed_operand as signed-operand-lts
+use Rattle.rule_readers.proofs.Tests as tests
+use Rattle.rule_readers.proofs.Paths as paths
+use Rattle.rule_readers.proofs.Operands.{operand-halts, operand-reads, signed-reads}
+use Rattle.rule_readers.proofs.readers.read_test.Kinds as kinds
+use Rattle.rule_readers.proofs.readers.comparison.Reads as comparison
+use Rattle.rule_readers.proofs.readers.+comparison+read_path+read_test+second_operand+signed_operand.Lts-comparison as comparison-lts
+use Rattle.rule_readers.proofs.readers.read_path.Reads as read-path
+use Rattle.rule_readers.proofs.readers.+comparison+read_path+read_test+second_operand+signed_operand.Lts-read_path as read-path-lts
+use Rattle.rule_readers.proofs.readers.read_test.Reads as read-test
+use Rattle.rule_readers.proofs.readers.+comparison+read_path+read_test+second_operand+signed_operand.Lts-read_test as read-test-lts
+use Rattle.rule_readers.proofs.readers.second_operand.Reads as second-operand
+use Rattle.rule_readers.proofs.readers.+comparison+read_path+read_test+second_operand+signed_operand.Lts-second_operand as second-operand-lts
+use Rattle.rule_readers.proofs.readers.signed_operand.Reads as signed-operand
+use Rattle.rule_readers.proofs.readers.+comparison+read_path+read_test+second_operand+signed_operand.Lts-signed_operand as signed-operand-lts
 use Rattle.tokens.proofs.heads.path_head.Reads as path-head-reads
 use Rattle.tokens.proofs.heads.test_head.Reads as test-head-reads
-use Rattle.rule.proofs.tally.begin.Reads as begin-reads
-use Rattle.rule.proofs.tally.weigh.Reads as weigh-reads
+use Rattle.rule_readers.proofs.tally.begin.Reads as begin-reads
+use Rattle.rule_readers.proofs.tally.weigh.Reads as weigh-reads
 use Rattle.tokens.proofs.closing.Reads as closing-reads
 use Rattle.tokens.proofs.constant.Reads as constant-reads
 use Rattle.tokens.proofs.name.Reads as name-reads
 use Rattle.tokens.proofs.read_sign.Reads as read-sign-reads
 use Rattle.tokens.proofs.stands.Reads as stands-reads
-use Rattle.rule.proofs.readers.+comparison+read_path+read_test+second_operand+signed_operand.{statement}
-use Rattle.rule.proofs.readers.+comparison+read_path+read_test+second_operand+signed_operand.Tie.{close}
+use Rattle.rule_readers.proofs.readers.+comparison+read_path+read_test+second_operand+signed_operand.{statement}
+use Rattle.rule_readers.proofs.readers.+comparison+read_path+read_test+second_operand+signed_operand.Tie.{close}
 
 -- ── What is left of the rule ──
 -- all five readers have the same parameters; of two at one offset the one that calls the other has 1 more

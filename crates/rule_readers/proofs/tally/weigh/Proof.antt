@@ -1,8 +1,8 @@
--- `rule::tally::weigh` meets its contract.
+-- `rule_readers::tally::weigh` meets its contract.
 use native.Mathlib.Omega.{arith}
-use Rattle.rule.proofs.Tallied.{weighed-light, weighed-behind, weighed-here}
-use Rattle.rule.proofs.tally.weigh.Statement.{statement}
-use Rattle.rule.proofs.tally.weigh.Tie as tie
+use Rattle.rule_readers.proofs.Tallied.{weighed-light, weighed-behind, weighed-here}
+use Rattle.rule_readers.proofs.tally.weigh.Statement.{statement}
+use Rattle.rule_readers.proofs.tally.weigh.Tie as tie
 
 returns : tie.Need-returns
 returns c = weighed-light (c .before .args .t) (c .before .args .at) (c .before .args .steps) (c .if1 .taken)

@@ -16,7 +16,7 @@ use tokens::read_sign;
 use tokens::stands;
 ghost use Rattle.rule_spec.specs.Machine.{test, path, signed, operand};
 ghost use Rattle.tokens.specs.Readers.{Reading};
-ghost use Rattle.rule.specs.Calls.{Due, Opened};
+ghost use Rattle.rule_readers.specs.Calls.{Due, Opened};
 
 pub fn read_test(s: &[u8], at: usize, n: usize, k: usize, t: Tally) -> Read
     requires { ⌜ Due (now s) at n k ⌝ }

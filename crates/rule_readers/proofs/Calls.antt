@@ -9,7 +9,7 @@ use Rattle.tokens.specs.declared.heads.PathHead.{PathHead}
 use Rattle.tokens.specs.declared.heads.PathHead.the-variants.{Empty, Step, Bracket, TwoPaths, Star, NoPath, DeepPath}
 use Rattle.tokens.specs.Readers.{Stands}
 use Rattle.tokens.specs.Heads.{TestBegins, PathBegins}
-use Rattle.rule.specs.Calls.{Due}
+use Rattle.rule_readers.specs.Calls.{Due}
 
 pub due : {s : List ℕ} {i n k : ℕ} → i ≤ length s → n ≤ suc ruleNesting → k ≤ i → Due s i n k
 due h l f = record { inside = h; nested = l; few = f }

@@ -1,0 +1,5 @@
+pub mod Calls
+pub mod Tallied
+pub mod Operands
+pub mod Tests
+pub mod Paths
