@@ -1,4 +1,4 @@
--- `test_bits::labels::named` meets its contract.
+-- `labels::named` meets its contract.
 use Prim.Native.Nat.{_-_}
 use mathlib.Core.Path.{_≡_}
 use mathlib.Core.List.{List}
@@ -10,9 +10,10 @@ use Rattle.document_spec.specs.Verdict.{Accepts}
 use Rattle.table.specs.Links.{Linked}
 use Rattle.table.specs.Tabled.{Worked}
 use Rattle.table.proofs.Worked.{worked-linked, worked-tree}
-use Rattle.test_bits.proofs.Settling.{Settling, settling-none, settling-step, settling-all, settling-worked}
-use Rattle.test_bits.proofs.labels.named.Statement.{statement}
-use Rattle.test_bits.proofs.labels.named.Tie as tie
+use Rattle.test_bits.proofs.Settling.{Settling, settling-none, settling-step, settling-all}
+use Rattle.labels.proofs.Kept.{settling-worked}
+use Rattle.labels.proofs.named.Statement.{statement}
+use Rattle.labels.proofs.named.Tie as tie
 
 abbrev Inv-loop : tie.InvT-loop
 Inv-loop s rule t₀ n k from to v₀ t v =

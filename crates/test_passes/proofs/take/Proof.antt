@@ -1,14 +1,14 @@
--- `test_bits::passes::take` meets its contract.
+-- `test_passes::take` meets its contract.
 use Prim.Native.Nat.{_-_}
 use mathlib.Core.Path.{_≡_}
 use native.Mathlib.Omega.{arith}
 use native.Mathlib.Numerals.{add-one}
 use Rattle.layout.specs.Table.{COLUMNS}
 use Rattle.layout.specs.Words.{cell, word}
-use Rattle.test_bits.proofs.Told.{told-one}
+use Rattle.test_passes.proofs.Told.{told-one}
 use Rattle.test_bits.proofs.Settling.{Settling, settling-none, settling-step, settling-all}
-use Rattle.test_bits.proofs.passes.take.Statement.{statement}
-use Rattle.test_bits.proofs.passes.take.Tie as tie
+use Rattle.test_passes.proofs.take.Statement.{statement}
+use Rattle.test_passes.proofs.take.Tie as tie
 
 abbrev Inv-loop : tie.InvT-loop
 Inv-loop t₀ n k v₀ t v = Settling n k (λ u. word t₀ n COLUMNS u ≡ 1) v t₀ t

@@ -1,7 +1,7 @@
 // One pass over the nodes for each kind of test that is made of other tests.
-use crate::holds;
-use crate::notes::note;
 use layout::Table;
+use test_bits::holds;
+use test_bits::notes::note;
 ghost use mathlib.Core.Path.{_≡_};
 ghost use mathlib.Core.Bool.{true};
 ghost use mathlib.Core.Logic.{_⊎_};

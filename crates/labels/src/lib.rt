@@ -1,7 +1,7 @@
 // The test of a name: the labels of the nodes against some bytes of the rule.
-use crate::notes::note;
 use document_lines::entries::read_entry;
 use layout::words::offset;
+use test_bits::notes::note;
 ghost use mathlib.Core.Bool.{true};
 ghost use mathlib.Core.List.{List};
 ghost use mathlib.Core.Logic.{_↔_};

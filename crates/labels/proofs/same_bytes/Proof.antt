@@ -1,13 +1,13 @@
--- `test_bits::labels::same_bytes` meets its contract.
+-- `labels::same_bytes` meets its contract.
 use Prim.Native.Nat.{ℕ, _+_, _-_, _≤_, _<_}
 use mathlib.Core.Path.{_≡_, refl}
 use mathlib.Core.Bool.{false≢true}
 use native.Mathlib.Omega.{arith}
 use lib.ListN.{getD}
 use borrow.Author.Count.{below-more}
-use Rattle.test_bits.proofs.Spans.{slices-long, slices-agree, slices-same}
-use Rattle.test_bits.proofs.labels.same_bytes.Statement.{statement}
-use Rattle.test_bits.proofs.labels.same_bytes.Tie as tie
+use Rattle.labels.proofs.Spans.{slices-long, slices-agree, slices-same}
+use Rattle.labels.proofs.same_bytes.Statement.{statement}
+use Rattle.labels.proofs.same_bytes.Tie as tie
 
 -- ── The loop's invariant ──
 abbrev Inv-loop : tie.InvT-loop

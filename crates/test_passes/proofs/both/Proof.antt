@@ -1,14 +1,14 @@
--- `test_bits::passes::both` meets its contract.
+-- `test_passes::both` meets its contract.
 use Prim.Native.Nat.{_-_}
 use mathlib.Core.Path.{_≡_, _∙_}
 use mathlib.Core.Bool.{true}
 use native.Mathlib.Omega.{arith}
 use native.Mathlib.Numerals.{add-one}
 use Rattle.test_bits.specs.Columns.{held}
-use Rattle.test_bits.proofs.Told.{told-and}
+use Rattle.test_passes.proofs.Told.{told-and}
 use Rattle.test_bits.proofs.Settling.{Settling, settling-none, settling-here, settling-step, settling-all}
-use Rattle.test_bits.proofs.passes.both.Statement.{statement}
-use Rattle.test_bits.proofs.passes.both.Tie as tie
+use Rattle.test_passes.proofs.both.Statement.{statement}
+use Rattle.test_passes.proofs.both.Tie as tie
 
 abbrev Inv-loop : tie.InvT-loop
 Inv-loop t₀ n k a b v₀ t v = Settling n k (λ u. (held t₀ n a u ≡ true) × (held t₀ n b u ≡ true)) v t₀ t

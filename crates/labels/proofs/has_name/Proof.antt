@@ -1,4 +1,4 @@
--- `test_bits::labels::has_name` meets its contract.
+-- `labels::has_name` meets its contract.
 use mathlib.Core.Path.{_≡_, sym, subst}
 use mathlib.Core.Bool.{true}
 use mathlib.Core.Logic.{_↔_}
@@ -9,10 +9,10 @@ use Rattle.document_spec.specs.Verdict.{Accepts}
 use Rattle.document_lines.specs.Entries.{Stands}
 use Rattle.table.specs.Links.{Linked}
 use Rattle.table.proofs.Trees.{tree-stands}
-use Rattle.test_bits.proofs.Inside.{label-inside}
+use Rattle.labels.proofs.Inside.{label-inside}
 use borrow.Author.Needs.{needs}
-use Rattle.test_bits.proofs.labels.has_name.Statement.{statement}
-use Rattle.test_bits.proofs.labels.has_name.Tie as tie
+use Rattle.labels.proofs.has_name.Statement.{statement}
+use Rattle.labels.proofs.has_name.Tie as tie
 
 stands : (c : tie.After-offset) (ns : List Node) → Accepts (c .before .before .before .before .args .s .now) ns
     → Linked (c .before .before .before .before .args .s .now) ns (c .before .before .before .before .args .t .now)
