@@ -1,8 +1,8 @@
--- `test_numbers::tests_of` meets its contract.
-use Rattle.test_numbers.proofs.Listing.{rule-room, rule-listed}
+-- `test_places::tests_of` meets its contract.
+use Rattle.test_places.proofs.Listing.{rule-room, rule-listed}
 use borrow.Author.Needs.{needs}
-use Rattle.test_numbers.proofs.tests_of.Statement.{statement}
-use Rattle.test_numbers.proofs.tests_of.Tie as tie
+use Rattle.test_places.proofs.tests_of.Statement.{statement}
+use Rattle.test_places.proofs.tests_of.Tie as tie
 
 list-test-requires : tie.Need-list-test-requires
 list-test-requires c κs = let z = c .before .before .before .pre in (rule-room _ (z .0 .1), z .1)

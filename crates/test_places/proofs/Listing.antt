@@ -19,11 +19,11 @@ use Rattle.rule_parts.specs.declared.kinds.TestKind.the-variants.{Named, Not, C
 use Rattle.rule_parts.specs.declared.kinds.PathKind.{PathKind}
 use Rattle.rule_parts.specs.declared.kinds.PathKind.the-variants.{Stay, Star}
 use Rattle.rule_parts.proofs.Inner.{rule-at}
-use Rattle.test_numbers.specs.Tests.{testsOf, pathTests, test}
-use Rattle.test_numbers.specs.Numbering.{Listed}
-use Rattle.test_numbers.specs.Walks.{inside, Written, Room, Lists}
+use Rattle.test_numbers.specs.Tests.{testsOf, pathTests, test, inside}
 use Rattle.test_numbers.proofs.Counts.{tests-first, tests-few}
-use Rattle.test_numbers.proofs.Shapes.{path-head, test-long, path-long, testTag, pathTag, Second, path, constant, test-of, two-of, path-of, testless-of, pair-of}
+use Rattle.test_numbers.proofs.Shapes.{path-head, test-long, path-long, pathTag, path-of, testless-of, pair-of}
+use Rattle.test_places.specs.Places.{Listed, Written, Room, Lists}
+use Rattle.test_places.proofs.Shapes.{testTag, Second, path, constant, test-of, two-of}
 
 module _ (s : List ℕ) where
   -- ── What is written ──

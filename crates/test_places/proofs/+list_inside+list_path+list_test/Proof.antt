@@ -1,30 +1,30 @@
--- `test_numbers::list_test`, `list_inside` and `list_path` meet their contracts. What is left of the rule falls from call to call.
+-- `test_places::list_test`, `list_inside` and `list_path` meet their contracts. What is left of the rule falls from call to call.
 use Prim.Native.Nat.{ℕ, _+_, _-_, _*_, _<_}
 use native.Mathlib.Omega.{arith}
 use mathlib.Core.Path.{subst, _∙_}
 use lib.ListN.{length, length-set}
 use borrow.Author.Needs.{needs}
 use Rattle.tokens.specs.Readers.{Stood}
-use Rattle.test_numbers.proofs.Listing.{first-room, second-room, test-room-long, path-room-long, inside-room, one-room, test-lists, named-lists, not-room, not-lists, tests-two, two-lists, side-inside, side-room, constant-lists, sides-two, sides-lists, testless-lists, bracket-room, bracket-lists, star-room, star-lists, paths-two, pair-lists}
+use Rattle.test_places.proofs.Listing.{first-room, second-room, test-room-long, path-room-long, inside-room, one-room, test-lists, named-lists, not-room, not-lists, tests-two, two-lists, side-inside, side-room, constant-lists, sides-two, sides-lists, testless-lists, bracket-room, bracket-lists, star-room, star-lists, paths-two, pair-lists}
 use borrow.Fn.Kinds.{In}
 use borrow.Fn.PlainCycle.{Measures, is, falls, and}
-use Rattle.test_numbers.proofs.list_inside.Reads as list-inside
-use Rattle.test_numbers.proofs.list_inside.Kinds as list-inside-kinds
-use Rattle.test_numbers.proofs.+list_inside+list_path+list_test.Lts-list_inside as list-inside-lts
-use Rattle.test_numbers.proofs.list_path.Reads as list-path
-use Rattle.test_numbers.proofs.list_path.Kinds as list-path-kinds
-use Rattle.test_numbers.proofs.+list_inside+list_path+list_test.Lts-list_path as list-path-lts
-use Rattle.test_numbers.proofs.list_test.Reads as list-test
-use Rattle.test_numbers.proofs.list_test.Kinds as list-test-kinds
-use Rattle.test_numbers.proofs.+list_inside+list_path+list_test.Lts-list_test as list-test-lts
+use Rattle.test_places.proofs.list_inside.Reads as list-inside
+use Rattle.test_places.proofs.list_inside.Kinds as list-inside-kinds
+use Rattle.test_places.proofs.+list_inside+list_path+list_test.Lts-list_inside as list-inside-lts
+use Rattle.test_places.proofs.list_path.Reads as list-path
+use Rattle.test_places.proofs.list_path.Kinds as list-path-kinds
+use Rattle.test_places.proofs.+list_inside+list_path+list_test.Lts-list_path as list-path-lts
+use Rattle.test_places.proofs.list_test.Reads as list-test
+use Rattle.test_places.proofs.list_test.Kinds as list-test-kinds
+use Rattle.test_places.proofs.+list_inside+list_path+list_test.Lts-list_test as list-test-lts
 use Rattle.rule_parts.proofs.kinds.path_kind.Reads as path-kind-reads
 use Rattle.rule_parts.proofs.kinds.test_kind.Reads as test-kind-reads
 use Rattle.rule_parts.proofs.parted.Reads as parted-reads
 use Rattle.rule_parts.proofs.skip_path.Reads as skip-path-reads
 use Rattle.rule_parts.proofs.skip_test.Reads as skip-test-reads
 use Rattle.tokens.proofs.stands.Reads as stands-reads
-use Rattle.test_numbers.proofs.+list_inside+list_path+list_test.{statement}
-use Rattle.test_numbers.proofs.+list_inside+list_path+list_test.Tie.{close}
+use Rattle.test_places.proofs.+list_inside+list_path+list_test.{statement}
+use Rattle.test_places.proofs.+list_inside+list_path+list_test.Tie.{close}
 
 -- ── The measures, and what the calls claim ──
 abbrev μ-list-inside : Measures 2 list-inside-kinds.ps ℕ
