@@ -12,12 +12,14 @@ use Rattle.positions.specs.Positions.{Follows, second}
 use Rattle.positions.specs.Glushkov.{Nullable, Begins, Next}
 use Rattle.positions.proofs.Chains.{RightAfter, follows-iff, last-iff}
 use Rattle.rule_parts.specs.Standing.{PathAt}
-use Rattle.automaton.specs.declared.sets.Scan.{Scan}
+use Rattle.path_sets.specs.declared.sets.Scan.{Scan}
+use Rattle.path_sets.specs.Scanned.{Sets, Scans}
+use Rattle.path_sets.specs.Paths.{Room, OnePath, TwoPaths}
+use Rattle.path_sets.proofs.Truth.{tells-or, tells-and, tells-more, through}
+use Rattle.path_sets.proofs.SetLaws.{single-tells}
 use Rattle.automaton.specs.declared.automaton.Automaton.{Automaton}
-use Rattle.automaton.specs.Scanned.{Sets, Room, Scans, Related, Relates}
-use Rattle.automaton.specs.Compared.{Ended, Started, OnePath, TwoPaths, Sums, Tells, TellsAlone, TellsFollow, TellsFollowAlone}
-use Rattle.automaton.proofs.Truth.{tells-or, tells-and, tells-more, through}
-use Rattle.automaton.proofs.SetLaws.{single-tells}
+use Rattle.automaton.specs.Following.{Related, Relates}
+use Rattle.automaton.specs.Compared.{Ended, Started, Sums, Tells, TellsAlone, TellsFollow, TellsFollowAlone}
 use Rattle.automaton.proofs.Relations.{Joined, joined-tells, clear-tells}
 
 -- ── The start n of a path: w is the set of n alone ──
@@ -77,9 +79,6 @@ first-iff P i j = (λ h. to (follows-iff P empty i j .0 h), λ h. follows-iff P 
     to (inr (inr h)) = absurd h
 
 module _ (s : List ℕ) (at : ℕ) where
-  pub path-room : OnePath s at → Room s at 1
-  path-room (P, j, a, l) = (P, j, a, omega arith)
-
   module _ {p : Scan} (one : Scans s at 1 p) where
     module _ {q : Scan} (none : Sets empty (p .count) q) where
       pub one-small : OnePath s at → Small p q
@@ -107,9 +106,6 @@ module _ (s : List ℕ) (at : ℕ) where
             to (inr x) = x
 
 module _ (s : List ℕ) (at behind : ℕ) where
-  pub first-of : TwoPaths s at behind → OnePath s at
-  first-of (P, R, j, k, a, b, l) = (P, j, a, omega arith)
-
   module _ {p : Scan} (one : Scans s at 1 p) where
     pub second-room : TwoPaths s at behind → Room s behind (p .count)
     second-room (P, R, j, k, a, b, l) = let n = one P j a (omega arith) .sets .count in (R, k, b, omega arith)

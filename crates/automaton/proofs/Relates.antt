@@ -11,12 +11,13 @@ use Rattle.rule_parts.specs.Kinds.{pathKind}
 use Rattle.rule_parts.specs.declared.kinds.PathKind.{PathKind}
 use Rattle.rule_parts.specs.declared.kinds.PathKind.the-variants.{Seq, Union, Star}
 use Rattle.rule_parts.proofs.Inner.{seq-inner, union-inner, star-inner}
-use Rattle.automaton.specs.declared.sets.Scan.{Scan}
-use Rattle.automaton.specs.Scanned.{Scans, Related, Relates}
-use Rattle.automaton.proofs.Truth.{tells-more}
+use Rattle.path_sets.specs.declared.sets.Scan.{Scan}
+use Rattle.path_sets.specs.Scanned.{Scans}
+use Rattle.path_sets.proofs.Truth.{tells-more}
+use Rattle.path_sets.proofs.Shapes.{Leaves, shaped, no-next}
+use Rattle.path_sets.proofs.Scans.{two-scanned}
+use Rattle.automaton.specs.Following.{Related, Relates}
 use Rattle.automaton.proofs.Relations.{Joined, joined-tells, same-tells}
-use Rattle.automaton.proofs.Shapes.{Leaves, shaped, no-next}
-use Rattle.automaton.proofs.Scans.{two-scanned}
 
 module _ (s : List ℕ) {at : ℕ} {k : PathKind} (kind : (P : XPath) (j : ℕ) → PathAt s P at j → k ≡ pathKind P) {b : ℕ} where
   -- what is told of a path is told of the path that it is

@@ -10,8 +10,8 @@ use Rattle.bits.specs.Sets.{bit, or, and}
 use Rattle.bits.specs.Square.{cell}
 use Rattle.xpath.specs.Syntax.{XPath}
 use Rattle.positions.specs.Glushkov.{Next}
-use Rattle.automaton.specs.Scanned.{Related}
-use Rattle.automaton.proofs.Truth.{tells-or, tells-and}
+use Rattle.path_sets.proofs.Truth.{tells-or, tells-and}
+use Rattle.automaton.specs.Following.{Related}
 
 -- every member of v follows every member of u
 abbrev pub Joined : ℕ → ℕ → List (List Bool) → List (List Bool) → Type 0

@@ -11,9 +11,9 @@ use Rattle.xpath.specs.Syntax.{XPath, empty, size}
 use Rattle.positions.specs.Positions.{Follows, IsLast}
 use Rattle.positions.specs.Glushkov.{Nullable, Begins, Stops}
 use Rattle.rule_parts.specs.Standing.{PathAt}
-use Rattle.automaton.specs.declared.sets.Scan.{Scan}
+use Rattle.path_sets.specs.declared.sets.Scan.{Scan}
+use Rattle.path_sets.specs.Scanned.{Sets}
 use Rattle.automaton.specs.declared.automaton.Automaton.{Automaton}
-use Rattle.automaton.specs.Scanned.{Sets}
 
 module _ (P : XPath) (b n : ℕ) where
   -- the last positions of P, whose start is n
@@ -39,11 +39,7 @@ abbrev pub Sums : Scan → Scan → Automaton → Type 0
 Sums p q r = (P R : XPath) → Sets P 1 p → Sets R (suc (size P)) q → IsAutomaton P R r
 
 module _ (s : List ℕ) (at : ℕ) where
-  -- a path stands at the offset, and its steps are not too many for a comparison
-  abbrev pub OnePath : Type 0
-  OnePath = (P : XPath) × (j : ℕ) × PathAt s P at j × (size P ≤ comparisonSteps)
-
-  -- whatever path stands there, this is the automaton of it and an empty one
+  -- whatever path stands at the offset, this is the automaton of it and an empty one
   abbrev pub TellsAlone : Automaton → Type 0
   TellsAlone r = (P : XPath) (j : ℕ) → PathAt s P at j → size P ≤ comparisonSteps → IsAutomaton P empty r
 
@@ -52,11 +48,7 @@ module _ (s : List ℕ) (at : ℕ) where
   TellsFollowAlone f = (P : XPath) (j : ℕ) → PathAt s P at j → size P ≤ comparisonSteps → FollowSquare P empty f
 
 module _ (s : List ℕ) (at behind : ℕ) where
-  -- two paths stand at the offsets, and their steps are not too many for a comparison
-  abbrev pub TwoPaths : Type 0
-  TwoPaths = (P R : XPath) × (j k : ℕ) × PathAt s P at j × PathAt s R behind k × (size P + size R ≤ comparisonSteps)
-
-  -- whatever paths stand there, this is their automaton
+  -- whatever paths stand at the offsets, this is their automaton
   abbrev pub Tells : Automaton → Type 0
   Tells r = (P R : XPath) (j k : ℕ) → PathAt s P at j → PathAt s R behind k → size P + size R ≤ comparisonSteps → IsAutomaton P R r
 

@@ -1,3 +1,2 @@
-pub mod Scanned
+pub mod Following
 pub mod Compared
-pub mod Places

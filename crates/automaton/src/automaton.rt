@@ -1,15 +1,16 @@
 // The automaton of a comparison's two paths: 0 is the first path's start, m + 1 the second's.
-use crate::scan::scan;
-use crate::sets::Scan;
-use crate::sets::given;
-use crate::sets::no_step;
 use bits::insert;
 use bits::union;
+use path_sets::scan::scan;
+use path_sets::sets::Scan;
+use path_sets::sets::given;
+use path_sets::sets::no_step;
 ghost use Prim.Native.Nat.{ℕ, _<_};
 ghost use Rattle.limits.specs.Limits.{positions};
 ghost use Rattle.xpath.specs.Syntax.{XPath};
-ghost use Rattle.automaton.specs.Scanned.{Sets};
-ghost use Rattle.automaton.specs.Compared.{Ended, OnePath, TwoPaths, Sums, Tells, TellsAlone};
+ghost use Rattle.path_sets.specs.Scanned.{Sets};
+ghost use Rattle.path_sets.specs.Paths.{OnePath, TwoPaths};
+ghost use Rattle.automaton.specs.Compared.{Ended, Sums, Tells, TellsAlone};
 
 // middle is the number of the first path's last step, count that of the second's. Which position follows which is a square beside it (`follow`), since a struct with an array of arrays is not covered.
 pub struct Automaton {

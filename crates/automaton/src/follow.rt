@@ -1,16 +1,17 @@
 // Which position of a comparison may follow which: a square, by value.
 use crate::relation::related;
-use crate::scan::scan;
-use crate::sets::Scan;
 use bits::insert;
 use bits::square::Square;
 use bits::square::empty;
 use bits::square::joined;
+use path_sets::scan::scan;
+use path_sets::sets::Scan;
 ghost use Prim.Native.Nat.{ℕ, _<_};
 ghost use Rattle.limits.specs.Limits.{positions};
 ghost use Rattle.xpath.specs.Syntax.{XPath};
-ghost use Rattle.automaton.specs.Scanned.{Sets};
-ghost use Rattle.automaton.specs.Compared.{Started, OnePath, TwoPaths, TellsFollow, TellsFollowAlone};
+ghost use Rattle.path_sets.specs.Scanned.{Sets};
+ghost use Rattle.path_sets.specs.Paths.{OnePath, TwoPaths};
+ghost use Rattle.automaton.specs.Compared.{Started, TellsFollow, TellsFollowAlone};
 
 // The first steps of the path that was scanned follow its start n.
 fn started(f: Square, p: Scan, n: usize) -> Square

@@ -1,7 +1,4 @@
 // The position automaton (Glushkov) of a comparison's paths, from the bytes of an accepted rule.
 pub mod automaton;
 pub mod follow;
-pub mod places;
 pub mod relation;
-pub mod scan;
-pub mod sets;

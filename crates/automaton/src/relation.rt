@@ -1,10 +1,11 @@
 // What follows what in a path, by a walk over its bytes that hands the square on by value. The sets of the parts are scanned anew at each level: a function returns one thing, and these paths are short.
-use crate::scan::scan;
 use bits::square::Square;
 use bits::square::joined;
+use path_sets::scan::scan;
 use rule_parts::kinds::PathKind;
 use rule_parts::kinds::path_kind;
-ghost use Rattle.automaton.specs.Scanned.{Room, Relates};
+ghost use Rattle.path_sets.specs.Paths.{Room};
+ghost use Rattle.automaton.specs.Following.{Relates};
 
 // The square with what follows in the path at an offset added; its steps are numbered from b.
 pub fn related(s: &[u8], at: usize, b: usize, f: Square) -> Square

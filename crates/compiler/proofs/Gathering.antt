@@ -12,7 +12,7 @@ use Rattle.rule_spec.proofs.Bytes.{clash, eq-iff}
 use Rattle.bits.specs.Sets.{bit, is, or}
 use Rattle.bits.specs.Square.{cell}
 use Rattle.bits.proofs.SetLaws.{bit-none}
-use Rattle.automaton.proofs.Truth.{tells-or}
+use Rattle.path_sets.proofs.Truth.{tells-or}
 use Rattle.compiler.specs.Gathered.{Gathered}
 
 module _ (B : ℕ → Type 0) (i : ℕ) where

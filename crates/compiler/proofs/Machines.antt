@@ -18,10 +18,11 @@ use Rattle.rule_parts.specs.Standing.{PathAt}
 use Rattle.rule_parts.specs.declared.kinds.PathKind.{PathKind}
 use Rattle.rule_parts.specs.declared.kinds.PathKind.the-variants.{Empty, ToLeft, ToRight, FromLeft, FromRight, Stay, Seq, Union, Star}
 use Rattle.rule_parts.proofs.Told.{pathBy}
+use Rattle.path_sets.specs.Paths.{TwoPaths}
+use Rattle.path_sets.proofs.Shapes.{path-long}
+use Rattle.step_places.specs.Places.{Placed, Places, PlacesAlone}
 use Rattle.automaton.specs.declared.automaton.Automaton.{Automaton}
-use Rattle.automaton.specs.Compared.{TwoPaths, Tells, TellsAlone, TellsFollow, TellsFollowAlone}
-use Rattle.automaton.specs.Places.{Placed, Places, PlacesAlone}
-use Rattle.automaton.proofs.Shapes.{path-long}
+use Rattle.automaton.specs.Compared.{Tells, TellsAlone, TellsFollow, TellsFollowAlone}
 use Rattle.machine.specs.declared.Machine.{Machine}
 use Rattle.machine.specs.Meaning.{IsStep}
 use Rattle.compiler.specs.Gathered.{Gathered, Inside, Begins}

@@ -5,12 +5,12 @@ use mathlib.Core.List.{List, _++_}
 use Rattle.limits.specs.Limits.{comparisonSteps}
 use Rattle.xpath.specs.Syntax.{XPath, empty, steps, size}
 use Rattle.rule_parts.specs.Standing.{PathAt}
+use Rattle.step_places.specs.Places.{Placed}
 use Rattle.automaton.specs.declared.automaton.Automaton.{Automaton}
 use Rattle.automaton.specs.Compared.{FollowSquare, IsAutomaton}
-use Rattle.automaton.specs.Places.{Placed}
 use Rattle.machine.specs.declared.Machine.{Machine}
 use Rattle.machine.specs.Meaning.{IsMachine}
-pub use Rattle.automaton.specs.Compared.{OnePath}
+pub use Rattle.path_sets.specs.Paths.{OnePath}
 
 module _ (s : List ℕ) (f : List (List Bool)) (a : Automaton) (places : List ℕ) where
   -- what is known of the paths P and R: their square, their automaton, and where their steps stand

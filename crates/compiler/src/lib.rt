@@ -7,15 +7,15 @@ use automaton::automaton::automaton_of;
 use automaton::automaton::automaton_of_one;
 use automaton::follow::follow_of;
 use automaton::follow::follow_of_one;
-use automaton::places::places_of;
-use automaton::places::places_of_one;
 use bits::square::Square;
 use limits::Rule;
 use machine::Machine;
 use rows::rows_of;
+use step_places::places_of;
+use step_places::places_of_one;
 use steps::steps_with;
 use steps::up_to;
-ghost use Rattle.automaton.specs.Compared.{TwoPaths};
+ghost use Rattle.path_sets.specs.Paths.{TwoPaths};
 ghost use Rattle.compiler.specs.Machines.{Known, Machines, Machined, OnePath, MachinedAlone};
 
 // The automaton and the square beside it as words, and the steps by the byte that each begins with.

@@ -8,7 +8,7 @@ use lib.ListN.{length}
 use Rattle.xpath.specs.Syntax.{Test, empty, size}
 use Rattle.document_spec.specs.Library.{Node}
 use Rattle.rule_parts.specs.declared.kinds.Operator.{Operator}
-use Rattle.automaton.specs.Compared.{TwoPaths}
+use Rattle.path_sets.specs.Paths.{TwoPaths}
 use Rattle.test_numbers.specs.Tests.{testsOf, pathTests, test, Light}
 use Rattle.test_numbers.specs.Numbering.{Brackets, TwoNumbered, NumbersTwo, OneNumbered, NumbersOne}
 use Rattle.test_numbers.proofs.Counts.{tests-few}

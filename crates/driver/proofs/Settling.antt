@@ -17,7 +17,7 @@ use Rattle.layout.specs.Words.{word}
 use Rattle.layout.proofs.Frames.{frame-none, frame-then, frame-wider, within-frame}
 use Rattle.test_bits.specs.Columns.{Settled}
 use Rattle.test_numbers.specs.Tests.{testsOf, test}
-use Rattle.test_numbers.specs.Numbering.{Listed}
+use Rattle.test_places.specs.Places.{Listed}
 use Rattle.driver.specs.Tasks.{Scene, Tells, Task, Answers, Decided, Settling}
 use Rattle.driver.proofs.Frames.{scratch-room, held-apart, scene-same}
 

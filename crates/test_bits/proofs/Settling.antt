@@ -6,10 +6,9 @@ use mathlib.Core.Bool.{Bool, true}
 use mathlib.Core.List.{List}
 use native.Mathlib.Omega.{arith}
 use native.Mathlib.Decide.{ℕ-discrete}
-use Rattle.table.specs.Tabled.{Worked}
 use Rattle.layout.specs.Table.{TESTS}
 use Rattle.layout.specs.Words.{Within}
-use Rattle.layout.proofs.Frames.{within-none, within-then, within-more}
+use Rattle.layout.proofs.Frames.{within-none, within-then}
 use Rattle.test_bits.specs.Columns.{testWords, held, Settled, Noted}
 
 -- bit k is written for the nodes below i, and all else is as before
@@ -50,7 +49,3 @@ settling-all l g =
       others = λ j v m d r. g .others j v m r (λ z. d (z .0));
       within = g .within;
     }
-
--- while a pass runs the tree's own columns are not touched
-pub settling-worked : {n k : ℕ} {A : ℕ → Type 0} {i : ℕ} {t t′ : List ℕ} → Settling n k A i t t′ → Worked n t t′
-settling-worked g = within-more (omega arith) (omega arith) (g .within)

@@ -1,7 +1,5 @@
 // Where the tests of a rule hold: for each node four words of the table, with a bit for each test.
-pub mod labels;
-mod notes;
-pub mod passes;
+pub mod notes;
 
 use layout::Table;
 use layout::words::get;

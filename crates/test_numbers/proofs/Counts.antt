@@ -9,8 +9,7 @@ use Rattle.rule_spec.specs.Spelling.{sign, spellTest, spellPath}
 use Rattle.rule_spec.specs.Parts.{Part, tests, parts, testParts, pathParts, stepParts}
 use Rattle.rule_spec.specs.Verdict.{Accepts}
 use Rattle.rule_parts.proofs.Count.{tests-append}
-use Rattle.test_numbers.specs.Tests.{testsOf, pathTests, stepTests, test}
-use Rattle.test_numbers.specs.Walks.{inside}
+use Rattle.test_numbers.specs.Tests.{testsOf, pathTests, stepTests, test, inside}
 
 -- ── A test comes first among its tests ──
 pub tests-first : (T : Test) → testsOf T ≡ T ∷ inside T

@@ -8,8 +8,7 @@ use mathlib.Core.List.{List, [], _∷_, _++_, append-assoc, append-nil}
 use lib.ListN.{length, drop, length-append, length-drop, List·getD-eq-default, List·getD-append}
 use lib.Seq.{getD-drop, getD-append-add}
 use Rattle.xpath.specs.Syntax.{Op, Test, named, not, and, or, compare, compareTo, XPath, empty, one, seq, union, star, Step, toLeft, toRight, fromLeft, fromRight, stay}
-use Rattle.test_numbers.specs.Tests.{testsOf, pathTests, stepTests, test}
-use Rattle.test_numbers.specs.Walks.{inside}
+use Rattle.test_numbers.specs.Tests.{testsOf, pathTests, stepTests, test, inside}
 use Rattle.test_numbers.proofs.Counts.{tests-first, tests-some}
 
 -- every test of a list is followed by the tests inside it

@@ -3,5 +3,4 @@ pub mod Lights
 pub mod Counted
 pub mod Following
 pub mod Shapes
-pub mod Listing
 pub mod Bracketing

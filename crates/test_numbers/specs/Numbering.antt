@@ -1,4 +1,4 @@
--- Where the numbered tests stand, and the numbers of the tests inside a test.
+-- The numbers of the tests in the brackets of paths.
 use Prim.Native.Nat.{ℕ, _+_, _≤_, _<_}
 use mathlib.Core.Path.{_≡_}
 use mathlib.Core.List.{List, _++_}
@@ -6,13 +6,8 @@ use lib.ListN.{length, getD}
 use Rattle.limits.specs.Limits.{positions, comparisonSteps, ruleTests}
 use Rattle.xpath.specs.Syntax.{Test, XPath, empty, stay, steps, size}
 use Rattle.positions.specs.Positions.{Numbered}
-use Rattle.rule_parts.specs.Standing.{TestAt, PathAt}
-use Rattle.test_numbers.specs.Tests.{testsOf, pathTests, test}
-
--- offset k is that of test k
-pub record Listed (s : List ℕ) (T : Test) (offsets : List ℕ) (count : ℕ) : Type 0 where
-  pub all : count ≡ length (testsOf T)
-  pub stands : (k : ℕ) → k < count → (j : ℕ) × TestAt s (test (testsOf T) k) (getD offsets k 0) j
+use Rattle.rule_parts.specs.Standing.{PathAt}
+use Rattle.test_numbers.specs.Tests.{pathTests, test}
 
 -- the tests of the paths P and R are numbered from k on: position i has the number of its bracketed test
 pub record Brackets (P R : XPath) (k : ℕ) (numbers : List ℕ) : Type 0 where

@@ -28,6 +28,15 @@ unfoldable mutual
   stepTests fromRight = []
   stepTests (stay T) = testsOf T
 
+-- the tests that begin inside a test, itself left out
+abbrev pub inside : Test → List Test
+inside (named a) = []
+inside (not T) = testsOf T
+inside (and T U) = testsOf T ++ testsOf U
+inside (or T U) = testsOf T ++ testsOf U
+inside (compare o P R) = pathTests P ++ pathTests R
+inside (compareTo o P c) = pathTests P
+
 -- number k in a list
 abbrev pub test : List Test → ℕ → Test
 test Ts k = getD Ts k (named [])

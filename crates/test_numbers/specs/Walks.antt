@@ -1,42 +1,15 @@
--- What the walks over the rule's bytes write: the offsets of the tests, and the numbers of the tests in brackets.
+-- What a walk over a path's bytes writes: the numbers of the tests in its brackets.
 use Prim.Native.Nat.{ℕ, _+_, _≤_, _<_}
 use mathlib.Core.Path.{_≡_}
-use mathlib.Core.List.{List, [], _++_}
+use mathlib.Core.List.{List}
 use lib.ListN.{length, getD}
 use Rattle.limits.specs.Limits.{positions, ruleTests}
-use Rattle.xpath.specs.Syntax.{Test, named, not, and, or, compare, compareTo, XPath, Step, stay, steps, size}
+use Rattle.xpath.specs.Syntax.{Test, XPath, Step, stay, steps, size}
 use Rattle.positions.specs.Positions.{Numbered}
-use Rattle.rule_parts.specs.Standing.{TestAt, PathAt}
-use Rattle.test_numbers.specs.Tests.{testsOf, pathTests, test}
+use Rattle.rule_parts.specs.Standing.{PathAt}
+use Rattle.test_numbers.specs.Tests.{pathTests, test}
 use Rattle.test_numbers.specs.declared.Next.{Next}
 
--- the tests that begin inside a test, itself left out
-abbrev pub inside : Test → List Test
-inside (named a) = []
-inside (not T) = testsOf T
-inside (and T U) = testsOf T ++ testsOf U
-inside (or T U) = testsOf T ++ testsOf U
-inside (compare o P R) = pathTests P ++ pathTests R
-inside (compareTo o P c) = pathTests P
-
--- ── Offsets ──
--- the tests Ts stand at the offsets from number k on, those below k are as they were, and r is the next number
-pub record Written (s : List ℕ) (Ts : List Test) (k : ℕ) (before after : List ℕ) (r : ℕ) : Type 0 where
-  pub stands : (e : ℕ) → e < length Ts → (j : ℕ) × TestAt s (test Ts e) (getD after (k + e) 0) j
-  pub kept : (i : ℕ) → i < k → getD after i 0 ≡ getD before i 0
-  pub next : r ≡ k + length Ts
-
--- of what may stand at an offset, a test or a path: where it stands, and its tests
-module _ {A : Type 0} (At : A → ℕ → ℕ → Type 0) (tests : A → List Test) (at k : ℕ) where
-  -- one stands at the offset, and its tests have numbers below 64 from k on
-  abbrev pub Room : Type 0
-  Room = (x : A) × (j : ℕ) × At x at j × (k + length (tests x) ≤ ruleTests)
-
-  -- whatever stands there, its tests are written from number k on
-  abbrev pub Lists : List ℕ → List ℕ → List ℕ → ℕ → Type 0
-  Lists s before after r = (x : A) (j : ℕ) → At x at j → k + length (tests x) ≤ ruleTests → Written s (tests x) k before after r
-
--- ── Brackets ──
 -- the steps xs are numbered from b and their tests Ts from k: each bracket has the number of its test
 abbrev pub Bracketed : List Step → List Test → ℕ → ℕ → List ℕ → Type 0
 Bracketed xs Ts b k numbers =

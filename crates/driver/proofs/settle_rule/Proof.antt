@@ -7,7 +7,7 @@ use lib.ListN.{length}
 use Rattle.xpath.specs.Syntax.{Test}
 use Rattle.document_spec.specs.Library.{Node}
 use Rattle.rule_spec.specs.Verdict.{Accepts}
-use Rattle.test_numbers.specs.Numbering.{Listed}
+use Rattle.test_places.specs.Places.{Listed}
 use Rattle.test_numbers.proofs.Counts.{tests-few}
 use Rattle.driver.specs.Tasks.{Scene}
 use Rattle.driver.proofs.Settling.{task}

@@ -1,5 +1,6 @@
 -- `automaton::automaton::automaton_of` meets its contract.
-use Rattle.automaton.proofs.Compared.{first-of, path-room, second-room, two-small, two-told}
+use Rattle.path_sets.proofs.Shapes.{first-of, path-room}
+use Rattle.automaton.proofs.Compared.{second-room, two-small, two-told}
 use Rattle.automaton.proofs.automaton.automaton_of.Statement.{statement}
 use Rattle.automaton.proofs.automaton.automaton_of.Tie as tie
 

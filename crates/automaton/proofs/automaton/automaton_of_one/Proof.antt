@@ -1,5 +1,6 @@
 -- `automaton::automaton::automaton_of_one` meets its contract.
-use Rattle.automaton.proofs.Compared.{path-room, one-small, one-told}
+use Rattle.path_sets.proofs.Shapes.{path-room}
+use Rattle.automaton.proofs.Compared.{one-small, one-told}
 use borrow.Author.Needs.{needs}
 use Rattle.automaton.proofs.automaton.automaton_of_one.Statement.{statement}
 use Rattle.automaton.proofs.automaton.automaton_of_one.Tie as tie

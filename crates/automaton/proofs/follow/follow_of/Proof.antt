@@ -1,5 +1,6 @@
 -- `automaton::follow::follow_of` meets its contract.
-use Rattle.automaton.proofs.Compared.{first-of, path-room, second-room, two-small, two-follow}
+use Rattle.path_sets.proofs.Shapes.{first-of, path-room}
+use Rattle.automaton.proofs.Compared.{second-room, two-small, two-follow}
 use Rattle.automaton.proofs.follow.follow_of.Statement.{statement}
 use Rattle.automaton.proofs.follow.follow_of.Tie as tie
 

@@ -1,5 +1,6 @@
 -- `automaton::follow::follow_of_one` meets its contract.
-use Rattle.automaton.proofs.Compared.{path-room, one-follow}
+use Rattle.path_sets.proofs.Shapes.{path-room}
+use Rattle.automaton.proofs.Compared.{one-follow}
 use borrow.Author.Needs.{needs}
 use Rattle.automaton.proofs.follow.follow_of_one.Statement.{statement}
 use Rattle.automaton.proofs.follow.follow_of_one.Tie as tie

@@ -3,15 +3,15 @@ use Prim.Native.Nat.{ℕ, _-_, _<_}
 use native.Mathlib.Omega.{arith}
 use lib.ListN.{length}
 use borrow.Author.Needs.{needs}
-use Rattle.automaton.proofs.Shapes.{room-long, first-room, second-room, second-behind, seq-two, union-two, star-room}
-use Rattle.automaton.proofs.Scans.{scan-ends}
+use Rattle.path_sets.proofs.Shapes.{room-long, first-room, second-room, second-behind, seq-two, union-two, star-room}
+use Rattle.path_sets.proofs.Scans.{scan-ends}
 use Rattle.automaton.proofs.Relates.{leaf-relates, seq-relates, union-relates, star-relates}
 use borrow.Fn.Kinds.{In}
 use borrow.Fn.PlainCycle.{Measures, is, falls, and}
 use Rattle.automaton.proofs.relation.related.Reads as related
 use Rattle.automaton.proofs.relation.related.Kinds as related-kinds
 use Rattle.automaton.proofs.relation.+related.Lts-related as related-lts
-use Rattle.automaton.proofs.scan.scan.Reads as scan-reads
+use Rattle.path_sets.proofs.scan.scan.Reads as scan-reads
 use Rattle.bits.proofs.square.joined.Reads as joined-reads
 use Rattle.rule_parts.proofs.kinds.path_kind.Reads as path-kind-reads
 use Rattle.automaton.proofs.relation.+related.{statement}

@@ -1,0 +1,4 @@
+pub mod Truth
+pub mod SetLaws
+pub mod Shapes
+pub mod Scans
