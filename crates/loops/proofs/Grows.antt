@@ -17,8 +17,9 @@ use Rattle.matrices.specs.Matrices.{Related, Chain}
 use Rattle.matrices.proofs.Chains.{chain-one}
 use Rattle.machine.specs.declared.Machine.{Machine}
 use Rattle.loops.specs.Loops.{Stage}
-use Rattle.loops.specs.Closed.{downs, ups, OnSide, Detour}
-use Rattle.loops.specs.Growing.{Ready, Widened, Visited, SoundBelow, Grown, Passed, Rises, Falls}
+use Rattle.detours.specs.Detours.{downs, ups, OnSide, Detour}
+use Rattle.detours.specs.Visits.{Ready, Widened, Visited}
+use Rattle.loops.specs.Growing.{SoundBelow, Grown, Passed, Rises, Falls}
 use Rattle.loops.proofs.Kept.{word-kept, stage-kept}
 use Rattle.loops.proofs.Sounds.{chain-comes, detour-up, detour-down}
 use Rattle.loops.proofs.Replaced.{stays, sound-one, woven-one, total-more}

@@ -15,7 +15,7 @@ use Rattle.matrices.specs.Matrices.{Related, Chain, Redrawn, pairs}
 use Rattle.matrices.proofs.Chains.{chain-one, chain-then}
 use Rattle.matrices.proofs.Pairs.{pairs-same, pairs-split}
 use Rattle.machine.specs.declared.Machine.{Machine}
-use Rattle.loops.specs.Closed.{Goes}
+use Rattle.detours.specs.Detours.{Goes}
 use Rattle.loops.specs.Sound.{Sound}
 use Rattle.loops.specs.Growing.{SoundBelow, Woven, total}
 use Rattle.loops.proofs.Kept.{Front, word-kept}

@@ -1,8 +1,8 @@
--- `loops::visit::detour` meets its contract.
+-- `detours::visit::detour` meets its contract.
 use borrow.Author.Needs.{needs}
-use Rattle.loops.proofs.Detours.{detours}
-use Rattle.loops.proofs.visit.detour.Statement.{statement}
-use Rattle.loops.proofs.visit.detour.Tie as tie
+use Rattle.detours.proofs.Detours.{detours}
+use Rattle.detours.proofs.visit.detour.Statement.{statement}
+use Rattle.detours.proofs.visit.detour.Tie as tie
 
 mul-meet : tie.Need-mul-meet
 mul-meet c = search needs

@@ -1,12 +1,12 @@
--- `loops::visit::widen` meets its contract.
+-- `detours::visit::widen` meets its contract.
 use Prim.Native.Nat.{_≤_, _-_}
 use native.Mathlib.Omega.{arith}
 use Rattle.matrices.specs.Widening.{Widening}
 use Rattle.matrices.proofs.Widening.{widening-none, widening-to}
-use Rattle.loops.specs.Growing.{Widened}
-use Rattle.loops.proofs.Detours.{widening-step}
-use Rattle.loops.proofs.visit.widen.Statement.{statement}
-use Rattle.loops.proofs.visit.widen.Tie as tie
+use Rattle.detours.specs.Visits.{Widened}
+use Rattle.detours.proofs.Detours.{widening-step}
+use Rattle.detours.proofs.visit.widen.Statement.{statement}
+use Rattle.detours.proofs.visit.widen.Tie as tie
 
 abbrev Inv-loop : tie.InvT-loop
 Inv-loop p₀ m over at leave back r₀ i₀ p r i = (i ≤ 16) × Widening (Widened m p₀ over at leave back) at i p₀ p r

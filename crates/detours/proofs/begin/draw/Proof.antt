@@ -1,12 +1,12 @@
--- `loops::start::draw` meets its contract.
+-- `detours::begin::draw` meets its contract.
 use Prim.Native.Nat.{_≤_, _-_}
 use native.Mathlib.Omega.{arith}
 use Rattle.matrices.specs.Matrices.{Drawing}
 use Rattle.matrices.proofs.Members.{and-iff}
 use Rattle.matrices.proofs.Drawing.{drawing-none, drawing-step, drawing-to}
-use Rattle.loops.specs.Growing.{Steps}
-use Rattle.loops.proofs.start.draw.Statement.{statement}
-use Rattle.loops.proofs.start.draw.Tie as tie
+use Rattle.detours.specs.Visits.{Steps}
+use Rattle.detours.proofs.begin.draw.Statement.{statement}
+use Rattle.detours.proofs.begin.draw.Tie as tie
 
 abbrev Inv-loop : tie.InvT-loop
 Inv-loop p₀ at w rows i₀ p i = (i ≤ 16) × Drawing (Steps rows w) at i p₀ p

@@ -1,4 +1,4 @@
--- `loops::place::is_left` meets its contract.
+-- `detours::place::is_left` meets its contract.
 use Prim.Native.Nat.{ℕ}
 use mathlib.Core.Path.{_≡_, sym, ap, _∙_}
 use native.Mathlib.Omega.{arith}
@@ -6,8 +6,8 @@ use borrow.Author.Needs.{needs}
 use borrow.Author.Tests.{eqb-true, eqb-false}
 use Rattle.layout.specs.Table.{LEFT, PARENT}
 use Rattle.layout.specs.Words.{word}
-use Rattle.loops.proofs.place.is_left.Statement.{statement}
-use Rattle.loops.proofs.place.is_left.Tie as tie
+use Rattle.detours.proofs.place.is_left.Statement.{statement}
+use Rattle.detours.proofs.place.is_left.Tie as tie
 
 get-requires : tie.Need-get-requires
 get-requires c κs = search needs

@@ -16,8 +16,8 @@ use Rattle.matrices.proofs.Drawing.{apart-same}
 use Rattle.matrices.proofs.Pairs.{pairs-mono}
 use Rattle.matrices.proofs.Widening.{widening-more}
 use Rattle.machine.specs.declared.Machine.{Machine}
-use Rattle.loops.specs.Closed.{Detour}
-use Rattle.loops.specs.Growing.{Widened, Visited}
+use Rattle.detours.specs.Detours.{Detour}
+use Rattle.detours.specs.Visits.{Widened, Visited}
 
 -- ── One detour ──
 -- a step, the image, and a step

@@ -1,10 +1,10 @@
--- `loops::place::above` meets its contract.
+-- `detours::place::above` meets its contract.
 use mathlib.Core.Path.{ap, _∙_}
 use native.Mathlib.Omega.{arith}
 use borrow.Author.Needs.{needs}
 use Rattle.layout.specs.Part.{loopAt}
-use Rattle.loops.proofs.place.above.Statement.{statement}
-use Rattle.loops.proofs.place.above.Tie as tie
+use Rattle.detours.proofs.place.above.Statement.{statement}
+use Rattle.detours.proofs.place.above.Tie as tie
 
 get-requires : tie.Need-get-requires
 get-requires c κs = search needs

@@ -1,8 +1,8 @@
--- `loops::start::begin` meets its contract.
+-- `detours::begin::begin` meets its contract.
 use borrow.Author.Needs.{needs}
-use Rattle.loops.proofs.Starting.{begun}
-use Rattle.loops.proofs.start.begin.Statement.{statement}
-use Rattle.loops.proofs.start.begin.Tie as tie
+use Rattle.detours.proofs.Beginning.{begun}
+use Rattle.detours.proofs.begin.begin.Statement.{statement}
+use Rattle.detours.proofs.begin.begin.Tie as tie
 
 loop-at-requires : tie.Need-loop-at-requires
 loop-at-requires c κs = search needs

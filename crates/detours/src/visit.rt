@@ -11,8 +11,8 @@ ghost use lib.ListN.{length};
 ghost use Rattle.limits.specs.Limits.{positions};
 ghost use Rattle.matrices.specs.Matrices.{Exactly, Apart};
 ghost use Rattle.matrices.specs.Widening.{Widening};
-ghost use Rattle.loops.specs.Closed.{Detour};
-ghost use Rattle.loops.specs.Growing.{Widened, Visited};
+ghost use Rattle.detours.specs.Detours.{Detour};
+ghost use Rattle.detours.specs.Visits.{Widened, Visited};
 
 // Where `i` comes to by a step of `leave`, by the matrix at `over` and by a step of `back`.
 fn detour(p: &[u16], m: Machine, over: usize, leave: u16, back: u16, i: usize) -> u16

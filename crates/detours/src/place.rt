@@ -9,8 +9,8 @@ ghost use Rattle.limits.specs.Limits.{positions};
 ghost use Rattle.layout.specs.Part.{loopAt};
 ghost use Rattle.layout.specs.Table.{PARENT};
 ghost use Rattle.layout.specs.Words.{word};
-ghost use Rattle.loops.specs.Closed.{OnSide};
-ghost use Rattle.loops.specs.Growing.{Ready};
+ghost use Rattle.detours.specs.Detours.{OnSide};
+ghost use Rattle.detours.specs.Visits.{Ready};
 
 // The offset of the matrix of its parent.
 pub fn above(p: &[u16], n: usize, v: usize) -> usize

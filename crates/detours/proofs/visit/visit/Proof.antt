@@ -1,8 +1,8 @@
--- `loops::visit::visit` meets its contract.
+-- `detours::visit::visit` meets its contract.
 use borrow.Author.Needs.{needs}
-use Rattle.loops.proofs.Detours.{visited-none, visited-some}
-use Rattle.loops.proofs.visit.visit.Statement.{statement}
-use Rattle.loops.proofs.visit.visit.Tie as tie
+use Rattle.detours.proofs.Detours.{visited-none, visited-some}
+use Rattle.detours.proofs.visit.visit.Statement.{statement}
+use Rattle.detours.proofs.visit.visit.Tie as tie
 
 widen-requires : tie.Need-widen-requires
 widen-requires c κs = search needs
