@@ -6,8 +6,9 @@ use mathlib.Core.List.{List}
 use Rattle.layout.specs.Part.{STAYS, loopAt}
 use Rattle.layout.specs.Words.{word}
 use Rattle.layout.proofs.Frames.{frame-then}
-use Rattle.matrices.specs.Matrices.{Related, Chain, Redrawn, Drawing}
-use Rattle.matrices.proofs.Chains.{chain-map}
+use Rattle.matrices.specs.Matrices.{Related, Redrawn, Drawing}
+use Rattle.closures.specs.Closures.{Chain}
+use Rattle.closures.proofs.Chains.{chain-map}
 use Rattle.machine.specs.declared.Machine.{Machine}
 use Rattle.detours.specs.Detours.{Goes}
 use Rattle.detours.specs.Visits.{Steps, Begun}

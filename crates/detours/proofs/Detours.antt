@@ -8,10 +8,11 @@ use native.Mathlib.Omega.{arith}
 use lib.ListN.{getD}
 use Rattle.bits.specs.Sets.{bit, and}
 use Rattle.layout.proofs.Frames.{frame-then}
-use Rattle.matrices.specs.Matrices.{Exactly, Related, Image, Chain, Redrawn, Apart}
+use Rattle.matrices.specs.Matrices.{Exactly, Related, Image, Redrawn, Apart}
+use Rattle.closures.specs.Closures.{Chain}
 use Rattle.matrices.specs.Widening.{Joined, Widening}
 use Rattle.matrices.proofs.Members.{and-parts, and-both}
-use Rattle.matrices.proofs.Chains.{chain-one, chain-map}
+use Rattle.closures.proofs.Chains.{chain-one, chain-map}
 use Rattle.matrices.proofs.Drawing.{apart-same}
 use Rattle.matrices.proofs.Pairs.{pairs-mono}
 use Rattle.matrices.proofs.Widening.{widening-more}

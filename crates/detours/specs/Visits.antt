@@ -10,7 +10,8 @@ use Rattle.bits.specs.Sets.{bit}
 use Rattle.layout.specs.Part.{STAYS, PAIRS, loopAt}
 use Rattle.layout.specs.Table.{PARENT}
 use Rattle.layout.specs.Words.{word}
-use Rattle.matrices.specs.Matrices.{Related, Chain, Redrawn, pairs}
+use Rattle.matrices.specs.Matrices.{Related, Redrawn, pairs}
+use Rattle.closures.specs.Closures.{Chain}
 use Rattle.machine.specs.declared.Machine.{Machine}
 use Rattle.detours.specs.Detours.{Goes, Detour}
 

@@ -1,11 +1,11 @@
 // The matrix of a node at the start: the steps that stay there, closed.
 use bits::meet;
+use closures::close;
 use layout::Part;
 use layout::places::loop_at;
 use layout::words::get;
 use limits::Rule;
 use machine::Machine;
-use matrices::close;
 ghost use Prim.Native.Nat.{_+_, _≤_, _<_};
 ghost use lib.ListN.{length};
 ghost use Rattle.limits.specs.Limits.{positions};

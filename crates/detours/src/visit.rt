@@ -1,8 +1,8 @@
 // One matrix grows by the detours over another: by a step that leaves, by that matrix, and by a step back.
 use bits::meet;
+use closures::close;
 use limits::Rule;
 use machine::Machine;
-use matrices::close;
 use matrices::followers::followers;
 use matrices::image;
 use matrices::rows::add;

@@ -13,8 +13,9 @@ use Rattle.layout.specs.Part.{LOOPS, loopAt}
 use Rattle.layout.specs.Table.{PARENT}
 use Rattle.layout.specs.Words.{word, Frame}
 use Rattle.layout.proofs.Frames.{frame-none, frame-then, frame-wider}
-use Rattle.matrices.specs.Matrices.{Related, Chain}
-use Rattle.matrices.proofs.Chains.{chain-one}
+use Rattle.matrices.specs.Matrices.{Related}
+use Rattle.closures.specs.Closures.{Chain}
+use Rattle.closures.proofs.Chains.{chain-one}
 use Rattle.machine.specs.declared.Machine.{Machine}
 use Rattle.loops.specs.Loops.{Stage}
 use Rattle.detours.specs.Detours.{downs, ups, OnSide, Detour}

@@ -1,9 +1,9 @@
--- `matrices::closure::widened` meets its contract.
+-- `closures::widened` meets its contract.
 use mathlib.Core.Path.{sym, _∙_}
 use borrow.Author.Needs.{needs}
-use Rattle.matrices.proofs.Drawing.{widened, not-widened}
-use Rattle.matrices.proofs.closure.widened.Statement.{statement}
-use Rattle.matrices.proofs.closure.widened.Tie as tie
+use Rattle.closures.proofs.Rows.{widened, not-widened}
+use Rattle.closures.proofs.widened.Statement.{statement}
+use Rattle.closures.proofs.widened.Tie as tie
 
 has-requires : tie.Need-has-requires
 has-requires c κs = search needs

@@ -1,10 +1,12 @@
--- `matrices::closure::reflect` meets its contract.
+-- `closures::reflect` meets its contract.
 use Prim.Native.Nat.{_≤_, _-_}
 use native.Mathlib.Omega.{arith}
-use Rattle.matrices.specs.Matrices.{Related, Drawing, Reflexive}
-use Rattle.matrices.proofs.Drawing.{drawing-none, drawing-to, reflect-step}
-use Rattle.matrices.proofs.closure.reflect.Statement.{statement}
-use Rattle.matrices.proofs.closure.reflect.Tie as tie
+use Rattle.matrices.specs.Matrices.{Related, Drawing}
+use Rattle.closures.specs.Closures.{Reflexive}
+use Rattle.matrices.proofs.Drawing.{drawing-none, drawing-to}
+use Rattle.closures.proofs.Rows.{reflect-step}
+use Rattle.closures.proofs.reflect.Statement.{statement}
+use Rattle.closures.proofs.reflect.Tie as tie
 
 abbrev Inv-loop : tie.InvT-loop
 Inv-loop p₀ at i₀ p i = (i ≤ 16) × Drawing (Reflexive (Related p₀ at)) at i p₀ p

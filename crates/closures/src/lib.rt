@@ -10,10 +10,11 @@ ghost use Prim.Native.Nat.{ℕ, _+_, _≤_, _<_};
 ghost use lib.ListN.{length};
 ghost use Rattle.limits.specs.Limits.{positions};
 ghost use Rattle.bits.specs.Sets.{bit};
-ghost use Rattle.matrices.specs.Matrices.{Related, Drawing, Reflexive, Through};
+ghost use Rattle.matrices.specs.Matrices.{Related, Redrawn, Drawing};
+ghost use Rattle.closures.specs.Closures.{Chain, Reflexive, Through};
 
 // Each position is related to itself, too.
-pub fn reflect(p: &mut [u16], at: usize)
+fn reflect(p: &mut [u16], at: usize)
     requires { ⌜ at + positions ≤ length (now p) ⌝ }
     ensures { λ _. ⌜ Drawing (Reflexive (Related (now (p .entry)) at)) at positions (now (p .entry)) (now (p .exit)) ⌝ }
 {
@@ -36,7 +37,7 @@ fn widened(row: u16, k: u16, added: u16) -> u16
 }
 
 // What is related by way of `k` is related.
-pub fn join(p: &mut [u16], at: usize, k: usize)
+fn join(p: &mut [u16], at: usize, k: usize)
     requires { ⌜ (at + positions ≤ length (now p)) × (k < positions) ⌝ }
     ensures { λ _. ⌜ Drawing (Through (Related (now (p .entry)) at) k) at positions (now (p .entry)) (now (p .exit)) ⌝ }
 {
@@ -45,5 +46,18 @@ pub fn join(p: &mut [u16], at: usize, k: usize)
     while i < Rule::MAX_POSITIONS {
         p[at + i] = widened(p[at + i], k as u16, added);
         i += 1;
+    }
+}
+
+// The matrix becomes its reflexive and transitive closure.
+pub fn close(p: &mut [u16], at: usize)
+    requires { ⌜ at + positions ≤ length (now p) ⌝ }
+    ensures { λ _. ⌜ Redrawn at (now (p .entry)) (now (p .exit)) × ((i j : ℕ) → i < positions → j < positions → Related (now (p .exit)) at i j ↔ Chain (λ i j. Related (now (p .entry)) at i j) i j) ⌝ }
+{
+    reflect(p, at);
+    let mut k = 0;
+    while k < Rule::MAX_POSITIONS {
+        join(p, at, k);
+        k += 1;
     }
 }

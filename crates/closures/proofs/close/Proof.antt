@@ -1,10 +1,10 @@
--- `matrices::close` meets its contract.
+-- `closures::close` meets its contract.
 use Prim.Native.Nat.{_≤_, _-_}
 use mathlib.Core.Path.{_∙_}
 use native.Mathlib.Omega.{arith}
-use Rattle.matrices.proofs.Warshall.{Closing, closing-none, closing-step, closing-all}
-use Rattle.matrices.proofs.close.Statement.{statement}
-use Rattle.matrices.proofs.close.Tie as tie
+use Rattle.closures.proofs.Warshall.{Closing, closing-none, closing-step, closing-all}
+use Rattle.closures.proofs.close.Statement.{statement}
+use Rattle.closures.proofs.close.Tie as tie
 
 abbrev Inv-loop : tie.InvT-loop
 Inv-loop p₀ at k₀ p k = (k ≤ 16) × Closing at k p₀ p

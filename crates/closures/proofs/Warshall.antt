@@ -7,8 +7,9 @@ use native.Mathlib.Nat.{eq-or-lt-of-le, le-of-suc-le-suc, not-suc-le-zero}
 use native.Mathlib.Numerals.{add-one}
 use native.Mathlib.Omega.{arith}
 use Rattle.layout.proofs.Frames.{frame-none, frame-then}
-use Rattle.matrices.specs.Matrices.{Related, Chain, Redrawn, Drawing, Reflexive, Through}
-use Rattle.matrices.proofs.Chains.{chain-one, chain-then}
+use Rattle.matrices.specs.Matrices.{Related, Redrawn, Drawing}
+use Rattle.closures.specs.Closures.{Chain, Reflexive, Through}
+use Rattle.closures.proofs.Chains.{chain-one, chain-then}
 
 unfoldable pub Via : (ℕ → ℕ → Type 0) → ℕ → ℕ → ℕ → Type 0
 Via A zero i j = A i j

@@ -1,12 +1,14 @@
--- `matrices::closure::join` meets its contract.
+-- `closures::join` meets its contract.
 use mathlib.Core.Path.{_≡_, refl}
 use Prim.Native.Nat.{_≤_, _+_, _-_}
 use native.Mathlib.Omega.{arith}
 use lib.ListN.{getD}
-use Rattle.matrices.specs.Matrices.{Related, Drawing, Through}
-use Rattle.matrices.proofs.Drawing.{drawing-none, drawing-to, join-step}
-use Rattle.matrices.proofs.closure.join.Statement.{statement}
-use Rattle.matrices.proofs.closure.join.Tie as tie
+use Rattle.matrices.specs.Matrices.{Related, Drawing}
+use Rattle.closures.specs.Closures.{Through}
+use Rattle.matrices.proofs.Drawing.{drawing-none, drawing-to}
+use Rattle.closures.proofs.Rows.{join-step}
+use Rattle.closures.proofs.join.Statement.{statement}
+use Rattle.closures.proofs.join.Tie as tie
 
 -- ── The loop's invariant ──
 abbrev Inv-loop : tie.InvT-loop

@@ -1,6 +1,6 @@
 -- Zero or more times a relation.
 use Prim.Native.Nat.{ℕ, _<_}
-use Rattle.matrices.specs.Matrices.{Chain}
+use Rattle.closures.specs.Closures.{Chain}
 
 pub chain-one : {A : ℕ → ℕ → Type 0} {i j : ℕ} → j < 16 → A i j → Chain A i j
 chain-one h a = Chain.more h a Chain.none
