@@ -2,7 +2,6 @@ pub mod Sides
 pub mod Kept
 pub mod Closing
 pub mod Sounds
-pub mod Detours
 pub mod Replaced
 pub mod Starting
 pub mod Grows

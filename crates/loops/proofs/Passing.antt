@@ -13,7 +13,8 @@ use Rattle.matrices.proofs.Pairs.{pairs-le}
 use Rattle.machine.specs.declared.Machine.{Machine}
 use Rattle.loops.specs.Loops.{Stage, Looped}
 use Rattle.loops.specs.Closed.{Closed}
-use Rattle.loops.specs.Growing.{Ready, Woven, Started, total, Grown, Passed, Rises, Falls, Everywhere, Settled}
+use Rattle.detours.specs.Visits.{Ready}
+use Rattle.loops.specs.Growing.{Woven, Started, total, Grown, Passed, Rises, Falls, Everywhere, Settled}
 use Rattle.loops.proofs.Kept.{stage-kept}
 use Rattle.loops.proofs.Sides.{parent-before}
 use Rattle.loops.proofs.Sounds.{loops-of}

@@ -11,11 +11,12 @@ use Rattle.xpath.specs.Syntax.{XPath}
 use Rattle.xpath.specs.Tree.{Tree}
 use Rattle.layout.specs.Part.{STAYS, loopAt}
 use Rattle.layout.specs.Words.{word}
-use Rattle.matrices.specs.Matrices.{Related, Chain, Redrawn, pairs}
-use Rattle.matrices.proofs.Chains.{chain-one, chain-then}
+use Rattle.matrices.specs.Matrices.{Related, Redrawn, pairs}
+use Rattle.closures.specs.Closures.{Chain}
+use Rattle.closures.proofs.Chains.{chain-one, chain-then}
 use Rattle.matrices.proofs.Pairs.{pairs-same, pairs-split}
 use Rattle.machine.specs.declared.Machine.{Machine}
-use Rattle.loops.specs.Closed.{Goes}
+use Rattle.detours.specs.Detours.{Goes}
 use Rattle.loops.specs.Sound.{Sound}
 use Rattle.loops.specs.Growing.{SoundBelow, Woven, total}
 use Rattle.loops.proofs.Kept.{Front, word-kept}

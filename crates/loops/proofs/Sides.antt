@@ -19,7 +19,7 @@ use Rattle.machine.specs.declared.Machine.{Machine}
 use Rattle.machine.specs.Meaning.{IsStep}
 use Rattle.machine.proofs.Walking.{child-inside, link-child, parent-word}
 use Rattle.loops.specs.Loops.{Stage}
-use Rattle.loops.specs.Closed.{downs, ups, OnSide, Goes}
+use Rattle.detours.specs.Detours.{downs, ups, OnSide, Goes}
 
 module _ {P R : XPath} {t : Tree} {m : Machine} {n : ℕ} {p : List ℕ} (stage : Stage P R t m n p) where
   -- ── Steps ──

@@ -11,10 +11,11 @@ use Rattle.snippets.proofs.Edges.{stepDown, stepUp, moves-down, moves-up}
 use Rattle.layout.specs.Part.{STAYS, loopAt}
 use Rattle.layout.specs.Table.{PARENT}
 use Rattle.layout.specs.Words.{word}
-use Rattle.matrices.specs.Matrices.{Chain}
+use Rattle.closures.specs.Closures.{Chain}
 use Rattle.machine.specs.declared.Machine.{Machine}
 use Rattle.loops.specs.Loops.{Stage, Loops}
-use Rattle.loops.specs.Closed.{downs, ups, OnSide, Goes, Detour, Closed}
+use Rattle.detours.specs.Detours.{downs, ups, OnSide, Goes, Detour}
+use Rattle.loops.specs.Closed.{Closed}
 use Rattle.loops.specs.Sound.{Sound}
 use Rattle.loops.proofs.Sides.{goes-down, goes-up, goes-stay, side-child}
 use Rattle.loops.proofs.Closing.{closed-comes}

@@ -1,36 +1,16 @@
 -- The matrices at the start.
 use Prim.Native.Nat.{ℕ, _+_, _<_}
-use mathlib.Core.Path.{_≡_, sym, subst}
-use mathlib.Core.Logic.{_↔_}
+use mathlib.Core.Path.{_≡_, subst}
 use mathlib.Core.List.{List}
 use native.Mathlib.Omega.{arith}
-use Rattle.layout.specs.Part.{STAYS, loopAt}
-use Rattle.layout.specs.Words.{word}
 use Rattle.layout.proofs.Frames.{frame-none, frame-then, frame-wider}
-use Rattle.matrices.specs.Matrices.{Related, Chain, Redrawn, Drawing}
-use Rattle.matrices.proofs.Chains.{chain-map}
 use Rattle.machine.specs.declared.Machine.{Machine}
 use Rattle.loops.specs.Loops.{Stage}
-use Rattle.loops.specs.Closed.{Goes}
-use Rattle.loops.specs.Growing.{Steps, Begun, Started}
+use Rattle.detours.specs.Visits.{Begun}
+use Rattle.loops.specs.Growing.{Started}
 use Rattle.loops.proofs.Kept.{stage-kept}
 use Rattle.loops.proofs.Sounds.{chain-comes, stay-comes}
 use Rattle.loops.proofs.Replaced.{sound-one, woven-one}
-
--- the steps that stay, drawn and closed
-pub begun : (m : Machine) (n v : ℕ) {p q q′ : List ℕ} {at w : ℕ} → at ≡ loopAt n v → w ≡ word p n STAYS v → Drawing (Steps (m .rows) w) at 16 p q
-    → Redrawn at q q′ × ((i j : ℕ) → i < 16 → j < 16 → Related q′ at i j ↔ Chain (λ i j. Related q at i j) i j) → Begun m n v p q′
-begun m n v {p} {q} {q′} {at} {w} e f d (only, closure) = record {
-  only = subst (λ (x : ℕ). Redrawn x p q′) e (frame-then (d .frame) only);
-  closed = λ i j h l. subst (λ (x : ℕ). Related q′ x i j ↔ Chain (Goes m (word p n STAYS v)) i j) e (to i j h l, from i j h l);
-}
-  where
-    to : (i j : ℕ) → i < 16 → j < 16 → Related q′ at i j → Chain (Goes m (word p n STAYS v)) i j
-    to i j h l r = chain-map (λ a b x y s. let (g, o) = d .done a b x y .0 s in subst (λ (z : ℕ). Goes m z a b) f (record { follows = g; step = o })) h (closure i j h l .0 r)
-
-    from : (i j : ℕ) → i < 16 → j < 16 → Chain (Goes m (word p n STAYS v)) i j → Related q′ at i j
-    from i j h l c =
-        closure i j h l .1 (chain-map (λ a b x y g. let s : Goes m w a b = subst (λ (z : ℕ). Goes m z a b) (sym f) g in d .done a b x y .1 (s .follows, s .step)) h c)
 
 pub started-none : (m : Machine) (n : ℕ) (p : List ℕ) → Started m n 0 p p
 started-none m n p = record {

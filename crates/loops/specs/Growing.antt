@@ -1,50 +1,19 @@
 -- How the matrices of the nodes grow: what each function adds to them, and what it keeps.
 use Prim.Native.Nat.{ℕ, _+_, _*_, _≤_, _<_}
 use mathlib.Core.Path.{_≡_}
-use mathlib.Core.Logic.{_⊎_, _↔_}
-use mathlib.Core.Bool.{Bool, true}
+use mathlib.Core.Bool.{Bool}
 use mathlib.Core.List.{List}
-use lib.ListN.{length, getD}
-use Rattle.limits.specs.Limits.{documentNodes, positions}
-use Rattle.bits.specs.Sets.{bit}
+use Rattle.limits.specs.Limits.{positions}
 use Rattle.xpath.specs.Syntax.{XPath}
 use Rattle.xpath.specs.Tree.{Tree}
 use Rattle.layout.specs.Part.{STAYS, LOOPS, PAIRS, loopAt}
 use Rattle.layout.specs.Table.{PARENT}
 use Rattle.layout.specs.Words.{word, Frame}
-use Rattle.matrices.specs.Matrices.{Related, Chain, Redrawn, pairs}
+use Rattle.matrices.specs.Matrices.{Related, pairs}
 use Rattle.machine.specs.declared.Machine.{Machine}
 use Rattle.loops.specs.Loops.{Stage}
-use Rattle.loops.specs.Closed.{downs, ups, OnSide, Goes, Detour}
+use Rattle.detours.specs.Detours.{downs, ups, OnSide, Goes, Detour}
 use Rattle.loops.specs.Sound.{Sound}
-
--- the part has room for the matrices, and each node but the root has its parent before it
-pub record Ready (n : ℕ) (p : List ℕ) : Type 0 where
-  pub few : n ≤ documentNodes
-  pub room : PAIRS * n ≤ length p
-  pub parents : (v : ℕ) → 0 < v → v < n → word p n PARENT v < v
-
--- ── One matrix ──
--- what is related already, or by a detour over the matrix that stands elsewhere
-abbrev pub Widened : Machine → List ℕ → ℕ → ℕ → ℕ → ℕ → ℕ → ℕ → Type 0
-Widened m p over at w w′ i j = Related p at i j ⊎ Detour m p over w w′ i j
-
--- the matrix becomes the closure of A, by at least r pairs; r is 0 if it has all of A already, and then nothing changes
-pub record Visited (A : ℕ → ℕ → Type 0) (at : ℕ) (p p′ : List ℕ) (r : ℕ) : Type 0 where
-  pub only : Redrawn at p p′
-  pub closed : 0 < r → (i j : ℕ) → i < positions → j < positions → Related p′ at i j ↔ Chain A i j
-  pub full : r ≡ 0 → (i j : ℕ) → i < positions → j < positions → A i j → Related p at i j
-  pub count : r + pairs p at positions ≤ pairs p′ at positions
-  pub still : r ≡ 0 → p′ ≡ p
-
--- j is in row i and one of the steps w
-abbrev pub Steps : List ℕ → ℕ → ℕ → ℕ → Type 0
-Steps rows w i j = (bit (getD rows i 0) j ≡ true) × (bit w j ≡ true)
-
--- the matrix of node v becomes the closure of the steps that stay there
-pub record Begun (m : Machine) (n v : ℕ) (p p′ : List ℕ) : Type 0 where
-  pub only : Redrawn (loopAt n v) p p′
-  pub closed : (i j : ℕ) → i < positions → j < positions → Related p′ (loopAt n v) i j ↔ Chain (Goes m (word p n STAYS v)) i j
 
 -- ── The matrices of the nodes below k ──
 -- what they relate comes back to its node

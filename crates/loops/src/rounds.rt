@@ -1,11 +1,12 @@
 // A round over all nodes: the matrices grow by the detours over their neighbours.
-use crate::place::above;
-use crate::place::is_left;
-use crate::visit::visit;
+use detours::place::above;
+use detours::place::is_left;
+use detours::visit::visit;
 use layout::places::loop_at;
 use machine::Machine;
 ghost use Prim.Native.Nat.{_<_};
-ghost use Rattle.loops.specs.Growing.{Ready, Passed, Rises, Falls, Everywhere, Settled};
+ghost use Rattle.detours.specs.Visits.{Ready};
+ghost use Rattle.loops.specs.Growing.{Passed, Rises, Falls, Everywhere, Settled};
 
 // The matrix of the parent of `v` grows by the detours over `v`.
 fn climb(p: &mut [u16], n: usize, m: Machine, v: usize) -> usize

@@ -25,11 +25,6 @@ Image p at w j = (i : ℕ) × (i < positions) × (bit w i ≡ true) × Related p
 abbrev pub Before : List ℕ → ℕ → ℕ → ℕ → Type 0
 Before p at w i = (j : ℕ) × (j < positions) × (bit w j ≡ true) × Related p at i j
 
--- zero or more times
-pub data Chain (A : ℕ → ℕ → Type 0) : ℕ → ℕ → Type 0 where
-  none : {i : ℕ} → Chain A i i
-  more : {i j k : ℕ} → j < positions → A i j → Chain A j k → Chain A i k
-
 -- only the 16 words from an offset on may be different
 abbrev pub Redrawn : ℕ → List ℕ → List ℕ → Type 0
 Redrawn at p p′ = Frame at (at + positions) p p′
@@ -47,14 +42,6 @@ pairs p at (suc k) = pairs p at k + size positions (getD p (at + k) 0)
 pub record Drawing (A : ℕ → ℕ → Type 0) (at k : ℕ) (p p′ : List ℕ) : Type 0 where
   pub frame : Frame at (at + k) p p′
   pub done : (i j : ℕ) → i < k → j < positions → Related p′ at i j ↔ A i j
-
--- with itself, too
-abbrev pub Reflexive : (ℕ → ℕ → Type 0) → ℕ → ℕ → Type 0
-Reflexive A i j = (i ≡ j) ⊎ A i j
-
--- by way of k, too
-abbrev pub Through : (ℕ → ℕ → Type 0) → ℕ → ℕ → ℕ → Type 0
-Through A k i j = A i j ⊎ (A i k × A k j)
 
 -- by one and then the other
 abbrev pub Composed : (ℕ → ℕ → Type 0) → (ℕ → ℕ → Type 0) → ℕ → ℕ → Type 0

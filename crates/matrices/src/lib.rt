@@ -1,5 +1,4 @@
 // Relations on the 16 positions. Each is a matrix, 16 words of a slice from an offset on: row i is the set of what i is related to.
-mod closure;
 pub mod followers;
 pub mod rows;
 pub mod sets;
@@ -7,8 +6,6 @@ pub mod sets;
 use bits::count;
 use bits::insert;
 use bits::union;
-use closure::join;
-use closure::reflect;
 use limits::Rule;
 use sets::first;
 use sets::touches;
@@ -19,7 +16,7 @@ ghost use mathlib.Core.Logic.{_↔_};
 ghost use Prim.Native.Nat.{ℕ, _+_, _≤_, _<_};
 ghost use lib.ListN.{length};
 ghost use Rattle.limits.specs.Limits.{positions};
-ghost use Rattle.matrices.specs.Matrices.{Exactly, Related, Image, Before, Chain, Redrawn, Apart, pairs};
+ghost use Rattle.matrices.specs.Matrices.{Exactly, Related, Image, Before, Redrawn, Apart, pairs};
 
 // What the members of `w` are related to. Each turn takes one member out, so that few members take few turns.
 pub fn image(p: &[u16], at: usize, w: u16) -> u16
@@ -53,19 +50,6 @@ pub fn before(p: &[u16], at: usize, w: u16) -> u16
         i += 1;
     }
     r
-}
-
-// The matrix becomes its reflexive and transitive closure.
-pub fn close(p: &mut [u16], at: usize)
-    requires { ⌜ at + positions ≤ length (now p) ⌝ }
-    ensures { λ _. ⌜ Redrawn at (now (p .entry)) (now (p .exit)) × ((i j : ℕ) → i < positions → j < positions → Related (now (p .exit)) at i j ↔ Chain (λ i j. Related (now (p .entry)) at i j) i j) ⌝ }
-{
-    reflect(p, at);
-    let mut k = 0;
-    while k < Rule::MAX_POSITIONS {
-        join(p, at, k);
-        k += 1;
-    }
 }
 
 // The matrix at `c` becomes the one at `a` followed by the one at `b`.

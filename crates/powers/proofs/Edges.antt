@@ -18,7 +18,7 @@ use Rattle.layout.specs.Words.{NONE, word}
 use Rattle.machine.specs.declared.Machine.{Machine}
 use Rattle.machine.specs.Meaning.{IsStep}
 use Rattle.machine.proofs.Walking.{step-few}
-use Rattle.loops.specs.Closed.{downs, ups, OnSide, Goes}
+use Rattle.detours.specs.Detours.{downs, ups, OnSide, Goes}
 use Rattle.loops.proofs.Sides.{goes-down, goes-up, side-child, parent-before}
 use Rattle.matrices.specs.Matrices.{Related}
 use Rattle.powers.specs.Powers.{Power, Ready}

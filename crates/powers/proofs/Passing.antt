@@ -14,7 +14,7 @@ use Rattle.layout.specs.Table.{LEFT, PARENT}
 use Rattle.layout.specs.Words.{NONE, word, Frame}
 use Rattle.layout.proofs.Frames.{frame-none, frame-then, frame-wider}
 use Rattle.machine.specs.declared.Machine.{Machine}
-use Rattle.loops.specs.Closed.{downs, ups, OnSide}
+use Rattle.detours.specs.Detours.{downs, ups, OnSide}
 use Rattle.powers.specs.Powers.{Power, Powers, Ready, Powered}
 use Rattle.powers.specs.Blocks.{Fits, Only, Edge, Twice, Doubled, Found, Passed}
 use Rattle.powers.proofs.Kept.{power-front, powers-front, ready-kept}

@@ -11,7 +11,8 @@ use Rattle.layout.specs.Part.{ANSWER, pairAt}
 use Rattle.layout.specs.Table.{PARENT}
 use Rattle.layout.specs.Words.{cell, word, Wrote}
 use Rattle.layout.proofs.Frames.{frame-none, frame-then, frame-wider, wrote-frame}
-use Rattle.settling.specs.Growing.{Ready, Answering}
+use Rattle.pairs.specs.Growing.{Ready}
+use Rattle.settling.specs.Settled.{Answering}
 
 -- a word that is known as another number
 pub wrote-as : {i x y : ℕ} {p q : List ℕ} → x ≡ y → Wrote ((i, x) ∷ []) p q → Wrote ((i, y) ∷ []) p q

@@ -19,12 +19,13 @@ use Rattle.loops.specs.Loops.{Stage}
 use Rattle.loops.proofs.Sides.{parent-before}
 use Rattle.powers.specs.Powers.{Founded}
 use Rattle.settling.specs.Pairs.{Settles}
-use Rattle.settling.specs.Growing.{Ready, Framed, Started, Grown, Met, Everywhere, Still, Answering}
-use Rattle.settling.specs.Settled.{Marked, Settled}
+use Rattle.pairs.specs.Growing.{Ready, Framed, Started, Grown, Met, Everywhere}
+use Rattle.pair_rounds.specs.Rounds.{Still}
+use Rattle.settling.specs.Settled.{Answering, Marked, Settled}
 use Rattle.settling.proofs.Settling.{settles-holds}
-use Rattle.settling.proofs.Framing.{ready-kept}
-use Rattle.settling.proofs.Grows.{grown-then, ended-kept}
-use Rattle.settling.proofs.Seeding.{met-kept}
+use Rattle.pairs.proofs.Framing.{ready-kept}
+use Rattle.pairs.proofs.Grows.{grown-then, ended-kept}
+use Rattle.pairs.proofs.Seeding.{met-kept}
 use Rattle.settling.proofs.Reading.{related-settles}
 
 module _ {P R : XPath} {t : Tree} {m : Machine} {n : ℕ} {p : List ℕ} (stage : Stage P R t m n p) where

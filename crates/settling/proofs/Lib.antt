@@ -1,10 +1,4 @@
 pub mod Settling
-pub mod Widening
-pub mod Framing
-pub mod Grows
 pub mod Answering
-pub mod Starting
-pub mod Seeding
-pub mod Passing
 pub mod Reading
 pub mod Finding

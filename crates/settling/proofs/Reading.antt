@@ -23,12 +23,13 @@ use Rattle.loops.specs.Loops.{Stage, Loops}
 use Rattle.loops.proofs.Sides.{side-child}
 use Rattle.powers.specs.Powers.{Powers}
 use Rattle.settling.specs.Pairs.{Meets, Settles, Closed}
-use Rattle.settling.specs.Derived.{MeetsBy, Sees, LeadsOver, Derived}
-use Rattle.settling.specs.Growing.{Framed, Ended, Held, Met, Everywhere, Still}
+use Rattle.pairs.specs.Derived.{MeetsBy, Sees, LeadsOver, Derived}
+use Rattle.pairs.specs.Growing.{Framed, Ended, Held, Met, Everywhere}
+use Rattle.pair_rounds.specs.Rounds.{Still}
 use Rattle.settling.specs.Settled.{Marked}
 use Rattle.settling.proofs.Settling.{settles-before, closed-settles}
-use Rattle.settling.proofs.Widening.{related-same}
-use Rattle.settling.proofs.Framing.{Outside, snippet-outside, framed-same, framed-parent, derived-kept}
+use Rattle.pairs.proofs.Widening.{related-same}
+use Rattle.pairs.proofs.Framing.{Outside, snippet-outside, framed-same, framed-parent, derived-kept}
 
 module _ {P R : XPath} {t : Tree} {m : Machine} {n : ℕ} {p : List ℕ} (stage : Stage P R t m n p) (loops : Loops P R t n p) (powers : Powers P R t n p 1) where
   abbrev C : ℕ → ℕ → ℕ → ℕ → Type 0

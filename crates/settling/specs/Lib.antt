@@ -1,4 +1,2 @@
 pub mod Pairs
-pub mod Derived
-pub mod Growing
 pub mod Settled

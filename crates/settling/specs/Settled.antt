@@ -4,12 +4,14 @@ use mathlib.Core.Path.{_≡_}
 use mathlib.Core.Logic.{_⊎_, _↔_}
 use mathlib.Core.Bool.{Bool}
 use mathlib.Core.List.{List}
+use lib.ListN.{getD}
 use Rattle.limits.specs.Limits.{positions}
+use Rattle.bits.specs.Sets.{bit, one}
 use Rattle.xpath.specs.Syntax.{XPath}
 use Rattle.xpath.specs.Tree.{Tree, Child}
 use Rattle.layout.specs.Blocks.{snippetAt}
-use Rattle.layout.specs.Part.{ANSWER, PAIRS, REST}
-use Rattle.layout.specs.Words.{word, Same}
+use Rattle.layout.specs.Part.{ANSWER, PAIRS, REST, pairAt}
+use Rattle.layout.specs.Words.{word, Same, Kept}
 use Rattle.matrices.specs.Matrices.{Related}
 use Rattle.machine.specs.declared.Machine.{Machine}
 use Rattle.powers.specs.Powers.{Founded}
@@ -34,3 +36,9 @@ pub record Settled (m : Machine) (n : ℕ) (p p′ : List ℕ) : Type 0 where
   pub small : (v : ℕ) → v < n → word p′ n ANSWER v ≤ 1
   -- it is 1 where the snippets settle the two starts
   pub answers : (P R : XPath) (t : Tree) → Founded P R t m n 1 p → (v : ℕ) → v < n → (word p′ n ANSWER v ≡ 1) ↔ Settles P R t (Marked t n p) v 0 (m .second)
+
+-- ── The answers ──
+-- those of the nodes below k tell whether 0 and the second start are a pair, and all other words are as before
+pub record Answering (second n k : ℕ) (p p′ : List ℕ) : Type 0 where
+  pub kept : Kept k p p′
+  pub done : (v : ℕ) → v < k → word p′ n ANSWER v ≡ one (bit (getD p (pairAt n v) 0) second)

@@ -11,7 +11,8 @@ ghost use Rattle.bits.specs.Sets.{bit, one};
 ghost use lib.ListN.{getD};
 ghost use Rattle.layout.specs.Part.{ANSWER, pairAt};
 ghost use Rattle.layout.specs.Words.{cell, Wrote};
-ghost use Rattle.settling.specs.Growing.{Ready, Answering};
+ghost use Rattle.pairs.specs.Growing.{Ready};
+ghost use Rattle.settling.specs.Settled.{Answering};
 
 // 1 if `w` has `b`, and else 0.
 fn one_if_has(w: u16, b: usize) -> usize

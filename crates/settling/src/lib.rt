@@ -1,15 +1,11 @@
 // The pairs of positions, one of each path of a comparison, that are settled from each node. They start with those that end at the node or meet a snippet from an end of its edge, and spread from node to node until no round changes any.
 mod answers;
-mod rounds;
-mod seeds;
-mod start;
-mod widen;
 
 use answers::answer;
 use machine::Machine;
-use rounds::spread;
-use seeds::seed;
-use start::start;
+use pair_rounds::spread;
+use pairs::seeds::seed;
+use pairs::start::start;
 ghost use Prim.Native.Nat.{_*_, _≤_, _+_};
 ghost use lib.ListN.{length};
 ghost use Rattle.xpath.specs.Syntax.{XPath};

@@ -2,7 +2,8 @@
 use Prim.Native.Nat.{ℕ, _+_, _-_, _*_}
 use mathlib.Core.Path.{_≡_, _∙_}
 use native.Mathlib.Omega.{arith}
-use Rattle.loops.specs.Growing.{Ready, total, Grown, Settled}
+use Rattle.detours.specs.Visits.{Ready}
+use Rattle.loops.specs.Growing.{total, Grown, Settled}
 use Rattle.loops.proofs.Grows.{ready-kept, grown-none, grown-then}
 use Rattle.loops.proofs.Passing.{total-le, ready-of, passed-settled, found}
 use Rattle.loops.proofs.find_loops.Statement.{statement}

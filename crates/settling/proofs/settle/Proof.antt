@@ -1,5 +1,5 @@
 -- `settling::settle` meets its contract.
-use Rattle.settling.proofs.Framing.{ready-kept}
+use Rattle.pairs.proofs.Framing.{ready-kept}
 use Rattle.settling.proofs.Finding.{ready-of, second-few, settled}
 use borrow.Author.Needs.{needs}
 use Rattle.settling.proofs.settle.Statement.{statement}

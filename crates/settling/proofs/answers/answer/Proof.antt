@@ -1,7 +1,7 @@
 -- `settling::answers::answer` meets its contract.
 use Prim.Native.Nat.{_≤_, _-_}
 use native.Mathlib.Omega.{arith}
-use Rattle.settling.specs.Growing.{Answering}
+use Rattle.settling.specs.Settled.{Answering}
 use Rattle.settling.proofs.Answering.{answering-none, answering-ready, answering-step, answering-to}
 use Rattle.settling.proofs.answers.answer.Statement.{statement}
 use Rattle.settling.proofs.answers.answer.Tie as tie
