@@ -1,5 +1,6 @@
 pub mod Places
 pub mod Kept
+pub mod Rest
 pub mod Crossing
 pub mod Making
 pub mod Ancestors
