@@ -15,7 +15,7 @@ use Rattle.snippets.specs.Direct.{Upper, Lower}
 use Rattle.layout.specs.Blocks.{snippetAt, Rest}
 use Rattle.layout.specs.Table.{COLUMNS}
 use Rattle.matrices.specs.Matrices.{Exactly, Related}
-use Rattle.powers.specs.Ladder.{Ladder}
+use Rattle.lifting.specs.Ladder.{Ladder}
 
 -- ── Rows ──
 -- the members of w are the positions of the first path

@@ -21,8 +21,7 @@ use Rattle.layout.specs.Words.{cell, word, Wrote, Within}
 use Rattle.layout.proofs.Frames.{within-put}
 use Rattle.machine.specs.declared.Machine.{Machine}
 use Rattle.matrices.specs.Matrices.{Exactly}
-use Rattle.powers.specs.Powers.{Lifts}
-use Rattle.powers.specs.Ladder.{Ladder}
+use Rattle.lifting.specs.Ladder.{Lifts, Ladder}
 use Rattle.powers.proofs.Kept.{founded-ready}
 use Rattle.group_marks.specs.Groups.{IsNoted}
 use Rattle.skeletons.specs.Skeletons.{Arrives, Ascent}

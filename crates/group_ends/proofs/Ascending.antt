@@ -28,8 +28,7 @@ use Rattle.machine.specs.declared.Machine.{Machine}
 use Rattle.matrices.proofs.Members.{union-iff}
 use Rattle.matrices.specs.Matrices.{Exactly}
 use Rattle.loops.specs.Loops.{Stage}
-use Rattle.powers.specs.Powers.{Lifts}
-use Rattle.powers.specs.Ladder.{Ladder, Stretch}
+use Rattle.lifting.specs.Ladder.{Lifts, Ladder, Stretch}
 use Rattle.group_marks.specs.Groups.{IsNoted, Group}
 use Rattle.skeletons.specs.Skeletons.{Arrives, Ascent}
 use Rattle.skeletons.proofs.Judging.{empty-block}

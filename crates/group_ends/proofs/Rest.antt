@@ -13,7 +13,7 @@ use Rattle.layout.specs.Groups.{MARKED}
 use Rattle.layout.specs.Table.{RANK}
 use Rattle.layout.proofs.Rest.{same-word}
 use Rattle.machine.specs.declared.Machine.{Machine}
-use Rattle.powers.specs.Ladder.{Ladder}
+use Rattle.lifting.specs.Ladder.{Ladder}
 use Rattle.powers.proofs.Rest.{founded-rest, stage-shape, sizes-rest}
 use Rattle.group_marks.specs.Groups.{Ranks}
 use Rattle.group_ends.specs.Ends.{Setting, Given}

@@ -7,4 +7,3 @@ pub mod Ancestors
 pub mod Doubling
 pub mod Edges
 pub mod Passing
-pub mod Stretching

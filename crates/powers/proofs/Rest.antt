@@ -1,4 +1,4 @@
--- What stays where only columns from one on and the snippets' rows change: powers, loops, stages and ladders.
+-- What stays where only columns from one on and the snippets' rows change: powers, loops and stages.
 use Prim.Native.Nat.{ℕ, _+_, _*_, _≤_, _<_}
 use mathlib.Core.Path.{_≡_, refl, sym, subst}
 use mathlib.Core.Logic.{_⊎_, inl, inr, ⊎-elim, _↔_}
@@ -24,7 +24,6 @@ use Rattle.matrices.proofs.Drawing.{redrawn-other}
 use Rattle.loops.specs.Loops.{Stage, Loops}
 use Rattle.powers.specs.Powers.{Powers, Founded}
 use Rattle.powers.specs.Blocks.{BlockRoom}
-use Rattle.powers.specs.Ladder.{Ladder, Stretch}
 use Rattle.powers.proofs.Kept.{power-kept}
 
 -- the rows of one exponent and node
@@ -64,24 +63,6 @@ module _ {c n b : ℕ} {p p′ : List ℕ} (h : Rest c n b p p′) where
 
     pub founded-rest : {P R : XPath} {t : Tree} {m : Machine} → Founded P R t m n b p → Founded P R t m n b p′
     founded-rest f = record { stage = stage-rest (f .stage); loops = loops-rest (f .loops); powers = powers-rest (f .powers) }
-
-pub ladder-rest : {P R : XPath} {t : Tree} {c n b : ℕ} {p p′ : List ℕ} → Rest c n b p p′ → Ladder P R t n b p → Ladder P R t n b p′
-ladder-rest h l = record { formed = l .formed; few = l .few; loops = loops-rest h (l .loops); powers = powers-rest h (l .powers) }
-
-pub stretch-kept : {c n b y len : ℕ} {p p′ : List ℕ} → Rest c n b p p′ → Stretch n b y len p → Stretch n b y len p′
-stretch-kept h s = let r = s .room in let l = h .same .long in record {
-  first = s .first;
-  second = s .second;
-  tree = s .tree;
-  top = s .top;
-  ladder = ladder-rest h (s .ladder);
-  down = s .down;
-  node = s .node;
-  few = s .few;
-  low = s .low;
-  short = s .short;
-  room = omega arith;
-}
 
 -- there is room for the columns and the loops
 pub sizes-front : {n b : ℕ} {p : List ℕ} → BlockRoom n b p → 32 * n ≤ length p
