@@ -8,7 +8,7 @@ use native.Mathlib.Decide.{decLt}
 use native.Mathlib.Omega.{arith}
 use Rattle.xpath.specs.Tree.{Tree, WellFormed, Down}
 use Rattle.xpath.proofs.Trees.{down-le, down-split, ancestors}
-use Rattle.powers.specs.Ladder.{Stretch}
+use Rattle.lifting.specs.Ladder.{Stretch}
 
 pub exponent-below : {k b l : ℕ} → 2 ^ k ≤ l → l < 2 ^ b → k < b
 exponent-below {k} {b} h l = go (decLt k b)

@@ -14,13 +14,14 @@ use Rattle.snippets.proofs.Edges.{comes-few}
 use Rattle.matrices.specs.Matrices.{Drawing}
 use Rattle.exponents.specs.Exponent.{Exponent}
 use Rattle.layout.specs.Blocks.{snippetAt}
-use Rattle.powers.specs.Powers.{Lifts}
+use Rattle.lifting.specs.Ladder.{Lifts, Ladder, Stretch}
 use Rattle.powers.specs.Blocks.{Fits}
-use Rattle.powers.specs.Ladder.{Ladder, Stretch}
 use Rattle.powers.proofs.Places.{fits-of}
 use Rattle.powers.proofs.Ancestors.{one-above}
 use Rattle.edge_snippets.specs.Edges.{Gains, Opposite, Crossed, EdgeAt, Gained, UpperPart, LowerPart, BothParts}
-use Rattle.group_ends.proofs.Rest.{rest-then, rest-rows, ladder-rest}
+use Rattle.layout.proofs.Rest.{rest-then}
+use Rattle.powers.proofs.Rest.{rest-rows}
+use Rattle.lifting.proofs.Rest.{ladder-rest}
 use Rattle.edge_snippets.proofs.Gains.{gains-then, gains-rows}
 use Rattle.edge_snippets.proofs.Crossing.{opposite-iff}
 use Rattle.edge_snippets.proofs.Lengths.{exponent-below, exponent-one, one-length, stretch-upper}

@@ -12,11 +12,10 @@ use Rattle.xpath.specs.Tree.{Tree, Down}
 use Rattle.snippets.specs.Snippets.{Edge}
 use Rattle.snippets.specs.Ways.{In, Out}
 use Rattle.snippets.specs.Direct.{Upper, Lower}
-use Rattle.layout.specs.Blocks.{snippetAt}
+use Rattle.layout.specs.Blocks.{snippetAt, Rest}
 use Rattle.layout.specs.Table.{COLUMNS}
 use Rattle.matrices.specs.Matrices.{Exactly, Related}
-use Rattle.powers.specs.Ladder.{Ladder}
-use Rattle.group_ends.specs.Ends.{Rest}
+use Rattle.lifting.specs.Ladder.{Ladder}
 
 -- ── Rows ──
 -- the members of w are the positions of the first path

@@ -1,15 +1,15 @@
 // The rows that an edge of the skeleton gains: by its largest power from its upper node down, and by the same power from its lower node up.
 use crate::rows::add_rows;
 use exponents::exponent;
+use exponents::two_to;
 use layout::Blocks;
 use layout::places::block_at;
-use powers::above;
-use powers::hops::two_to;
-use powers::lift;
-use powers::lower;
+use lifting::above;
+use lifting::lift;
+use lifting::lower;
 ghost use Prim.Native.Nat.{_<_};
 ghost use Rattle.exponents.specs.Exponent.{Exponent};
-ghost use Rattle.powers.specs.Ladder.{Stretch};
+ghost use Rattle.lifting.specs.Ladder.{Stretch};
 ghost use Rattle.edge_snippets.specs.Edges.{Gained, UpperPart, LowerPart, BothParts};
 
 // The upper part of the edge of length `len` above node `v`, where `k` is the exponent of the length.

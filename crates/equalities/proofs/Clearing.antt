@@ -9,8 +9,7 @@ use lib.ListN.{length, getD, set}
 use lib.Seq.{getD-set-same, getD-set-other}
 use Rattle.layout.proofs.Frames.{frame-none, frame-then, frame-wider, set-frame, same-none, same-then, same-wider}
 use Rattle.matrices.proofs.Drawing.{redrawn-same}
-use Rattle.group_ends.specs.Ends.{Rest}
-use Rattle.layout.specs.Blocks.{rowsAt, Aside}
+use Rattle.layout.specs.Blocks.{Rest, rowsAt, Aside}
 use Rattle.equalities.specs.Steps.{Zeroed, Cleared, Empty}
 
 -- ── Words from an offset on ──

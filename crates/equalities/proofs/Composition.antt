@@ -21,7 +21,7 @@ use Rattle.snippets.specs.Direct.{Direct}
 use Rattle.snippets.proofs.Settles.{sound, yielded-down}
 use Rattle.snippets.proofs.Counting.{down-inside, ends-small}
 use Rattle.snippets.proofs.Direct.{first-iff, yielded-iff}
-use Rattle.layout.specs.Blocks.{BLOCKS, snippetAt}
+use Rattle.layout.specs.Blocks.{BLOCKS, snippetAt, Rest}
 use Rattle.layout.specs.Part.{ANSWER}
 use Rattle.layout.specs.Words.{word}
 use Rattle.layout.proofs.Frames.{same-wider}
@@ -40,10 +40,11 @@ use Rattle.buckets.specs.Buckets.{Bucketed}
 use Rattle.halving.specs.Halving.{Family, Inside, Within, Sets, Marked, Topped, Halved, Halving, Counts}
 use Rattle.halving.proofs.Families.{topped-of, sets-marked, halved-yielded, yielded-halved}
 use Rattle.halving.proofs.Counting.{counts-sets}
-use Rattle.group_ends.specs.Ends.{Enough, Rest}
+use Rattle.group_ends.specs.Ends.{Enough}
 use Rattle.edge_snippets.specs.Edges.{Gains}
 use Rattle.first_snippets.specs.Groups.{Base, AddedAll}
-use Rattle.group_ends.proofs.Rest.{rest-within, founded-rest, stage-shape, sizes-rest}
+use Rattle.layout.proofs.Rest.{rest-within}
+use Rattle.powers.proofs.Rest.{founded-rest, stage-shape, sizes-rest}
 use Rattle.edge_snippets.proofs.Lengths.{exponent-below}
 use Rattle.equalities.specs.Equalities.{Answers, Evaluated}
 use Rattle.equalities.specs.Steps.{Cleared, Empty, Prepares, FromFirst, Gathers}

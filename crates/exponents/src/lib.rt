@@ -1,7 +1,8 @@
-// The exponent of the largest power of two not above a length from 1 to 4,096, by a constant table with one entry for each length.
+// The exponent of the largest power of two not above a length from 1 to 4,096, by a constant table with one entry for each length; and the power of an exponent.
 use limits::Document;
-ghost use Prim.Native.Nat.{_≤_};
-ghost use Rattle.limits.specs.Limits.{documentNodes};
+ghost use mathlib.Core.Path.{_≡_};
+ghost use Prim.Native.Nat.{_^_, _≤_, _<_};
+ghost use Rattle.limits.specs.Limits.{documentNodes, nodeDigits};
 ghost use Rattle.exponents.specs.Exponent.{Exponent};
 
 // Entry i is that of the length i + 1.
@@ -4110,4 +4111,12 @@ pub fn exponent(length: usize) -> u8
     ensures { λ r. ⌜ Exponent length r ⌝ }
 {
     EXPONENTS[length - 1]
+}
+
+// 2^k.
+pub fn two_to(k: usize) -> usize
+    requires { ⌜ k < nodeDigits ⌝ }
+    ensures { λ r. ⌜ r ≡ 2 ^ k ⌝ }
+{
+    1 << k
 }

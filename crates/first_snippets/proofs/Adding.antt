@@ -22,11 +22,14 @@ use Rattle.powers.specs.Powers.{Founded}
 use Rattle.buckets.specs.Buckets.{Least, Buckets}
 use Rattle.group_marks.specs.Groups.{Ranks, Grouped}
 use Rattle.buckets.proofs.Least.{least-node, least-none, buckets-kept}
-use Rattle.group_ends.specs.Ends.{Setting, Given, Rest}
+use Rattle.group_ends.specs.Ends.{Setting, Given}
+use Rattle.layout.specs.Blocks.{Rest}
 use Rattle.first_snippets.specs.Groups.{Yields, Base, Grounds, Added, OfRanks, AddedOf, Somewhere, Alone}
 use Rattle.group_ends.specs.Steps.{Rose}
 use Rattle.first_snippets.specs.Steps.{Sank}
-use Rattle.group_ends.proofs.Rest.{rest-none, rest-then, rest-more, rest-within, same-word, sizes-rest, founded-rest, stage-shape, setting-rest}
+use Rattle.layout.proofs.Rest.{rest-none, rest-then, rest-more, rest-within, same-word}
+use Rattle.powers.proofs.Rest.{sizes-rest, founded-rest, stage-shape}
+use Rattle.group_ends.proofs.Rest.{setting-rest}
 use Rattle.edge_snippets.proofs.Gains.{gains-same, gains-then, gains-iff, gains-before}
 
 -- ── One value ──

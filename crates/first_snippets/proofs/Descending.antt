@@ -21,18 +21,19 @@ use Rattle.layout.specs.Words.{cell, word, Wrote, Within}
 use Rattle.layout.proofs.Frames.{within-put}
 use Rattle.machine.specs.declared.Machine.{Machine}
 use Rattle.matrices.specs.Matrices.{Exactly}
-use Rattle.powers.specs.Powers.{Lifts}
-use Rattle.powers.specs.Ladder.{Ladder}
+use Rattle.lifting.specs.Ladder.{Lifts, Ladder}
 use Rattle.powers.proofs.Kept.{founded-ready}
 use Rattle.group_marks.specs.Groups.{IsNoted}
 use Rattle.skeletons.specs.Skeletons.{Arrives, Ascent}
 use Rattle.skeletons.proofs.Judging.{empty-block}
-use Rattle.group_ends.specs.Ends.{inward, Setting, Rest, Risen}
+use Rattle.group_ends.specs.Ends.{inward, Setting, Risen}
+use Rattle.layout.specs.Blocks.{Rest}
 use Rattle.edge_snippets.specs.Edges.{OfFirst, Gains, OfEdge, EdgeAt, Gained, BothParts}
 use Rattle.first_snippets.specs.Groups.{Yields, Sunk}
 use Rattle.group_ends.specs.Steps.{Outside}
 use Rattle.first_snippets.specs.Steps.{Sinks, SinksBy, Sank}
-use Rattle.group_ends.proofs.Rest.{rest-none, rest-then, rest-more, rest-within, same-word, setting-rest, ladder-of}
+use Rattle.layout.proofs.Rest.{rest-none, rest-then, rest-more, rest-within, same-word}
+use Rattle.group_ends.proofs.Rest.{setting-rest, ladder-of}
 use Rattle.edge_snippets.proofs.Gains.{gains-same, gains-then, gains-iff, gains-before}
 use Rattle.group_ends.proofs.Ascending.{exactly-none, top-none}
 

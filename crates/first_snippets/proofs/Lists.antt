@@ -16,10 +16,11 @@ use Rattle.layout.specs.Words.{cell, word, Wrote}
 use Rattle.layout.proofs.Frames.{within-none, within-then, within-put}
 use Rattle.machine.specs.declared.Machine.{Machine}
 use Rattle.powers.specs.Powers.{Founded}
-use Rattle.group_ends.specs.Ends.{Rest}
+use Rattle.layout.specs.Blocks.{Rest}
 use Rattle.first_snippets.specs.Groups.{Base, OfRanks, AddedOf, Listed, Listing, AddedAll}
 use Rattle.first_snippets.specs.Steps.{Ranged}
-use Rattle.group_ends.proofs.Rest.{rest-then, rest-more, rest-within, same-word, founded-rest}
+use Rattle.layout.proofs.Rest.{rest-then, rest-more, rest-within, same-word}
+use Rattle.powers.proofs.Rest.{founded-rest}
 use Rattle.edge_snippets.proofs.Gains.{gains-iff, gains-before}
 use Rattle.buckets.proofs.Least.{buckets-kept}
 use Rattle.first_snippets.proofs.Adding.{base-by, added-none, added-then}

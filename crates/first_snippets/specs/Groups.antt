@@ -16,7 +16,8 @@ use Rattle.powers.specs.Powers.{Founded}
 use Rattle.powers.specs.Blocks.{BlockRoom}
 use Rattle.buckets.specs.Buckets.{Buckets}
 use Rattle.group_marks.specs.Groups.{Ranks}
-use Rattle.group_ends.specs.Ends.{Enough, Rest}
+use Rattle.group_ends.specs.Ends.{Enough}
+use Rattle.layout.specs.Blocks.{Rest}
 use Rattle.edge_snippets.specs.Edges.{OfFirst, Gains, OfEdge}
 
 -- ── What is found ──

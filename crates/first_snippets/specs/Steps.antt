@@ -8,7 +8,8 @@ use Rattle.snippets.specs.Snippets.{Skeleton}
 use Rattle.layout.specs.Groups.{LIST, ABOVE}
 use Rattle.layout.specs.Words.{word, Within}
 use Rattle.machine.specs.declared.Machine.{Machine}
-use Rattle.group_ends.specs.Ends.{Setting, Rest, Risen}
+use Rattle.group_ends.specs.Ends.{Setting, Risen}
+use Rattle.layout.specs.Blocks.{Rest}
 use Rattle.edge_snippets.specs.Edges.{OfFirst, Gains}
 use Rattle.first_snippets.specs.Groups.{Yields, Sunk}
 

@@ -28,14 +28,16 @@ use Rattle.machine.specs.declared.Machine.{Machine}
 use Rattle.matrices.proofs.Members.{union-iff}
 use Rattle.matrices.specs.Matrices.{Exactly}
 use Rattle.loops.specs.Loops.{Stage}
-use Rattle.powers.specs.Powers.{Lifts}
-use Rattle.powers.specs.Ladder.{Ladder, Stretch}
+use Rattle.lifting.specs.Ladder.{Lifts, Ladder, Stretch}
 use Rattle.group_marks.specs.Groups.{IsNoted, Group}
 use Rattle.skeletons.specs.Skeletons.{Arrives, Ascent}
 use Rattle.skeletons.proofs.Judging.{empty-block}
-use Rattle.group_ends.specs.Ends.{inward, Setting, Given, Rest, Sides, Risen}
+use Rattle.group_ends.specs.Ends.{inward, Setting, Given, Sides, Risen}
+use Rattle.layout.specs.Blocks.{Rest}
 use Rattle.group_ends.specs.Steps.{Placed, Cleared, Handed, Rises, Rose}
-use Rattle.group_ends.proofs.Rest.{rest-more, rest-within, sizes-rest, setting-rest, ladder-of}
+use Rattle.layout.proofs.Rest.{rest-more, rest-within}
+use Rattle.powers.proofs.Rest.{sizes-rest}
+use Rattle.group_ends.proofs.Rest.{setting-rest, ladder-of}
 
 pub exactly-none : {A : ℕ → Type 0} (w : ℕ) → w ≡ 0 → ((i : ℕ) → ¬ A i) → Exactly w A
 exactly-none w e f i l = (λ x. absurd (false≢true (sym (bit-none i) ∙ subst (λ (z : ℕ). bit z i ≡ true) e x)), λ a. absurd (f i a))

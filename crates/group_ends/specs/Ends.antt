@@ -1,16 +1,13 @@
--- Where a comparison's paths end among the nodes of one value: what is given, what may change, and the positions at each skeleton node that end inside it or beside it.
-use Prim.Native.Nat.{ℕ, _*_, _^_, _≤_, _<_}
-use mathlib.Core.Logic.{_⊎_}
+-- Where a comparison's paths end among the nodes of one value: what is given, and the positions at each skeleton node that end inside it or beside it.
+use Prim.Native.Nat.{ℕ, _^_, _≤_, _<_}
 use mathlib.Core.Bool.{Bool, true, false}
 use mathlib.Core.List.{List}
 use Rattle.xpath.specs.Syntax.{XPath}
 use Rattle.xpath.specs.Tree.{Tree, Down}
 use Rattle.snippets.specs.Snippets.{Skeleton}
 use Rattle.snippets.specs.Ways.{In, FromChild}
-use Rattle.layout.specs.Blocks.{Aside}
 use Rattle.layout.specs.Groups.{IN, LEFTIN, RIGHTIN}
-use Rattle.layout.specs.Table.{COLUMNS}
-use Rattle.layout.specs.Words.{word, Same}
+use Rattle.layout.specs.Words.{word}
 use Rattle.machine.specs.declared.Machine.{Machine}
 use Rattle.matrices.specs.Matrices.{Exactly}
 use Rattle.powers.specs.Powers.{Founded}
@@ -41,11 +38,6 @@ pub record Given (m : Machine) (n b r : ℕ) (p : List ℕ) : Type 0 where
   pub setting : Setting first second tree value m n b r p
   pub enough : Enough tree b
   pub sizes : BlockRoom n b p
-
--- ── What may change ──
--- only the columns from c on and the snippets' rows may be different
-pub record Rest (c n b : ℕ) (p p′ : List ℕ) : Type 0 where
-  pub same : Same (λ k. (k < c * n) ⊎ ((COLUMNS * n ≤ k) × Aside n b k)) p p′
 
 -- ── What is found ──
 module _ (P R : XPath) (t : Tree) (d : List ℕ) (n : ℕ) (p : List ℕ) where

@@ -12,7 +12,7 @@ use Rattle.layout.specs.Words.{word, Within}
 use Rattle.machine.specs.declared.Machine.{Machine}
 use Rattle.matrices.specs.Matrices.{Exactly}
 use Rattle.powers.specs.Blocks.{BlockRoom}
-use Rattle.powers.specs.Ladder.{Ladder}
+use Rattle.lifting.specs.Ladder.{Ladder}
 use Rattle.powers.specs.Powers.{Ready}
 use Rattle.group_marks.specs.Groups.{IsNoted, Group}
 use Rattle.group_ends.specs.Ends.{inward, Setting, Enough, Sides, Risen}

@@ -1,9 +1,9 @@
 pub mod Places
 pub mod Kept
+pub mod Rest
 pub mod Crossing
 pub mod Making
 pub mod Ancestors
 pub mod Doubling
 pub mod Edges
 pub mod Passing
-pub mod Stretching

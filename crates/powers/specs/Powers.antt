@@ -1,17 +1,14 @@
 -- The powers of two along the tree: for each node y and exponent k the node 2^k above it, and which positions come to which between the two.
 use Prim.Native.Nat.{ℕ, _*_, _^_, _<_}
-use mathlib.Core.Path.{_≡_}
 use mathlib.Core.Logic.{_↔_}
-use mathlib.Core.Bool.{true}
 use mathlib.Core.List.{List}
 use lib.ListN.{getD}
 use Rattle.limits.specs.Limits.{positions}
-use Rattle.bits.specs.Sets.{bit}
 use Rattle.xpath.specs.Syntax.{XPath}
 use Rattle.xpath.specs.Tree.{Tree, Down}
 use Rattle.positions.specs.Positions.{Comes}
 use Rattle.table.specs.Links.{Points}
-use Rattle.matrices.specs.Matrices.{Exactly, Related}
+use Rattle.matrices.specs.Matrices.{Related}
 use Rattle.machine.specs.declared.Machine.{Machine}
 use Rattle.loops.specs.Loops.{Stage, Loops}
 use Rattle.layout.specs.Blocks.{BLOCKS, blockAt, downAt, upAt, upperAt}
@@ -43,8 +40,3 @@ pub record Founded (P R : XPath) (t : Tree) (m : Machine) (n b : ℕ) (p : List 
 pub record Powered (P R : XPath) (t : Tree) (n b : ℕ) (p p′ : List ℕ) : Type 0 where
   pub frame : Frame (BLOCKS * n) (blockAt n b 0) p p′
   pub powers : Powers P R t n p′ b
-
--- ── Along a stretch of any length below 2^b ──
--- the positions that at x come to a member of S at y
-abbrev pub Lifts : XPath → XPath → Tree → ℕ → ℕ → ℕ → ℕ → Type 0
-Lifts P R t x y S r = Exactly r (λ i. (j : ℕ) × (j < positions) × (bit S j ≡ true) × Comes P R t i x j y)

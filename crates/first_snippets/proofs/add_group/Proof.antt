@@ -1,6 +1,8 @@
 -- `first_snippets::add_group` meets its contract.
 use native.Mathlib.Omega.{arith}
-use Rattle.group_ends.proofs.Rest.{rest-within, stage-shape, given-rest, sizes-front}
+use Rattle.layout.proofs.Rest.{rest-within}
+use Rattle.powers.proofs.Rest.{stage-shape, sizes-front}
+use Rattle.group_ends.proofs.Rest.{given-rest}
 use Rattle.first_snippets.proofs.Adding.{given-marked, group-added}
 use borrow.Author.Needs.{needs}
 use Rattle.first_snippets.proofs.add_group.Statement.{statement}

@@ -4,7 +4,8 @@ use mathlib.Core.Path.{_≡_, sym, _∙_, subst}
 use native.Mathlib.Omega.{arith}
 use Rattle.layout.specs.Groups.{LIST}
 use Rattle.first_snippets.specs.Groups.{Listed, AddedOf}
-use Rattle.group_ends.proofs.Rest.{same-word, sizes-front}
+use Rattle.layout.proofs.Rest.{same-word}
+use Rattle.powers.proofs.Rest.{sizes-front}
 use Rattle.first_snippets.proofs.Adding.{base-rest}
 use Rattle.first_snippets.proofs.Lists.{listed-none, listed-step}
 use Rattle.first_snippets.proofs.add_list.Statement.{statement}

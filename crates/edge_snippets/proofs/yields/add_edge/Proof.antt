@@ -1,7 +1,7 @@
 -- `edge_snippets::yields::add_edge` meets its contract.
 use native.Mathlib.Omega.{arith}
-use Rattle.powers.proofs.Stretching.{stretch-short}
-use Rattle.group_ends.proofs.Rest.{stretch-kept}
+use Rattle.lifting.proofs.Stretching.{stretch-short}
+use Rattle.lifting.proofs.Rest.{stretch-kept}
 use Rattle.edge_snippets.proofs.Yielding.{both-gained}
 use borrow.Author.Needs.{needs}
 use Rattle.edge_snippets.proofs.yields.add_edge.Statement.{statement}

@@ -3,7 +3,8 @@ use Prim.Native.Nat.{_-_, _≤_}
 use mathlib.Core.Path.{_≡_, subst}
 use native.Mathlib.Omega.{arith}
 use Rattle.first_snippets.specs.Steps.{Sank}
-use Rattle.group_ends.proofs.Rest.{rest-more, given-rest}
+use Rattle.layout.proofs.Rest.{rest-more}
+use Rattle.group_ends.proofs.Rest.{given-rest}
 use Rattle.first_snippets.proofs.Descending.{sank-none}
 use Rattle.first_snippets.proofs.sinking.sink.Statement.{statement}
 use Rattle.first_snippets.proofs.sinking.sink.Tie as tie

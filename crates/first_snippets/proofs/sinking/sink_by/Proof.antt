@@ -1,6 +1,7 @@
 -- `first_snippets::sinking::sink_by` meets its contract.
 use native.Mathlib.Omega.{arith}
-use Rattle.group_ends.proofs.Rest.{sizes-front, stretch-kept}
+use Rattle.powers.proofs.Rest.{sizes-front}
+use Rattle.lifting.proofs.Rest.{stretch-kept}
 use Rattle.group_ends.proofs.Ascending.{placed-node, placed-stretch}
 use Rattle.first_snippets.proofs.Descending.{put-rest, sinks-edge}
 use borrow.Author.Needs.{needs}

@@ -1,7 +1,7 @@
 -- `group_ends::rising::hand_up` meets its contract.
 use mathlib.Core.Path.{sym, _∙_}
 use native.Mathlib.Omega.{arith}
-use Rattle.group_ends.proofs.Rest.{sizes-front}
+use Rattle.powers.proofs.Rest.{sizes-front}
 use Rattle.group_ends.proofs.Ascending.{placed-node, placed-stretch, handed-none, handed-left, handed-right}
 use borrow.Author.Needs.{needs}
 use Rattle.group_ends.proofs.rising.hand_up.Statement.{statement}

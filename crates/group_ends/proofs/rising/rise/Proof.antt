@@ -3,7 +3,9 @@ use Prim.Native.Nat.{suc, _-_, _≤_}
 use mathlib.Core.Path.{_≡_, _∙_, subst}
 use native.Mathlib.Omega.{arith}
 use Rattle.group_ends.specs.Steps.{Rises}
-use Rattle.group_ends.proofs.Rest.{rest-within, given-rest, sizes-front}
+use Rattle.layout.proofs.Rest.{rest-within}
+use Rattle.group_ends.proofs.Rest.{given-rest}
+use Rattle.powers.proofs.Rest.{sizes-front}
 use Rattle.group_ends.proofs.Ascending.{cleared-rest, rises-none, rises-then, rises-all}
 use Rattle.group_ends.proofs.rising.rise.Statement.{statement}
 use Rattle.group_ends.proofs.rising.rise.Tie as tie

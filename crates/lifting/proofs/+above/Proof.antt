@@ -1,15 +1,15 @@
--- `powers::above` meets its contract. The length falls from call to call.
+-- `lifting::above` meets its contract. The length falls from call to call.
 use native.Mathlib.Omega.{arith}
-use Rattle.powers.proofs.Stretching.{at-top, rest-down, hops-less, stretch-rest}
+use Rattle.lifting.proofs.Stretching.{at-top, rest-down, hops-less, stretch-rest}
 use Prim.Native.Nat.{ℕ, _<_}
 use borrow.Fn.Kinds.{In}
 use borrow.Fn.PlainCycle.{Measures, is, falls, and}
-use Rattle.powers.proofs.above.Reads as above
-use Rattle.powers.proofs.above.Kinds as above-kinds
-use Rattle.powers.proofs.+above.Lts-above as above-lts
-use Rattle.powers.proofs.hops.first_hop.Reads as first-hop-reads
-use Rattle.powers.proofs.+above.{statement}
-use Rattle.powers.proofs.+above.Tie.{close}
+use Rattle.lifting.proofs.above.Reads as above
+use Rattle.lifting.proofs.above.Kinds as above-kinds
+use Rattle.lifting.proofs.+above.Lts-above as above-lts
+use Rattle.lifting.proofs.hops.first_hop.Reads as first-hop-reads
+use Rattle.lifting.proofs.+above.{statement}
+use Rattle.lifting.proofs.+above.Tie.{close}
 
 abbrev μ-above : Measures 1 above-kinds.ps ℕ
 μ-above κs a = a .1 .1 .1 .1 .0

@@ -1,19 +1,19 @@
--- `powers::lower` meets its contract. The length falls from call to call.
+-- `lifting::lower` meets its contract. The length falls from call to call.
 use mathlib.Core.Path.{ap}
 use native.Mathlib.Omega.{arith}
-use Rattle.powers.proofs.Stretching.{rest-down, hops-less, stretch-loops, stretch-fits, stretch-rest, lower-here, lower-step}
+use Rattle.lifting.proofs.Stretching.{rest-down, hops-less, stretch-loops, stretch-fits, stretch-rest, lower-here, lower-step}
 use Prim.Native.Nat.{ℕ, _+_, _<_}
 use borrow.Fn.Kinds.{In}
 use borrow.Fn.PlainCycle.{Measures, is, falls, and}
-use Rattle.powers.proofs.lower.Reads as lower
-use Rattle.powers.proofs.lower.Kinds as lower-kinds
-use Rattle.powers.proofs.+lower.Lts-lower as lower-lts
+use Rattle.lifting.proofs.lower.Reads as lower
+use Rattle.lifting.proofs.lower.Kinds as lower-kinds
+use Rattle.lifting.proofs.+lower.Lts-lower as lower-lts
 use Rattle.matrices.proofs.before.Reads as before-reads
 use Rattle.layout.proofs.places.block_at.Reads as block-at-reads
 use Rattle.layout.proofs.places.loop_at.Reads as loop-at-reads
-use Rattle.powers.proofs.hops.first_hop.Reads as first-hop-reads
-use Rattle.powers.proofs.+lower.{statement}
-use Rattle.powers.proofs.+lower.Tie.{close}
+use Rattle.lifting.proofs.hops.first_hop.Reads as first-hop-reads
+use Rattle.lifting.proofs.+lower.{statement}
+use Rattle.lifting.proofs.+lower.Tie.{close}
 
 -- ── The measure, and what the calls claim ──
 abbrev μ-lower : Measures 1 lower-kinds.ps ℕ

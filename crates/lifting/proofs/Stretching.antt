@@ -1,5 +1,5 @@
 -- Along a stretch: by its largest power, and then along the rest.
-use Prim.Native.Nat.{ℕ, _+_, _-_, _^_, _≤_, _<_}
+use Prim.Native.Nat.{ℕ, _+_, _^_, _≤_, _<_}
 use mathlib.Core.Path.{_≡_, sym, subst}
 use mathlib.Core.Logic.{inl, inr, _↔_}
 use mathlib.Core.Bool.{true}
@@ -18,11 +18,10 @@ use Rattle.table.specs.Links.{Points}
 use Rattle.matrices.specs.Matrices.{Exactly, Related, Before}
 use Rattle.layout.specs.Blocks.{downAt, upAt, upperAt}
 use Rattle.layout.specs.Part.{loopAt}
-use Rattle.powers.specs.Powers.{Lifts}
+use Rattle.lifting.specs.Ladder.{Lifts, Ladder, Stretch, Hops}
 use Rattle.powers.specs.Blocks.{Fits}
-use Rattle.powers.specs.Ladder.{Ladder, Stretch, Hops}
 use Rattle.powers.proofs.Places.{fits-of}
 use Rattle.powers.proofs.Ancestors.{one-above}
 
 -- a power of two below another has a lower exponent
 exponent-below : {k b len : ℕ} → 2 ^ k ≤ len → len < 2 ^ b → k < b

@@ -1,18 +1,18 @@
--- `powers::lift` meets its contract. The length falls from call to call.
+-- `lifting::lift` meets its contract. The length falls from call to call.
 use native.Mathlib.Omega.{arith}
-use Rattle.powers.proofs.Stretching.{rest-down, hops-less, stretch-loops, stretch-fits, stretch-rest, lift-here, lift-step}
+use Rattle.lifting.proofs.Stretching.{rest-down, hops-less, stretch-loops, stretch-fits, stretch-rest, lift-here, lift-step}
 use Prim.Native.Nat.{ℕ, _+_, _<_}
 use borrow.Fn.Kinds.{In}
 use borrow.Fn.PlainCycle.{Measures, is, falls, and}
-use Rattle.powers.proofs.lift.Reads as lift
-use Rattle.powers.proofs.lift.Kinds as lift-kinds
-use Rattle.powers.proofs.+lift.Lts-lift as lift-lts
+use Rattle.lifting.proofs.lift.Reads as lift
+use Rattle.lifting.proofs.lift.Kinds as lift-kinds
+use Rattle.lifting.proofs.+lift.Lts-lift as lift-lts
 use Rattle.matrices.proofs.before.Reads as before-reads
 use Rattle.layout.proofs.places.block_at.Reads as block-at-reads
 use Rattle.layout.proofs.places.loop_at.Reads as loop-at-reads
-use Rattle.powers.proofs.hops.first_hop.Reads as first-hop-reads
-use Rattle.powers.proofs.+lift.{statement}
-use Rattle.powers.proofs.+lift.Tie.{close}
+use Rattle.lifting.proofs.hops.first_hop.Reads as first-hop-reads
+use Rattle.lifting.proofs.+lift.{statement}
+use Rattle.lifting.proofs.+lift.Tie.{close}
 
 abbrev μ-lift : Measures 1 lift-kinds.ps ℕ
 μ-lift κs a = a .1 .1 .1 .1 .0

@@ -1,4 +1,4 @@
--- `powers::hops::two_to` meets its contract.
+-- `exponents::two_to` meets its contract.
 use Prim.Native.Nat.{_^_}
 use mathlib.Core.Path.{_∙_}
 use lib.Dec.{lit<}
@@ -6,8 +6,8 @@ use lib.Pow.{shl-exact}
 use native.Mathlib.Nat.{one-mul}
 use native.Mathlib.Omega.{arith}
 use borrow.Author.Needs.{needs}
-use Rattle.powers.proofs.hops.two_to.Statement.{statement}
-use Rattle.powers.proofs.hops.two_to.Tie as tie
+use Rattle.exponents.proofs.two_to.Statement.{statement}
+use Rattle.exponents.proofs.two_to.Tie as tie
 
 shl-result : tie.Need-shl-result
 shl-result c = search needs

@@ -1,9 +1,9 @@
--- `powers::hops::first_hop` meets its contract.
+-- `lifting::hops::first_hop` meets its contract.
 use native.Mathlib.Omega.{arith}
-use Rattle.powers.proofs.Stretching.{stretch-short, stretch-low, stretch-fits}
+use Rattle.lifting.proofs.Stretching.{stretch-short, stretch-low, stretch-fits}
 use borrow.Author.Needs.{needs}
-use Rattle.powers.proofs.hops.first_hop.Statement.{statement}
-use Rattle.powers.proofs.hops.first_hop.Tie as tie
+use Rattle.lifting.proofs.hops.first_hop.Statement.{statement}
+use Rattle.lifting.proofs.hops.first_hop.Tie as tie
 
 exponent-requires : tie.Need-exponent-requires
 exponent-requires c κs = let s = c .before .pre in let h = stretch-short (s .0) in let o = s .1 in (omega arith, omega arith)

@@ -1,24 +1,15 @@
 // The first hop up along a stretch, by its largest power.
-use crate::blocks::upper;
 use exponents::exponent;
-ghost use mathlib.Core.Path.{_≡_};
-ghost use Prim.Native.Nat.{_^_, _<_};
-ghost use Rattle.limits.specs.Limits.{nodeDigits};
-ghost use Rattle.powers.specs.Ladder.{Stretch, Hops};
+use exponents::two_to;
+use powers::blocks::upper;
+ghost use Prim.Native.Nat.{_<_};
+ghost use Rattle.lifting.specs.Ladder.{Stretch, Hops};
 
 // The node over, 2^exponent above, and how many edges are left from there.
 pub struct Hop {
     pub exponent: usize,
     pub over: usize,
     pub rest: usize,
-}
-
-// 2^k.
-pub fn two_to(k: usize) -> usize
-    requires { ⌜ k < nodeDigits ⌝ }
-    ensures { λ r. ⌜ r ≡ 2 ^ k ⌝ }
-{
-    1 << k
 }
 
 // The hop from node `y`, below the top of a stretch of `len` edges.
