@@ -1,12 +1,12 @@
--- `ranks::comparison::compare_values` meets its contract.
+-- `value_order::comparison::compare_values` meets its contract.
 use mathlib.Core.Path.{sym}
 use native.Mathlib.Omega.{arith}
 use Rattle.document_spec.specs.Binary.{stringOf}
 use Rattle.table.proofs.Trees.{tree-small}
-use Rattle.ranks.proofs.Values.{lasts-same, lasts-less}
+use Rattle.value_order.proofs.Values.{lasts-same, lasts-less}
 use borrow.Author.Needs.{needs}
-use Rattle.ranks.proofs.comparison.compare_values.Statement.{statement}
-use Rattle.ranks.proofs.comparison.compare_values.Tie as tie
+use Rattle.value_order.proofs.comparison.compare_values.Statement.{statement}
+use Rattle.value_order.proofs.comparison.compare_values.Tie as tie
 
 returns : tie.Need-returns
 returns c = λ ns v w h k. lasts-less ns v w (tree-small (h .comes .accepts)) (h .lasts) (k .lasts) (c .before .before .before .if1 .taken) (c .if2 .taken)

@@ -1,4 +1,4 @@
--- `ranks::comparison::one_if_smaller` meets its contract.
+-- `value_order::comparison::one_if_smaller` meets its contract.
 use Prim.Native.Nat.{ℕ}
 use mathlib.Core.Path.{subst}
 use mathlib.Core.List.{List}
@@ -7,11 +7,11 @@ use Rattle.xpath.proofs.Order.{less-distinct, less-asymmetric}
 use Rattle.document_spec.specs.Library.{Node}
 use Rattle.document_spec.specs.Binary.{stringOf}
 use Rattle.values.specs.Ordered.{Ordered}
-use Rattle.ranks.specs.Values.{IsValue}
-use Rattle.ranks.proofs.Less.{one-less, one-not}
+use Rattle.value_order.specs.Values.{IsValue}
+use Rattle.value_order.proofs.Less.{one-less, one-not}
 use borrow.Author.Needs.{needs}
-use Rattle.ranks.proofs.comparison.one_if_smaller.Statement.{statement}
-use Rattle.ranks.proofs.comparison.one_if_smaller.Tie as tie
+use Rattle.value_order.proofs.comparison.one_if_smaller.Statement.{statement}
+use Rattle.value_order.proofs.comparison.one_if_smaller.Tie as tie
 
 value-of-requires : tie.Need-value-of-requires
 value-of-requires c κs = search needs

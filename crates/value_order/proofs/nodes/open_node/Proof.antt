@@ -1,11 +1,11 @@
--- `ranks::nodes::open_node` meets its contract.
+-- `value_order::nodes::open_node` meets its contract.
 use mathlib.Core.Path.{sym, subst}
 use native.Mathlib.Omega.{arith}
 use Rattle.document_lines.specs.Entries.{Stands}
 use Rattle.table.proofs.Trees.{tree-size, tree-stands}
 use borrow.Author.Needs.{needs}
-use Rattle.ranks.proofs.nodes.open_node.Statement.{statement}
-use Rattle.ranks.proofs.nodes.open_node.Tie as tie
+use Rattle.value_order.proofs.nodes.open_node.Statement.{statement}
+use Rattle.value_order.proofs.nodes.open_node.Tie as tie
 
 offset-requires : tie.Need-offset-requires
 offset-requires c κs = let h = c .before .before .pre in (h .1, h .0 .room)

@@ -20,7 +20,7 @@ use Rattle.value_notes.specs.Notes.{noteAt, span, Held, Valued, Marked}
 use Rattle.value_notes.specs.declared.notes.Note.{Note}
 use Rattle.value_notes.proofs.Values.{inside-lasts, inside-first, inside-more}
 use Rattle.value_notes.proofs.Noting.{text-held}
-use Rattle.ranks.specs.Values.{IsValue}
+use Rattle.value_order.specs.Values.{IsValue}
 
 module _ {s : List ℕ} {ns : List Node} {v : ℕ} {x : Note} (h : Valued s ns v x) where
   -- one span

@@ -1,4 +1,4 @@
--- `ranks::comparison::value_of` meets its contract.
+-- `value_order::comparison::value_of` meets its contract.
 use Prim.Native.Nat.{ℕ}
 use mathlib.Core.Path.{sym, subst}
 use mathlib.Core.List.{List}
@@ -7,10 +7,10 @@ use Rattle.document_spec.specs.Library.{Node}
 use Rattle.document_spec.specs.Verdict.{Accepts}
 use Rattle.value_notes.specs.Notes.{Valued, Marked}
 use Rattle.value_notes.proofs.Values.{inside-lasts}
-use Rattle.ranks.proofs.Opening.{note-whole, note-several}
+use Rattle.value_order.proofs.Opening.{note-whole, note-several}
 use borrow.Author.Needs.{needs}
-use Rattle.ranks.proofs.comparison.value_of.Statement.{statement}
-use Rattle.ranks.proofs.comparison.value_of.Tie as tie
+use Rattle.value_order.proofs.comparison.value_of.Statement.{statement}
+use Rattle.value_order.proofs.comparison.value_of.Tie as tie
 
 get-note-requires : tie.Need-get-note-requires
 get-note-requires c κs = search needs

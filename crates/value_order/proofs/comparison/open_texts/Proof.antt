@@ -1,9 +1,9 @@
--- `ranks::comparison::open_texts` meets its contract.
+-- `value_order::comparison::open_texts` meets its contract.
 use native.Mathlib.Omega.{arith}
-use Rattle.ranks.proofs.Opening.{several-nodes, several-comes}
+use Rattle.value_order.proofs.Opening.{several-nodes, several-comes}
 use borrow.Author.Needs.{needs}
-use Rattle.ranks.proofs.comparison.open_texts.Statement.{statement}
-use Rattle.ranks.proofs.comparison.open_texts.Tie as tie
+use Rattle.value_order.proofs.comparison.open_texts.Statement.{statement}
+use Rattle.value_order.proofs.comparison.open_texts.Tie as tie
 
 get-note-requires : tie.Need-get-note-requires
 get-note-requires c κs = let (s, ns, v, l, g, a, r, h) = c .before .pre in let m = several-nodes g a r h in (omega arith, g .tabled .room)

@@ -5,7 +5,7 @@ use Rattle.document_spec.specs.Library.{Node}
 use Rattle.document_spec.specs.Binary.{stringOf}
 use Rattle.values.specs.Comes.{Comes}
 use Rattle.value_notes.specs.Values.{Lasts}
-use Rattle.ranks.specs.declared.comparison.Value.{Value}
+use Rattle.value_order.specs.declared.comparison.Value.{Value}
 
 -- x tells of the value of node v where it begins and ends, and has a cursor that comes to the whole value
 pub record IsValue (s : List ℕ) (ns : List Node) (v : ℕ) (x : Value) : Type 0 where
