@@ -12,7 +12,7 @@ use Rattle.document_spec.specs.Binary.{textOf, stringOf}
 use Rattle.document_spec.specs.Intervals.{texts}
 use Rattle.layout.specs.Words.{NONE}
 use Rattle.value_notes.specs.Values.{Lasts}
-use Rattle.value_notes.proofs.Bounds.{texts-cut, texts-first}
+use Rattle.texts.proofs.Bounds.{texts-cut, texts-first}
 
 -- up to a node with text they are not empty
 texts-some : (ns : List Node) {a l : ℕ} → a ≤ l → l < length ns → 0 < length (textOf (at ns l)) → 0 < length (texts (slice a (suc l) ns))

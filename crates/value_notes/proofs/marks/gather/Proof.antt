@@ -1,12 +1,12 @@
--- `value_notes::texts::gather` meets its contract.
+-- `value_notes::marks::gather` meets its contract.
 use Prim.Native.Nat.{suc}
 use mathlib.Core.Bool.{false}
 use native.Mathlib.Omega.{arith}
 use Rattle.table.proofs.Trees.{tree-small}
 use Rattle.value_notes.proofs.Marking.{child-word, under-node}
 use borrow.Author.Needs.{needs}
-use Rattle.value_notes.proofs.texts.gather.Statement.{statement}
-use Rattle.value_notes.proofs.texts.gather.Tie as tie
+use Rattle.value_notes.proofs.marks.gather.Statement.{statement}
+use Rattle.value_notes.proofs.marks.gather.Tie as tie
 
 right-requires : tie.Need-right-requires
 right-requires c κs = search needs

@@ -11,7 +11,7 @@ use Rattle.document_spec.specs.Library.{Node, at}
 use Rattle.document_spec.specs.Binary.{textOf}
 use Rattle.document_spec.specs.Intervals.{texts}
 use Rattle.layout.specs.Words.{NONE}
-use Rattle.value_notes.specs.Texts.{Silent, Spoken, Bounds}
+use Rattle.texts.specs.Texts.{Silent, Spoken, Bounds}
 
 module _ (ns : List Node) where
   -- ── First and last ──

@@ -1,8 +1,8 @@
--- `value_notes::texts::join` meets its contract.
-use Rattle.value_notes.proofs.Bounds.{bounds-join}
+-- `texts::join` meets its contract.
+use Rattle.texts.proofs.Bounds.{bounds-join}
 use borrow.Author.Needs.{needs}
-use Rattle.value_notes.proofs.texts.join.Statement.{statement}
-use Rattle.value_notes.proofs.texts.join.Tie as tie
+use Rattle.texts.proofs.join.Statement.{statement}
+use Rattle.texts.proofs.join.Tie as tie
 
 first-of-requires : tie.Need-first-of-requires
 first-of-requires c κs = search needs

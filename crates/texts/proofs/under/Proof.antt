@@ -1,14 +1,14 @@
--- `value_notes::texts::under` meets its contract.
+-- `texts::under` meets its contract.
 use Prim.Native.Nat.{ℕ, _<_}
 use mathlib.Core.Path.{_≡_, sym, subst₂}
 use mathlib.Core.Logic.{_⊎_, inl, inr}
 use native.Mathlib.Omega.{arith}
 use Rattle.layout.specs.Words.{NONE}
-use Rattle.value_notes.specs.Texts.{Bounds}
-use Rattle.value_notes.proofs.Marking.{under-none, under-some}
+use Rattle.texts.specs.Texts.{Bounds}
+use Rattle.texts.proofs.Told.{under-none, under-some}
 use borrow.Author.Needs.{needs}
-use Rattle.value_notes.proofs.texts.under.Statement.{statement}
-use Rattle.value_notes.proofs.texts.under.Tie as tie
+use Rattle.texts.proofs.under.Statement.{statement}
+use Rattle.texts.proofs.under.Tie as tie
 
 is-node : {v n : ℕ} → (v < n) ⊎ (v ≡ NONE) → ¬ (v ≡ NONE) → v < n
 is-node (inl l) z = l

@@ -1,25 +1,20 @@
-// Where the text under each node of the binary tree begins and ends, in two columns: all text under a node stands between them, so nodes with the same two have the same text.
+// The first and the last node that has text: of one node, of nodes one behind the other, and of those under a node of the binary tree, for which two columns tell them.
+// All text under a node stands between the two, so nodes with the same two have the same text.
 use document_lines::entries::Entry;
 use document_lines::rules::Kind;
 use layout::Ranking;
 use layout::Table;
 use layout::words::get;
-use layout::words::left;
-use layout::words::right;
 ghost use mathlib.Core.List.{List};
 ghost use mathlib.Core.Logic.{_⊎_, _≢_};
 ghost use mathlib.Core.Path.{_≡_};
 ghost use Prim.Native.Nat.{ℕ, suc, _≤_, _<_};
 ghost use lib.ListN.{length};
 ghost use Rattle.document_spec.specs.Library as Library;
-ghost use Rattle.document_spec.specs.Verdict.{Accepts};
-ghost use Rattle.document_spec.specs.Intervals.{End};
 ghost use Rattle.document_lines.specs.Entries.{IsEntry};
 ghost use Rattle.layout.specs.Table.{Room};
 ghost use Rattle.layout.specs.Words.{NONE};
-ghost use Rattle.value_notes.specs.Texts.{Bounds, Extent, Told};
-ghost use Rattle.value_notes.specs.Values.{Inner};
-ghost use Rattle.value_notes.specs.Notes.{Marked};
+ghost use Rattle.texts.specs.Texts.{Bounds, Extent, Told};
 
 // The first and the last of some nodes that have text, or no node twice if none has.
 pub struct Texts {
@@ -64,7 +59,7 @@ fn first_of(x: usize, y: usize) -> usize
 }
 
 // The texts of some nodes and of those behind them.
-fn join(x: Texts, y: Texts) -> Texts
+pub fn join(x: Texts, y: Texts) -> Texts
     ensures { λ r. ⌜ ((ns : List Library.Node) (a b c : ℕ) → a ≤ b → b ≤ c → c ≤ NONE → Bounds ns a b (x .first) (x .last) → Bounds ns b c (y .first) (y .last) → Bounds ns a c (r .first) (r .last)) ⌝ }
 {
     Texts {
@@ -74,7 +69,7 @@ fn join(x: Texts, y: Texts) -> Texts
 }
 
 // The texts under node `v`, which may be no node.
-fn under(t: &[u16], n: usize, v: usize) -> Texts
+pub fn under(t: &[u16], n: usize, v: usize) -> Texts
     requires { ⌜ Room n (now t) × ((v < n) ⊎ (v ≡ NONE)) ⌝ }
     ensures { λ r. ⌜ ((ns : List Library.Node) (i a b : ℕ) → length ns ≤ NONE → Told ns n i (now (t .entry)) → i ≤ a → Extent ns v a b → Bounds ns a b (r .first) (r .last)) ⌝ }
 {
@@ -85,23 +80,4 @@ fn under(t: &[u16], n: usize, v: usize) -> Texts
         first: get(t, n, Ranking::FIRST_TEXT, v),
         last: get(t, n, Ranking::LAST_TEXT, v),
     }
-}
-
-// The texts inside node `v` in the document: those under its left child.
-pub fn inside(t: &[u16], n: usize, v: usize) -> Texts
-    requires { ⌜ ((s : List ℕ) × Marked s n (suc v) (now t)) × (v < n) ⌝ }
-    ensures { λ r. ⌜ ((s : List ℕ) (ns : List Library.Node) → Marked s n (suc v) (now (t .entry)) → Accepts s ns → Inner ns v (r .first) (r .last)) ⌝ }
-{
-    let l = left(t, n, v);
-    under(t, n, l)
-}
-
-// The texts under node `v`: its own, those inside it, and those under its right child.
-pub fn gather(t: &[u16], n: usize, v: usize, x: Texts, y: Texts) -> Texts
-    requires { ⌜ ((s : List ℕ) × Marked s n (suc v) (now t)) × (v < n) ⌝ }
-    ensures { λ r. ⌜ ((s : List ℕ) (ns : List Library.Node) (e : ℕ) → Marked s n (suc v) (now (t .entry)) → Accepts s ns → End ns v e → Bounds ns v (suc v) (x .first) (x .last) → Inner ns v (y .first) (y .last) → Bounds ns v e (r .first) (r .last)) ⌝ }
-{
-    let r = right(t, n, v);
-    let z = under(t, n, r);
-    join(join(x, y), z)
 }

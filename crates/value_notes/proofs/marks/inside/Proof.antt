@@ -1,11 +1,11 @@
--- `value_notes::texts::inside` meets its contract.
+-- `value_notes::marks::inside` meets its contract.
 use Prim.Native.Nat.{suc}
 use mathlib.Core.Bool.{true}
 use Rattle.table.proofs.Trees.{tree-small}
 use Rattle.value_notes.proofs.Marking.{child-word, inner-of}
 use borrow.Author.Needs.{needs}
-use Rattle.value_notes.proofs.texts.inside.Statement.{statement}
-use Rattle.value_notes.proofs.texts.inside.Tie as tie
+use Rattle.value_notes.proofs.marks.inside.Statement.{statement}
+use Rattle.value_notes.proofs.marks.inside.Tie as tie
 
 left-requires : tie.Need-left-requires
 left-requires c κs = search needs

@@ -1,4 +1,4 @@
--- `value_notes::texts::own` meets its contract.
+-- `texts::own` meets its contract.
 use mathlib.Core.Path.{sym, ap, _∙_}
 use mathlib.Core.Logic.{inl, inr}
 use lib.ListN.{length}
@@ -6,10 +6,10 @@ use lib.Seq.{length-slice}
 use native.Mathlib.Omega.{arith}
 use Rattle.document_spec.specs.Library.{at}
 use Rattle.values.proofs.Cursor.{used-up, element-text, attribute-text, text-text, kind-is}
-use Rattle.value_notes.proofs.Bounds.{silent-one, spoken-one}
+use Rattle.texts.proofs.Bounds.{silent-one, spoken-one}
 use borrow.Author.Needs.{needs}
-use Rattle.value_notes.proofs.texts.own.Statement.{statement}
-use Rattle.value_notes.proofs.texts.own.Tie as tie
+use Rattle.texts.proofs.own.Statement.{statement}
+use Rattle.texts.proofs.own.Tie as tie
 
 enum-told : tie.Need-enum-told
 enum-told c = search needs
