@@ -1,7 +1,7 @@
 // The place of a constant among the values of the nodes. The ranks are in the order of the values, so halving finds it with few values read, and each node is then judged by its rank alone.
 use layout::Table;
 use layout::words::get;
-use ranks::nodes::open_node;
+use value_order::nodes::open_node;
 use values::order::Order;
 use values::order::compare_constant;
 ghost use mathlib.Core.List.{List};

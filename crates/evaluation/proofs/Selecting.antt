@@ -23,7 +23,8 @@ use Rattle.layout.specs.Words.{Kept}
 use Rattle.layout.proofs.Frames.{frame-then, frame-wider}
 use Rattle.table.specs.Links.{Linked, Built}
 use Rattle.table.specs.Tabled.{Tabled}
-use Rattle.ranks.specs.Ranks.{Written, one}
+use Rattle.ranks.specs.Ranks.{Written}
+use Rattle.value_order.specs.Less.{one}
 use Rattle.test_bits.specs.Columns.{held}
 use Rattle.marking.specs.Marking.{Told, Marked}
 use Rattle.test_numbers.specs.Tests.{testsOf}

@@ -9,9 +9,9 @@ use Rattle.xpath.specs.Meaning.{Less}
 use Rattle.xpath.proofs.Order.{less-irreflexive, less-distinct, less-trichotomous}
 use Rattle.document_spec.specs.Library.{Node}
 use Rattle.document_spec.specs.Binary.{before, stringOf}
-use Rattle.ranks.specs.Ranks.{one, isSmaller}
+use Rattle.value_order.specs.Less.{one, isSmaller}
 use Rattle.ranks.specs.Sorting.{Le, dense}
-use Rattle.ranks.proofs.Less.{one-le, one-less, one-not}
+use Rattle.value_order.proofs.Less.{one-le, one-less, one-not}
 
 -- ── The numbers, from one entry to the next ──
 module _ (ns : List Node) (e : ℕ → ℕ) where

@@ -1,6 +1,3 @@
-pub mod Less
-pub mod Values
-pub mod Opening
 pub mod Arranged
 pub mod Insertion
 pub mod Halving

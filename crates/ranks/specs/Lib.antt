@@ -1,3 +1,2 @@
 pub mod Ranks
 pub mod Sorting
-pub mod Values

@@ -2,18 +2,15 @@
 use Prim.Native.Nat.{ℕ, _*_, _<_}
 use mathlib.Core.Path.{_≡_}
 use mathlib.Core.Logic.{_↔_}
-use mathlib.Core.Bool.{Bool}
 use mathlib.Core.List.{List}
 use lib.ListN.{length}
 use Rattle.xpath.specs.Meaning.{Less}
-use Rattle.xpath.specs.Order.{lessb}
 use Rattle.document_spec.specs.Library.{Node}
-use Rattle.document_spec.specs.Binary.{pick, stringOf}
+use Rattle.document_spec.specs.Binary.{stringOf}
 use Rattle.layout.specs.Table.{COLUMNS, RANK}
 use Rattle.layout.specs.Words.{word, Kept}
 use Rattle.table.specs.Links.{Linked}
 
--- ── Ranks ──
 pub record Ranked (ns : List Node) (t : List ℕ) : Type 0 where
   pub small : (v : ℕ) → v < length ns → word t (length ns) RANK v < length ns
   pub ordered : (v w : ℕ) → v < length ns → w < length ns
@@ -26,15 +23,3 @@ pub record Written (s : List ℕ) (ns : List Node) (before after : List ℕ) : T
   pub ranked : Ranked ns after
   pub linked : Linked s ns after
   pub kept : Kept (COLUMNS * length ns) before after
-
--- ── Comparison as a test ──
-abbrev pub one : Bool → ℕ
-one b = pick b 1 0
-
--- bs is smaller than cs
-unfoldable pub isLess : List ℕ → List ℕ → Bool
-isLess bs cs = lessb bs cs
-
--- node w has a smaller value than node v
-abbrev pub isSmaller : List Node → ℕ → ℕ → Bool
-isSmaller ns v w = isLess (stringOf ns w) (stringOf ns v)

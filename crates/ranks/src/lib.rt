@@ -1,6 +1,4 @@
 // Ranks of the nodes of an accepted document: numbers that are in the order of the string values.
-mod comparison;
-pub mod nodes;
 mod number;
 mod sort;
 

@@ -1,10 +1,10 @@
 // Ranks along the sorted nodes: one more at each node whose value is greater than that of the node before it.
-use crate::comparison::one_if_smaller;
-use crate::comparison::value_of;
 use layout::Ranking;
 use layout::Table;
 use layout::words::get;
 use layout::words::put;
+use value_order::comparison::one_if_smaller;
+use value_order::comparison::value_of;
 ghost use Rattle.ranks.specs.Sorting.{Entries, Numbered};
 ghost use Rattle.value_notes.specs.Notes.{Marked};
 

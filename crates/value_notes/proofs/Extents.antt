@@ -14,7 +14,7 @@ use Rattle.document_spec.specs.Intervals.{deep, End}
 use Rattle.document_spec.proofs.Binary.{left-child, right-child}
 use Rattle.document_spec.proofs.Intervals.{end-of}
 use Rattle.table.specs.Links.{Points}
-use Rattle.value_notes.specs.Texts.{Extent, Content}
+use Rattle.texts.specs.Texts.{Extent, Content}
 
 module _ {ns : List Node} (ok : Legal ns) {v : ℕ} (l : v < length ns) where
   -- what lies inside v is under its left child

@@ -4,7 +4,7 @@ use mathlib.Core.Path.{_≡_, sym, ap, _∙_, subst, subst₂}
 use mathlib.Core.Logic.{_⊎_, _≢_, inl, inr}
 use mathlib.Core.Bool.{Bool, true, false}
 use mathlib.Core.List.{List, [], _∷_}
-use lib.ListN.{length, getD}
+use lib.ListN.{getD}
 use native.Mathlib.Omega.{arith}
 use native.Mathlib.Decide.{ℕ-discrete}
 use Rattle.xpath.specs.Tree.{Child}
@@ -22,25 +22,15 @@ use Rattle.table.specs.Links.{Points}
 use Rattle.table.specs.Tabled.{Tabled, Worked}
 use Rattle.table.proofs.Trees.{tree-size, tree-linked, tree-small}
 use Rattle.table.proofs.Worked.{worked-tree}
-use Rattle.value_notes.specs.Texts.{Bounds, Extent, Content, Told}
+use Rattle.texts.specs.Texts.{Bounds, Extent, Content}
 use Rattle.value_notes.specs.Values.{Inner}
 use Rattle.value_notes.specs.Notes.{noteAt, noted, Valued, Marked, Seen, Noted}
 use Rattle.value_notes.specs.declared.notes.Note.{Note}
 use Rattle.value_notes.proofs.Extents.{left-extent, right-extent}
-use Rattle.value_notes.proofs.Bounds.{bounds-small}
+use Rattle.texts.proofs.Bounds.{bounds-small}
 use Rattle.value_notes.proofs.Noting.{note-same, note-written, noted-confined}
 
--- ── What is told of a child, which may be no node ──
-module _ (ns : List Node) {v a b : ℕ} (small : length ns ≤ NONE) where
-  pub under-none : {f l : ℕ} → v ≡ NONE → f ≡ NONE → l ≡ NONE → Extent ns v a b → Bounds ns a b f l
-  under-none z d e (inl (p, h)) = let k = h .behind in let m = h .within in absurd (omega arith)
-  under-none z d e (inr (p, q)) = inr (d, e, λ u j k. absurd (omega arith))
-
-pub under-some : {ns : List Node} {n i v a b : ℕ} (t : List ℕ) → ¬ (v ≡ NONE) → v < n → Told ns n i t → i ≤ a → Extent ns v a b
-    → Bounds ns a b (word t n FIRST-TEXT v) (word t n LAST-TEXT v)
-under-some {ns} {n} {i} {v} {a} {b} t z l h r (inl (p, k)) = subst (λ x. Bounds ns x b (word t n FIRST-TEXT v) (word t n LAST-TEXT v)) p (h v (omega arith) l b k)
-under-some t z l h r (inr (p, q)) = absurd (z p)
-
+-- ── The children ──
 module _ {s : List ℕ} {n v : ℕ} {t : List ℕ} (h : Tabled s n t) (l : v < n) (ns : List Node) (a : Accepts s ns) where
   -- a child's word points to it
   child-is : (side : Bool) {x : ℕ} → x ≡ word t n (column side) v → Points (Child (treeOf ns) side v) x

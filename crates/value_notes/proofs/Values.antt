@@ -12,9 +12,9 @@ use Rattle.document_spec.specs.Intervals.{deep, texts}
 use Rattle.document_spec.proofs.Intervals.{joined-in, joined-slice, element-value}
 use Rattle.layout.specs.Words.{NONE}
 use Rattle.values.proofs.Cursor.{element-text, attribute-text, text-text, text-value}
-use Rattle.value_notes.specs.Texts.{Spoken, Bounds}
+use Rattle.texts.specs.Texts.{Spoken, Bounds}
 use Rattle.value_notes.specs.Values.{Inside, Lasts}
-use Rattle.value_notes.proofs.Bounds.{texts-silent, texts-from, texts-between}
+use Rattle.texts.proofs.Bounds.{texts-silent, texts-from, texts-between}
 
 -- it is told of the value, and not of the node
 pub lasts-of : {ns : List Node} {v w f l : ℕ} → stringOf ns v ≡ stringOf ns w → Lasts ns v f l → Lasts ns w f l

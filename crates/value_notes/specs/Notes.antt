@@ -13,7 +13,7 @@ use Rattle.layout.specs.Ranking.{FIRST-TEXT, FIRST, LOW, HIGH, LENGTH}
 use Rattle.layout.specs.Words.{NONE, cell, word, Within}
 use Rattle.values.specs.Comes.{Lies}
 use Rattle.table.specs.Tabled.{Tabled}
-use Rattle.value_notes.specs.Texts.{Bounds, Told}
+use Rattle.texts.specs.Texts.{Bounds, Told}
 use Rattle.value_notes.specs.Values.{Inside, Lasts}
 use Rattle.value_notes.specs.declared.notes.Note.{Note}
 

@@ -9,7 +9,7 @@ use Rattle.document_spec.specs.Library.{Node, element, at}
 use Rattle.document_spec.specs.Binary.{textOf, stringOf}
 use Rattle.document_spec.specs.Intervals.{texts}
 use Rattle.layout.specs.Words.{NONE}
-use Rattle.value_notes.specs.Texts.{Content, Bounds}
+use Rattle.texts.specs.Texts.{Content, Bounds}
 
 -- v is an element of the depth d
 pub record IsElement (ns : List Node) (v d : ℕ) : Type 0 where

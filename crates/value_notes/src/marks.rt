@@ -2,20 +2,44 @@
 use crate::notes::Note;
 use crate::notes::note_of;
 use crate::notes::put_note;
-use crate::texts::Texts;
-use crate::texts::gather;
-use crate::texts::inside;
-use crate::texts::own;
 use document_lines::entries::read_entry;
 use layout::Ranking;
+use layout::words::left;
 use layout::words::offset;
 use layout::words::put;
+use layout::words::right;
+use texts::Texts;
+use texts::join;
+use texts::own;
+use texts::under;
 ghost use mathlib.Core.List.{List};
-ghost use Prim.Native.Nat.{suc, _<_};
+ghost use Prim.Native.Nat.{ℕ, suc, _<_};
 ghost use Rattle.document_spec.specs.Library as Library;
 ghost use Rattle.document_spec.specs.Verdict.{Accepts};
+ghost use Rattle.document_spec.specs.Intervals.{End};
 ghost use Rattle.table.specs.Tabled.{Tabled};
+ghost use Rattle.texts.specs.Texts.{Bounds};
+ghost use Rattle.value_notes.specs.Values.{Inner};
 ghost use Rattle.value_notes.specs.Notes.{Marked, Seen, Noted};
+
+// The texts inside node `v` in the document: those under its left child.
+fn inside(t: &[u16], n: usize, v: usize) -> Texts
+    requires { ⌜ ((s : List ℕ) × Marked s n (suc v) (now t)) × (v < n) ⌝ }
+    ensures { λ r. ⌜ ((s : List ℕ) (ns : List Library.Node) → Marked s n (suc v) (now (t .entry)) → Accepts s ns → Inner ns v (r .first) (r .last)) ⌝ }
+{
+    let l = left(t, n, v);
+    under(t, n, l)
+}
+
+// The texts under node `v`: its own, those inside it, and those under its right child.
+fn gather(t: &[u16], n: usize, v: usize, x: Texts, y: Texts) -> Texts
+    requires { ⌜ ((s : List ℕ) × Marked s n (suc v) (now t)) × (v < n) ⌝ }
+    ensures { λ r. ⌜ ((s : List ℕ) (ns : List Library.Node) (e : ℕ) → Marked s n (suc v) (now (t .entry)) → Accepts s ns → End ns v e → Bounds ns v (suc v) (x .first) (x .last) → Inner ns v (y .first) (y .last) → Bounds ns v e (r .first) (r .last)) ⌝ }
+{
+    let r = right(t, n, v);
+    let z = under(t, n, r);
+    join(join(x, y), z)
+}
 
 // What the columns of a node hold: the texts under it, and its value.
 pub struct Sight {

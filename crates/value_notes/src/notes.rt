@@ -1,5 +1,4 @@
 // What is noted of the value of each node, in four columns, so that nodes are compared without reading their lines anew.
-use crate::texts::Texts;
 use document_lines::entries::Entry;
 use document_lines::rules::Kind;
 use layout::Ranking;
@@ -7,6 +6,7 @@ use layout::Table;
 use layout::words::get;
 use layout::words::put;
 use limits::Scratch;
+use texts::Texts;
 ghost use mathlib.Core.List.{List};
 ghost use mathlib.Core.Path.{_≡_};
 ghost use Prim.Native.Nat.{ℕ, suc, _<_};

@@ -1,0 +1,18 @@
+-- Comparison as a test: a smaller string, a node with a smaller value, and the number 1 or 0 that stands for it.
+use Prim.Native.Nat.{ℕ}
+use mathlib.Core.Bool.{Bool}
+use mathlib.Core.List.{List}
+use Rattle.xpath.specs.Order.{lessb}
+use Rattle.document_spec.specs.Library.{Node}
+use Rattle.document_spec.specs.Binary.{pick, stringOf}
+
+abbrev pub one : Bool → ℕ
+one b = pick b 1 0
+
+-- bs is smaller than cs
+unfoldable pub isLess : List ℕ → List ℕ → Bool
+isLess bs cs = lessb bs cs
+
+-- node w has a smaller value than node v
+abbrev pub isSmaller : List Node → ℕ → ℕ → Bool
+isSmaller ns v w = isLess (stringOf ns w) (stringOf ns v)

@@ -1,0 +1,2 @@
+pub mod Less
+pub mod Values
