@@ -24,7 +24,7 @@ use Rattle.layout.proofs.Frames.{frame-then, frame-wider}
 use Rattle.table.specs.Links.{Linked, Built}
 use Rattle.table.specs.Tabled.{Tabled}
 use Rattle.ranks.specs.Ranks.{Written}
-use Rattle.value_order.specs.Less.{one}
+use Rattle.bits.specs.Sets.{one}
 use Rattle.test_bits.specs.Columns.{held}
 use Rattle.marking.specs.Marking.{Told, Marked}
 use Rattle.test_numbers.specs.Tests.{testsOf}

@@ -12,7 +12,7 @@ use native.Mathlib.Decide.{ℕ-discrete}
 use Rattle.lists.specs.Lists.{Number, Occurs}
 use Rattle.layout.specs.Words.{Kept}
 use Rattle.layout.proofs.Frames.{frame-none, frame-then}
-use Rattle.value_order.specs.Less.{one}
+use Rattle.bits.specs.Sets.{one}
 use Rattle.test_bits.specs.Columns.{held}
 use Rattle.marking.specs.Marking.{Marked}
 

@@ -6,7 +6,7 @@ use mathlib.Core.List.{List}
 use lib.ListN.{getD}
 use Rattle.lists.specs.Lists.{Number}
 use Rattle.layout.specs.Words.{Kept}
-use Rattle.value_order.specs.Less.{one}
+use Rattle.bits.specs.Sets.{one}
 use Rattle.test_bits.specs.Columns.{held}
 
 -- the nodes at which test 0 holds by its bit

@@ -9,7 +9,8 @@ use Rattle.xpath.specs.Meaning.{Less}
 use Rattle.xpath.proofs.Order.{less-irreflexive, less-distinct, less-trichotomous}
 use Rattle.document_spec.specs.Library.{Node}
 use Rattle.document_spec.specs.Binary.{before, stringOf}
-use Rattle.value_order.specs.Less.{one, isSmaller}
+use Rattle.bits.specs.Sets.{one}
+use Rattle.value_order.specs.Less.{isSmaller}
 use Rattle.ranks.specs.Sorting.{Le, dense}
 use Rattle.value_order.proofs.Less.{one-le, one-less, one-not}
 

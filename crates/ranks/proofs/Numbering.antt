@@ -11,7 +11,8 @@ use Rattle.layout.specs.Ranking.{ORDER}
 use Rattle.layout.specs.Table.{RANK}
 use Rattle.layout.specs.Words.{cell, word, Wrote}
 use Rattle.layout.proofs.Frames.{within-none, within-then, within-put}
-use Rattle.value_order.specs.Less.{one, isSmaller}
+use Rattle.bits.specs.Sets.{one}
+use Rattle.value_order.specs.Less.{isSmaller}
 use Rattle.ranks.specs.Sorting.{Arranged, entry, Entries, Sorted, dense, Numbered}
 use Rattle.ranks.proofs.Dense.{dense-zero, dense-next, dense-same}
 

@@ -8,7 +8,8 @@ use native.Mathlib.Omega.{arith}
 use lib.Dec.{T}
 use Rattle.xpath.specs.Meaning.{Less}
 use Rattle.xpath.proofs.Decide as Decide
-use Rattle.value_order.specs.Less.{one, isLess}
+use Rattle.bits.specs.Sets.{one}
+use Rattle.value_order.specs.Less.{isLess}
 
 pub less-iff : (bs cs : List ℕ) → T (isLess bs cs) ↔ Less bs cs
 unfolding isLess

@@ -1,13 +1,10 @@
--- Comparison as a test: a smaller string, a node with a smaller value, and the number 1 or 0 that stands for it.
+-- Comparison as a test: a smaller string, and a node with a smaller value.
 use Prim.Native.Nat.{ℕ}
 use mathlib.Core.Bool.{Bool}
 use mathlib.Core.List.{List}
 use Rattle.xpath.specs.Order.{lessb}
 use Rattle.document_spec.specs.Library.{Node}
-use Rattle.document_spec.specs.Binary.{pick, stringOf}
-
-abbrev pub one : Bool → ℕ
-one b = pick b 1 0
+use Rattle.document_spec.specs.Binary.{stringOf}
 
 -- bs is smaller than cs
 unfoldable pub isLess : List ℕ → List ℕ → Bool

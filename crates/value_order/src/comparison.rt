@@ -16,7 +16,8 @@ ghost use Rattle.values.specs.Comes.{Comes};
 ghost use Rattle.values.specs.Ordered.{Ordered};
 ghost use Rattle.value_notes.specs.Values.{Inside};
 ghost use Rattle.value_notes.specs.Notes.{Marked};
-ghost use Rattle.value_order.specs.Less.{one, isSmaller};
+ghost use Rattle.bits.specs.Sets.{one};
+ghost use Rattle.value_order.specs.Less.{isSmaller};
 ghost use Rattle.value_order.specs.Values.{IsValue};
 
 // A string value: the node where it begins, the last node that gives text to it, and a cursor. An element without text has no such nodes.
