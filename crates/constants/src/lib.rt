@@ -1,9 +1,10 @@
 // The place of a constant among the values of the nodes. The ranks are in the order of the values, so halving finds it with few values read, and each node is then judged by its rank alone.
 use layout::Table;
 use layout::words::get;
+use string_order::Order;
+use string_order::compare_constant;
 use value_order::nodes::open_node;
-use values::order::Order;
-use values::order::compare_constant;
+use values::reading::Reading;
 ghost use mathlib.Core.List.{List};
 ghost use Prim.Native.Nat.{ℕ, _≤_, _<_};
 ghost use lib.ListN.{length};
@@ -12,7 +13,7 @@ ghost use Rattle.document_spec.specs.Library as Library;
 ghost use Rattle.document_spec.specs.Binary.{stringOf};
 ghost use Rattle.document_spec.specs.Verdict.{Accepts};
 ghost use Rattle.layout.specs.Table.{Room};
-ghost use Rattle.values.specs.Ordered.{Ordered};
+ghost use Rattle.string_order.specs.Ordered.{Ordered};
 ghost use Rattle.table.specs.Tabled.{Tabled};
 ghost use Rattle.ranks.specs.Ranks.{Ranked};
 ghost use Rattle.constants.specs.Places.{Nearest, Placed};
@@ -59,7 +60,7 @@ fn compare_value(
     requires { ⌜ Tabled (now s) n (now t) × (v < n) × (from ≤ to) × (to ≤ length (now rule)) ⌝ }
     ensures { λ r. ⌜ ((ns : List Library.Node) → Accepts (now (s .entry)) ns → Ordered (stringOf ns v) (slice from to (now (rule .entry))) r) ⌝ }
 {
-    let r = open_node(s, t, n, v);
+    let r: Reading = open_node(s, t, n, v);
     compare_constant(s, r, rule, from, to)
 }
 

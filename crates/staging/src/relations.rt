@@ -1,6 +1,6 @@
 // The relations of two strings, told by how they compare.
 use rule_parts::kinds::Operator;
-use values::order::Order;
+use string_order::Order;
 ghost use mathlib.Core.Bool.{true};
 ghost use mathlib.Core.List.{List};
 ghost use mathlib.Core.Logic.{_↔_};
@@ -9,7 +9,7 @@ ghost use Prim.Native.Nat.{ℕ};
 ghost use Rattle.xpath.specs.Syntax.{Op};
 ghost use Rattle.xpath.specs.Meaning.{Less, Rel};
 ghost use Rattle.rule_parts.specs.Kinds.{operator};
-ghost use Rattle.values.specs.Ordered.{Ordered};
+ghost use Rattle.string_order.specs.Ordered.{Ordered};
 
 fn is_less(c: Order) -> bool
     ensures { λ r. ⌜ ((bs cs : List ℕ) → Ordered bs cs c → (r ≡ true) ↔ Less bs cs) ⌝ }

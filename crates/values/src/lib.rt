@@ -1,3 +1,2 @@
-// String values of nodes of an accepted document, read byte by byte where they stand, and their order.
-pub mod order;
+// String values of nodes of an accepted document, read byte by byte where they stand.
 pub mod reading;

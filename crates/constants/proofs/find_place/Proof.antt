@@ -7,7 +7,7 @@ use native.Mathlib.Omega.{arith}
 use Rattle.document_spec.specs.Library.{Node}
 use Rattle.document_spec.specs.Binary.{stringOf}
 use Rattle.document_spec.specs.Verdict.{Accepts}
-use Rattle.values.specs.Ordered.{Ordered}
+use Rattle.string_order.specs.Ordered.{Ordered}
 use Rattle.ranks.specs.Ranks.{Ranked}
 use Rattle.table.proofs.Trees.{tree-size}
 use Rattle.constants.proofs.Placing.{valued, Around, around-all, around-smaller, around-greater, around-none, placed-same, placed-between}

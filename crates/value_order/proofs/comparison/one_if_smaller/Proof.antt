@@ -6,7 +6,7 @@ use native.Mathlib.Omega.{arith}
 use Rattle.xpath.proofs.Order.{less-distinct, less-asymmetric}
 use Rattle.document_spec.specs.Library.{Node}
 use Rattle.document_spec.specs.Binary.{stringOf}
-use Rattle.values.specs.Ordered.{Ordered}
+use Rattle.string_order.specs.Ordered.{Ordered}
 use Rattle.value_order.specs.Values.{IsValue}
 use Rattle.value_order.proofs.Less.{one-less, one-not}
 use borrow.Author.Needs.{needs}

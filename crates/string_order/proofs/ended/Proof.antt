@@ -1,10 +1,10 @@
--- `values::order::ended` meets its contract.
+-- `string_order::ended` meets its contract.
 use mathlib.Core.Path.{refl, sym, subst}
 use Rattle.values.specs.Comes.{Advanced}
-use Rattle.values.proofs.Comparison.{prefix-less}
+use Rattle.string_order.proofs.Comparison.{prefix-less}
 use borrow.Author.Needs.{needs}
-use Rattle.values.proofs.order.ended.Statement.{statement}
-use Rattle.values.proofs.order.ended.Tie as tie
+use Rattle.string_order.proofs.ended.Statement.{statement}
+use Rattle.string_order.proofs.ended.Tie as tie
 
 enum-told : tie.Need-enum-told
 enum-told c = search needs

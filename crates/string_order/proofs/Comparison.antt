@@ -6,11 +6,11 @@ use mathlib.Core.List.{List, [], _∷_}
 use Rattle.xpath.specs.Meaning as Meaning
 use Rattle.xpath.proofs.Order.{less-distinct, less-asymmetric}
 use Rattle.document_spec.specs.Library as Library
 use Rattle.values.specs.declared.reading.Reading.{Reading}
-use Rattle.values.specs.declared.order.Order.{Order}
-use Rattle.values.specs.declared.order.Order.the-variants.{Less, Same, Greater}
+use Rattle.string_order.specs.declared.Order.{Order}
+use Rattle.string_order.specs.declared.Order.the-variants.{Less, Same, Greater}
 use Rattle.values.specs.Comes.{Comes, Split}
-use Rattle.values.specs.Ordered.{Ordered}
+use Rattle.string_order.specs.Ordered.{Ordered}
 
 pub prefix-less : {xs ys vs : List ℕ} {q : ℕ} → xs ≡ [] → ys ≡ q ∷ vs → Meaning.Less xs ys
 prefix-less e f = subst₂ (λ (x y : List ℕ). Meaning.Less x y) (sym e) (sym f) tt

@@ -1,16 +1,16 @@
--- `values::order::compare` meets its contract.
+-- `string_order::compare` meets its contract.
 use Prim.Native.Nat.{ℕ}
 use mathlib.Core.Path.{sym, subst}
 use mathlib.Core.List.{List}
 use native.Mathlib.Omega.{arith}
 use Rattle.document_spec.specs.Library as Library
-use Rattle.values.specs.declared.order.Order.the-variants.{Less, Greater}
+use Rattle.string_order.specs.declared.Order.the-variants.{Less, Greater}
 use Rattle.values.specs.Comes.{Comes, weight, Split, Advanced}
-use Rattle.values.specs.Ordered.{Ordered}
-use Rattle.values.proofs.Comparison.{prefix-less, first-less, Pending, pending-all, pending-on}
+use Rattle.string_order.specs.Ordered.{Ordered}
+use Rattle.string_order.proofs.Comparison.{prefix-less, first-less, Pending, pending-all, pending-on}
 use borrow.Author.Needs.{needs}
-use Rattle.values.proofs.order.compare.Statement.{statement}
-use Rattle.values.proofs.order.compare.Tie as tie
+use Rattle.string_order.proofs.compare.Statement.{statement}
+use Rattle.string_order.proofs.compare.Tie as tie
 
 abbrev Inv-loop : tie.InvT-loop
 Inv-loop s i₀ j₀ i j = (ns : List Library.Node) (bs cs : List ℕ) → Comes s ns i₀ bs → Comes s ns j₀ cs → (ys : List ℕ) × Comes s ns j ys × Pending s ns i bs ys cs

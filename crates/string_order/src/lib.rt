@@ -1,15 +1,15 @@
-// The order of two strings: by unsigned bytes, a proper prefix being smaller.
-use crate::reading::Byte;
-use crate::reading::Reading;
-use crate::reading::advance;
+// The order of two strings that are read where they stand: by unsigned bytes, a proper prefix being smaller.
+use values::reading::Byte;
+use values::reading::Reading;
+use values::reading::advance;
 ghost use mathlib.Core.List.{List, []};
 ghost use Prim.Native.Nat.{ℕ, _≤_};
 ghost use lib.ListN.{length};
 ghost use lib.Seq.{slice};
 ghost use Rattle.document_spec.specs.Library as Library;
 ghost use Rattle.values.specs.declared.reading.Reading.{Reading as Cursor};
 ghost use Rattle.values.specs.Comes.{Comes, Readable, Advanced};
-ghost use Rattle.values.specs.Ordered.{Ordered};
+ghost use Rattle.string_order.specs.Ordered.{Ordered};
 
 // How the first of two strings compares with the second.
 pub enum Order {

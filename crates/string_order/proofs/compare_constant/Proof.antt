@@ -1,17 +1,17 @@
--- `values::order::compare_constant` meets its contract.
+-- `string_order::compare_constant` meets its contract.
 use Prim.Native.Nat.{ℕ, _-_, _≤_}
 use mathlib.Core.Path.{_≡_, sym, _∙_, subst}
 use mathlib.Core.List.{List, []}
 use lib.Seq.{slice}
 use native.Mathlib.Omega.{arith}
 use Rattle.document_spec.specs.Library as Library
-use Rattle.values.specs.declared.order.Order.the-variants.{Less, Same, Greater}
+use Rattle.string_order.specs.declared.Order.the-variants.{Less, Same, Greater}
 use Rattle.values.specs.Comes.{Comes, Split, Advanced}
 use Rattle.values.proofs.Cursor.{used-up, first-of}
-use Rattle.values.proofs.Comparison.{prefix-less, first-less, Pending, pending-all, pending-on}
+use Rattle.string_order.proofs.Comparison.{prefix-less, first-less, Pending, pending-all, pending-on}
 use borrow.Author.Needs.{needs}
-use Rattle.values.proofs.order.compare_constant.Statement.{statement}
-use Rattle.values.proofs.order.compare_constant.Tie as tie
+use Rattle.string_order.proofs.compare_constant.Statement.{statement}
+use Rattle.string_order.proofs.compare_constant.Tie as tie
 
 abbrev Inv-loop : tie.InvT-loop
 Inv-loop s c from to i₀ j₀ i j = (j ≤ to) × ((ns : List Library.Node) (bs : List ℕ) → Comes s ns i₀ bs → Pending s ns i bs (slice j to c) (slice from to c))
