@@ -123,7 +123,7 @@ unfolding size
 size-same zero a b h = refl
 size-same (suc n) a b h = ap₂ (λ (x y : ℕ). x + y) (size-same n a b (λ i p. h i (omega arith))) (ap one (h n (omega arith)))
 
-one-le : (a b : Bool) → (a ≡ true → b ≡ true) → one a ≤ one b
+pub one-le : (a b : Bool) → (a ≡ true → b ≡ true) → one a ≤ one b
 one-le true b h = let e : one b ≡ 1 = ap one (h refl) in omega arith
 one-le false b h = zero-le
 

@@ -8,7 +8,7 @@ use native.Mathlib.Omega.{arith}
 use native.Mathlib.Decide.{decLt}
 use Rattle.limits.specs.Limits.{scratchWords}
 use Rattle.refusals.specs.Refusals.{Refusal, scratchLength, marksLength, stage, Earlier, First}
-use Rattle.refusals.proofs.Refusals.{earlier-irrefl}
+use Rattle.refusals.proofs.Refusals.{earlier-irrefl, stage-later}
 use Rattle.xpath.specs.Syntax.{Test}
 use Rattle.document_spec.specs.Library.{Node}
 use Rattle.document_spec.specs.Verdict.{DocumentGround}
@@ -40,10 +40,6 @@ buffer-stage : {document : List ℕ} {words marks : ℕ} {r : Refusal} → Buffe
 buffer-stage (fewWords a h) = omega arith
 buffer-stage (fewMarks a h) = omega arith
 
-not-earlier : (q r : Refusal) → stage r < stage q → ¬ Earlier q r
-not-earlier q r h (inl e) = omega arith
-not-earlier q r h (inr e) = let i = e .0 in omega arith
-
 module _ (document rule : List ℕ) (words marks : ℕ) where
   abbrev G : Refusal → Type 0
   G = Ground document rule words marks
@@ -54,8 +50,8 @@ module _ (document rule : List ℕ) (words marks : ℕ) where
     where
       go : (q : Refusal) → G q → ¬ Earlier q r
       go q (inl g) = f .first q g
-      go q (inr (inl g)) = not-earlier q r (let h = document-stage (f .applies) in let k = rule-stage g in omega arith)
-      go q (inr (inr g)) = not-earlier q r (let h = document-stage (f .applies) in let k = buffer-stage g in omega arith)
+      go q (inr (inl g)) = stage-later q r (let h = document-stage (f .applies) in let k = rule-stage g in omega arith)
+      go q (inr (inr g)) = stage-later q r (let h = document-stage (f .applies) in let k = buffer-stage g in omega arith)
 
   module _ (ns : List Node) (library : Document.Accepts document ns) where
     -- so does the first of the rule's, if the document is accepted
@@ -65,7 +61,7 @@ module _ (document rule : List ℕ) (words marks : ℕ) where
         go : (q : Refusal) → G q → ¬ Earlier q r
         go q (inl g) = absurd (Library.accepted-unrefused document ns library q g)
         go q (inr (inl g)) = f .first q g
-        go q (inr (inr g)) = not-earlier q r (let h = rule-stage (f .applies) in let k = buffer-stage g in omega arith)
+        go q (inr (inr g)) = stage-later q r (let h = rule-stage (f .applies) in let k = buffer-stage g in omega arith)
 
     module _ (T : Test) (test : Rule.Accepts rule T) where
       -- a ground of an accepted document and rule is one of the buffers'
@@ -79,7 +75,7 @@ module _ (document rule : List ℕ) (words marks : ℕ) where
         where
           late : (q : Refusal) → BufferGround document words marks q → ¬ Earlier q scratchLength
           late q (fewWords a k) e = earlier-irrefl scratchLength e
-          late q (fewMarks a k) e = not-earlier marksLength scratchLength (omega arith) e
+          late q (fewMarks a k) e = stage-later marksLength scratchLength (omega arith) e
 
       pub few-marks : scratchWords (length ns) ≤ words → marks < length ns → First G marksLength
       few-marks room h = record { applies = inr (inr (fewMarks library h)); first = of-buffers (λ q. ¬ Earlier q marksLength) late }

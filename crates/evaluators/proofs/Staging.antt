@@ -3,7 +3,7 @@ use Prim.Native.Nat.{ℕ, _*_, _<_}
 use native.Mathlib.Nat.{add-mul}
 use native.Mathlib.Omega.{arith}
 use mathlib.Core.Path.{subst}
-use mathlib.Core.Logic.{_⊎_, inl, inr, _↔_, ⊎-elim}
+use mathlib.Core.Logic.{inl, inr, _↔_, ⊎-elim}
 use mathlib.Core.List.{List}
 use Rattle.lists.specs.Text.{binaryDigits}
 use Rattle.xpath.specs.Syntax.{XPath}
@@ -20,9 +20,6 @@ module _ {P R : XPath} {t : Tree} {m : Machine} {n : ℕ} {p : List ℕ} (stage 
 
   pub stage-space : PartRoom n p → Space n p
   stage-space room = let e = add-mul 112 (64 * binaryDigits n) n in record { some = stage-some; few = stage .drawn .few; room = omega arith }
-
-  pub stage-second : m .second < 16
-  stage-second = let e = stage .machine .start in let l = stage .machine .few in omega arith
 
 -- the same answers to the same question
 pub answered-as : {n : ℕ} {A B : ℕ → Type 0} {p p′ : List ℕ} → ((v : ℕ) → v < n → A v ↔ B v) → Answered n A p p′ → Answered n B p p′

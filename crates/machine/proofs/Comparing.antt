@@ -61,6 +61,10 @@ module _ {P R : XPath} {t : Tree} {n : ℕ} {p : List ℕ} {m : Machine} (wf : W
           let a = walk-inside r (x .2) in let b = walk-inside r (y .2) in
           (w, u, a, b, x, y, compares-rel drawn o w u a b .1 c)
 
+-- the second start is a position
+pub second-few : {P R : XPath} {m : Machine} → IsMachine P R m → m .second < 16
+second-few machine = let e = machine .start in let l = machine .few in omega arith
+
 -- the comparison of a path with a constant, whose second path is empty
 pub hits-holds : {P : XPath} {t : Tree} {n : ℕ} {p : List ℕ} {m : Machine} → WellFormed t → IsMachine P empty m → Drawn P empty t n p
     → (o : Op) (c : List ℕ) → Judges o c t n p → (v : ℕ) → v < n → Hits m n p v ↔ Holds t (compareTo o P c) v

@@ -1,5 +1,5 @@
 -- Members of sets: a set that is not empty has one, those of one set that are none of another, and what sizes say of them.
-use Prim.Native.Nat.{ℕ, zero, suc, _/_, _%_, _^_, _≤_, _<_, zero-le}
+use Prim.Native.Nat.{ℕ, zero, suc, _/_, _%_, _^_, _<_}
 use mathlib.Core.Path.{_≡_, refl, sym, ap, _∙_, subst}
 use mathlib.Core.Logic.{_≢_, _⊎_, inl, inr, ⊎-elim, _↔_}
 use mathlib.Core.Bool.{Bool, true, false, not, xor, false≢true}
@@ -12,7 +12,7 @@ use lib.Dec.{eqb, ltb}
 use lib.Pow.{shr-lt}
 use borrow.Author.Tests.{eq-eqb, ne-eqb, ltb-true, lt-ltb}
 use Rattle.bits.specs.Sets.{bit, or, and, is, one, size}
-use Rattle.bits.proofs.SetLaws.{bit-and, bit-zero, bit-suc, bit-none, size-mono}
+use Rattle.bits.proofs.SetLaws.{bit-and, bit-zero, bit-suc, bit-none, size-mono, one-le}
 
 -- ── Truth values ──
 pub or-cases : (a b : Bool) → or a b ≡ true → (a ≡ true) ⊎ (b ≡ true)
@@ -87,10 +87,6 @@ pub bit-without : (a b i : ℕ) → bit (bitXor a (bitAnd a b)) i ≡ and (bit a
 bit-without a b i = bit-xor a (bitAnd a b) i ∙ ap (xor (bit a i)) (bit-and a b i) ∙ xor-and (bit a i) (bit b i)
 
 -- ── A set with more members is larger ──
-one-le : (a b : Bool) → (a ≡ true → b ≡ true) → one a ≤ one b
-one-le true b h = let e : one b ≡ 1 = ap one (h refl) in omega arith
-one-le false b h = zero-le
-
 pub size-less : (n a b j : ℕ) → ((i : ℕ) → i < n → bit a i ≡ true → bit b i ≡ true) → j < n → bit a j ≡ false → bit b j ≡ true → size n a < size n b
 unfolding size
 size-less zero a b j h l e f = absurd (omega arith)

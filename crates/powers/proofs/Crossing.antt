@@ -10,7 +10,8 @@ use Rattle.bits.specs.Sets.{bit, and}
 use Rattle.matrices.proofs.Members.{and-both, and-parts}
 use Rattle.matrices.specs.Matrices.{Exactly, Related, Image, Redrawn, Drawing, Composed}
 use Rattle.matrices.proofs.Drawing.{drawing-step}
-use Rattle.powers.specs.Blocks.{Steps, Crossed}
+use Rattle.powers.specs.Blocks.{Crossed}
+use Rattle.detours.specs.Visits.{Steps}
 
 -- one row more: f are the followers of the row at a, g those of them that are steps of w, and x is what they are related to
 pub cross-step : {at i : ℕ} {p q : List ℕ} (rows : List ℕ) (a w b f g x : ℕ) → Drawing (Crossed rows p a w b) at i p q

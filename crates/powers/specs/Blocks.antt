@@ -2,15 +2,14 @@
 use Prim.Native.Nat.{ℕ, _+_, _*_, _≤_, _<_}
 use mathlib.Core.Path.{_≡_}
 use mathlib.Core.Logic.{_↔_}
-use mathlib.Core.Bool.{true}
 use mathlib.Core.List.{List}
 use lib.ListN.{length, getD}
 use Rattle.limits.specs.Limits.{documentNodes, positions, nodeDigits, comparisonSteps, wordsPerDigit}
-use Rattle.bits.specs.Sets.{bit}
 use Rattle.xpath.specs.Syntax.{XPath, size}
 use Rattle.xpath.specs.Tree.{Tree, WellFormed}
 use Rattle.matrices.specs.Matrices.{Related, Composed}
 use Rattle.machine.specs.declared.Machine.{Machine}
+use Rattle.detours.specs.Visits.{Steps}
 use Rattle.layout.specs.Blocks.{BLOCKS, blockAt, downAt, upAt, upperAt}
 use Rattle.layout.specs.Part.{loopAt}
 use Rattle.layout.specs.Words.{Frame}
@@ -32,10 +31,6 @@ pub record Fits (n k y : ℕ) (p : List ℕ) : Type 0 where
 -- only the 64 words of exponent k and node y may be different
 abbrev pub Only : ℕ → ℕ → ℕ → List ℕ → List ℕ → Type 0
 Only n k y p p′ = Frame (blockAt n k y) (blockAt n k y + wordsPerDigit) p p′
-
--- l follows k, by the rows, and is one of the steps w
-abbrev pub Steps : List ℕ → ℕ → ℕ → ℕ → Type 0
-Steps rows w k l = (bit (getD rows k 0) l ≡ true) × (bit w l ≡ true)
 
 -- by the matrix at a, then by a step of w, and then by the matrix at b
 abbrev pub Crossed : List ℕ → List ℕ → ℕ → ℕ → ℕ → ℕ → ℕ → Type 0

@@ -72,6 +72,11 @@ lex-total {R} {E} {S} a b t = go (trichotomy a b)
 pub earlier-irrefl : (r : Refusal) → ¬ Earlier r r
 earlier-irrefl r = lex-irrefl (stage r) (lex-irrefl (place r) (omega arith))
 
+-- what is judged at a later stage does not come earlier
+pub stage-later : (q r : Refusal) → stage r < stage q → ¬ Earlier q r
+stage-later q r h (inl e) = omega arith
+stage-later q r h (inr e) = let i = e .0 in omega arith
+
 pub earlier-trans : (r q s : Refusal) → Earlier r q → Earlier q s → Earlier r s
 earlier-trans r q s = lex-trans (stage r) (stage q) (stage s) (lex-trans (place r) (place q) (place s) (omega arith))
 

@@ -13,8 +13,8 @@ use borrow.Author.Tests.{ltb-true, ltb-false}
 use Rattle.limits.specs.Limits.{ruleBytes, ruleTests}
 use Rattle.lists.specs.Lists.{Occurs}
 use Rattle.lists.proofs.Lists.{all-occurs, all-imp, occurs-right}
-use Rattle.refusals.specs.Refusals.{Refusal, ruleLength, unreadable, nesting, tests, steps, stage, Earlier, First}
-use Rattle.refusals.proofs.Refusals.{earlier-irrefl}
+use Rattle.refusals.specs.Refusals.{Refusal, ruleLength, unreadable, nesting, tests, steps, Earlier, First}
+use Rattle.refusals.proofs.Refusals.{earlier-irrefl, stage-later}
 use Rattle.xpath.specs.Syntax.{Test}
 use Rattle.rule_spec.specs.Parts as Parts
 use Rattle.rule_spec.specs.Parts.{Part, parts}
@@ -38,10 +38,6 @@ use Rattle.tokens.proofs.Places.{at-end}
 use Rattle.rule.proofs.Counted.{firstOr, crowded-is, test-occurs, Lowest, heavy-lowest}
 
 -- ── Grounds in the written order ──
-later : (a b : Refusal) → stage b < stage a → ¬ Earlier a b
-later a b h (inl g) = omega arith
-later a b h (inr g) = let e = g .0 in omega arith
-
 -- where the first of two is known, both are one
 settled-one : (C : ℕ → Type 0) (x : Option ℕ) → Settles C x → (a b : ℕ) → C a → C b → a ≡ b
 settled-one C none h a b p q = absurd (h a p)
@@ -54,10 +50,10 @@ module _ (s : List ℕ) where
     where
       earliest : (q : Refusal) → RuleGround s q → ¬ Earlier q ruleLength
       earliest q (RuleGround.long g) e = earlier-irrefl ruleLength e
-      earliest q (RuleGround.unread {k = k} g) e = later (unreadable k) ruleLength (omega arith) e
-      earliest q (RuleGround.deep {o = o} g) e = later (nesting o) ruleLength (omega arith) e
-      earliest q (RuleGround.crowded {o = o} g) e = later (tests o) ruleLength (omega arith) e
-      earliest q (RuleGround.heavy {o = o} g) e = later (steps o) ruleLength (omega arith) e
+      earliest q (RuleGround.unread {k = k} g) e = stage-later (unreadable k) ruleLength (omega arith) e
+      earliest q (RuleGround.deep {o = o} g) e = stage-later (nesting o) ruleLength (omega arith) e
+      earliest q (RuleGround.crowded {o = o} g) e = stage-later (tests o) ruleLength (omega arith) e
+      earliest q (RuleGround.heavy {o = o} g) e = stage-later (steps o) ruleLength (omega arith) e
 
   -- no part is too deep where those that the machine sees are not
   none-deep : (ks : List Key) → seenOf (answer ruleStart s) ≡ ks → Shallow ks → (o : ℕ) → ¬ TooDeep s o
@@ -78,8 +74,8 @@ module _ (s : List ℕ) where
             let same : m ≡ k = omega arith in
             earlier-irrefl (unreadable k) (subst (λ x. Earlier (unreadable x) (unreadable k)) same e)
         earliest q (RuleGround.deep {o = o} g) e = n o g
-        earliest q (RuleGround.crowded {o = o} g) e = later (tests o) (unreadable k) (omega arith) e
-        earliest q (RuleGround.heavy {o = o} g) e = later (steps o) (unreadable k) (omega arith) e
+        earliest q (RuleGround.crowded {o = o} g) e = stage-later (tests o) (unreadable k) (omega arith) e
+        earliest q (RuleGround.heavy {o = o} g) e = stage-later (steps o) (unreadable k) (omega arith) e
 
     first-deep : {o : ℕ} → TooDeep s o → First (RuleGround s) (nesting o)
     first-deep {o} d = record { applies = RuleGround.deep d; first = earliest }
@@ -97,8 +93,8 @@ module _ (s : List ℕ) where
             let x = d .here in let y = g .here in
             let same : p ≡ o = omega arith in
             earlier-irrefl (nesting o) (subst (λ x. Earlier (nesting x) (nesting o)) same e)
-        earliest q (RuleGround.crowded {o = p} g) e = later (tests p) (nesting o) (omega arith) e
-        earliest q (RuleGround.heavy {o = p} g) e = later (steps p) (nesting o) (omega arith) e
+        earliest q (RuleGround.crowded {o = p} g) e = stage-later (tests p) (nesting o) (omega arith) e
+        earliest q (RuleGround.heavy {o = p} g) e = stage-later (steps p) (nesting o) (omega arith) e
 
     -- ── Reading ends on the way ──
     pub stuck-judged : {j : ℕ} → StuckAt s j (test 1) 0 → First (RuleGround s) (unreadable j)
@@ -192,7 +188,7 @@ module _ (s : List ℕ) where
             earliest q (RuleGround.unread g) e = g .unread rule reads
             earliest q (RuleGround.deep {o = p} g) e = shallow p g
             earliest q (RuleGround.crowded {o = p} g) e = earlier-irrefl (tests o) (subst (λ x. Earlier (tests x) (tests o)) (one-tests p o g m) e)
-            earliest q (RuleGround.heavy {o = p} g) e = later (steps p) (tests o) (omega arith) e
+            earliest q (RuleGround.heavy {o = p} g) e = stage-later (steps p) (tests o) (omega arith) e
 
         first-steps : {o : ℕ} → ManySteps s o → ((p : ℕ) → ¬ ManyTests s p) → First (RuleGround s) (steps o)
         first-steps {o} m n = record { applies = RuleGround.heavy m; first = earliest }

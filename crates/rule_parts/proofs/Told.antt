@@ -10,6 +10,7 @@ use lib.Dec.{eqb}
 use borrow.Author.Tests.{ne-eqb}
 use Rattle.xpath.specs.Syntax.{Op, eq, ne, lt, le, gt, ge, Test, named, not, and, or, compare, compareTo, XPath, empty, one, seq, union, star, toLeft, toRight, fromLeft, fromRight, stay}
 use Rattle.rule_spec.specs.Spelling.{sign, spellTest, spellPath, spellStep}
+use Rattle.rule_spec.proofs.Reading.{Begun}
 use Rattle.rule_spec.specs.Bytes.{choose}
 use Rattle.rule_parts.specs.declared.kinds.TestKind.{TestKind}
 use Rattle.rule_parts.specs.declared.kinds.TestKind.the-variants.{Named, Not, And, Or, Comparison}
@@ -46,10 +47,6 @@ longer-rest b p q = rw (ne-eqb b 60 p, ne-eqb b 62 q) refl
 
 pub shorter-rest : (b : ℕ) → b ≢ 60 → b ≢ 62 → Equal ≡ shorter b
 shorter-rest b p q = rw (ne-eqb b 60 p, ne-eqb b 62 q) refl
-
--- a text begins with a byte
-abbrev Begun : (ℕ → Type 0) → List ℕ → Type 0
-Begun B w = (b : ℕ) × (u : List ℕ) × (w ≡ b ∷ u) × B b
 
 test-told : (T : Test) → Begun (λ b. testBy b ≡ testKind T) (spellTest T)
 unfolding spellTest

@@ -22,7 +22,7 @@ use Rattle.rule_spec.proofs.Bytes.{letter-iff, nameByte-iff, printable-
 use Rattle.rule_spec.proofs.Comes.{passes, fresh, comes-as, comes-none, comes-one, comes-two}
 
 -- a list that begins with a byte that is B
-abbrev Begun : (ℕ → Type 0) → List ℕ → Type 0
+abbrev pub Begun : (ℕ → Type 0) → List ℕ → Type 0
 Begun B w = (b : ℕ) × (u : List ℕ) × (w ≡ b ∷ u) × B b
 
 pub test-head : (T : Test) → Begun (λ b. isNameByte b ≡ false) (spellTest T)

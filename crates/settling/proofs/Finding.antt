@@ -15,6 +15,7 @@ use Rattle.layout.specs.Part.{ANSWER, pairAt}
 use Rattle.layout.specs.Words.{word}
 use Rattle.layout.proofs.Frames.{within-frame, within-then, same-then, frame-same}
 use Rattle.machine.specs.declared.Machine.{Machine}
+use Rattle.machine.proofs.Comparing.{second-few}
 use Rattle.loops.specs.Loops.{Stage}
 use Rattle.loops.proofs.Sides.{parent-before}
 use Rattle.powers.specs.Powers.{Founded}
@@ -31,9 +32,6 @@ use Rattle.settling.proofs.Reading.{related-settles}
 module _ {P R : XPath} {t : Tree} {m : Machine} {n : ℕ} {p : List ℕ} (stage : Stage P R t m n p) where
   pub ready-of : 176 * n ≤ length p → Ready n p
   ready-of room = record { few = stage .drawn .few; room = room; parents = parent-before stage }
-
-  pub second-few : m .second < 16
-  second-few = let e = stage .machine .start in let f = stage .machine .few in omega arith
 
 -- ── The answers ──
 one-true : (b : Bool) → (one b ≡ 1) ↔ (b ≡ true)
@@ -64,7 +62,7 @@ settled {m} {n} {p} {p₁} {p₂} {q} {q′} ready s (g, met) (h, still) a = rec
 
     answers : {P R : XPath} {t : Tree} → Founded P R t m n 1 p → (v : ℕ) → v < n → (word q′ n ANSWER v ≡ 1) ↔ Settles P R t (Marked t n p) v 0 (m .second)
     answers {P} {R} {t} f v inside =
-        let found = related-settles (f .stage) (f .loops) (f .powers) framed (ended-kept (m .last) all (s .ended)) (λ y i l. met-kept begun h y i l (met y i l)) still (all .sound (m .last) (s .held)) v 0 (m .second) inside (omega arith) (second-few (f .stage)) in
+        let found = related-settles (f .stage) (f .loops) (f .powers) framed (ended-kept (m .last) all (s .ended)) (λ y i l. met-kept begun h y i l (met y i l)) still (all .sound (m .last) (s .held)) v 0 (m .second) inside (omega arith) (second-few (f .stage .machine)) in
         let told = one-true (bit (getD q (pairAt n v + 0) 0) (m .second)) in
         let same : word q′ n ANSWER v ≡ one (bit (getD q (pairAt n v + 0) 0) (m .second)) = a .done v inside ∙ ap (λ (x : ℕ). one (bit (getD q x 0) (m .second))) (omega arith) in
         (λ e. found .0 (told .0 (sym same ∙ e)), λ z. same ∙ told .1 (found .1 z))

@@ -4,8 +4,9 @@ use native.Mathlib.Omega.{arith}
 use Rattle.retracing.proofs.Linked.{linked-drawn}
 use Rattle.machine.proofs.Shape.{drawn-shape}
 use Rattle.plain.proofs.Signs.{other-sign}
-use Rattle.evaluators.proofs.Staging.{stage-space, stage-second}
+use Rattle.evaluators.proofs.Staging.{stage-space}
 use Rattle.evaluators.proofs.Snippeting.{stage-levelled, digits-asked, equal-compared, other-compared}
+use Rattle.machine.proofs.Comparing.{second-few}
 use borrow.Author.Needs.{needs}
 use Rattle.evaluators.proofs.by_snippets.Statement.{statement}
 use Rattle.evaluators.proofs.by_snippets.Tie as tie
@@ -26,7 +27,7 @@ compare-equal-requires c κs =
     ((x .0 .0, x .0 .1, x .0 .2, stage-levelled (x .0 .3) l), d .0, d .1, d .3, record { few = d .2; low = d .4; room = d .5 })
 
 compare-order-requires : tie.Need-compare-order-requires
-compare-order-requires c κs = let x = c .before .before .before .pre in let h = x .0 .3 in (stage-space h (x .1), h .drawn .small, stage-second h, linked-drawn (h .drawn))
+compare-order-requires c κs = let x = c .before .before .before .pre in let h = x .0 .3 in (stage-space h (x .1), h .drawn .small, second-few (h .machine), linked-drawn (h .drawn))
 
 same-length : tie.Need-same-length
 same-length c = search needs
