@@ -16,6 +16,7 @@ use Rattle.reach.specs.Work.{nodeOf, At, Added}
 use Rattle.retracing.specs.Backward.{LinkedBothWays, Sources, Descends, Into, Before}
 use Rattle.reach.proofs.Adding.{added-then, added-as}
 
+-- ── The ways to a node ──
 -- the nodes next to u, and the positions there that come to a position of s at u: by a bracketed test, by a step up from the left child or from the right child, and by a step down from the parent
 pub record Ways (m : Machine) (n : ℕ) (p : List ℕ) (u s l r v here fromL fromR fromUp : ℕ) : Type 0 where
   pub left : l ≡ word p n LEFT u
@@ -78,6 +79,7 @@ module _ {m : Machine} {n : ℕ} {p : List ℕ} {u s l r v here fromL fromR from
   unfolding Next
   added-leads a b c e = added-as (λ x i h k. (comes x i h k, λ (j, q, f, t, y). leads x i j h k q f t y)) (added-then (added-then (added-then a b) c) e)
 
+-- ── One entry ──
 -- u and s are the node and the positions of entry h
 pub added-entry : {m : Machine} {n d len len′ u s : ℕ} {p p′ : List ℕ} (h : ℕ) → (u ≡ nodeOf p n h) × (s ≡ word p n POSITIONS h)
     → Added (Into m n p u s) n d len len′ p p′ → Added (Before m n p h) n d len len′ p p′

@@ -17,6 +17,7 @@ use Rattle.rule_parts.proofs.kinds.PathKind as path-kinds
 use Rattle.rule_parts.proofs.Inner.{star-inner, seq-inner, union-inner, bracket-inner}
 use Rattle.test_numbers.specs.Tests.{testsOf, pathTests, stepTests}
 
+-- ── How a path begins ──
 -- no path is spelled by nothing, or begins with a quote
 pub path-head : (P : XPath) → (b : ℕ) × (u : List ℕ) × (spellPath P ≡ b ∷ u) × (b ≢ 34)
 unfolding spellPath spellStep
@@ -30,6 +31,7 @@ path-head (seq A B) = (46, _, refl, λ e. omega arith)
 path-head (union A B) = (43, _, refl, λ e. omega arith)
 path-head (star A) = (42, _, refl, λ e. omega arith)
 
+-- ── What the kind tells ──
 -- a kind by its number
 abbrev pub pathTag : PathKind → ℕ
 pathTag k = tagOf path-kinds.the-type k
