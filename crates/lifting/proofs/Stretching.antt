@@ -49,7 +49,7 @@ module _ {P R : XPath} {t : Tree} {n b x y len k over rest : ℕ} {p : List ℕ}
   beyond = let (u, d, e) = halves in subst (λ (z : ℕ). Down t x z rest) (one-above (ladder .formed) e near) d
 
 module _ {n b y len : ℕ} {p : List ℕ} (s : Stretch n b y len p) where
-  -- as long as the table of exponents goes
+  -- short enough for `exponent`
   pub stretch-short : len ≤ 4096
   stretch-short = let h = down-le (s .tree) (s .ladder .formed) (s .down) in let r = s .node in let f = s .few in omega arith
 

@@ -1,46 +1,33 @@
--- `exponents::exponent` meets its contract: the table's rule is a test at each of its entries, which is computed.
-use mathlib.Core.Path.{_≡_, subst}
-use mathlib.Core.List.{List, [], _∷_, _++_}
-use mathlib.Core.Bool.{Bool}
-use Prim.Native.Nat.{ℕ, suc, _-_, _^_, _<_}
+-- `exponents::exponent` meets its contract: the leading zeros tell the place of the highest binary digit, and a number lies between the power of that place and the next power.
+use mathlib.Core.Path.{_≡_, refl, subst}
+use Prim.Native.Nat.{ℕ, _+_, _-_, _≤_}
 use native.Mathlib.Omega.{arith}
-use lib.Dec.{leb, ltb, leb→le, ltb→lt}
-use lib.ListN.{getD, replicate, length}
-use borrow.Author.Needs.{needs}
+use lib.Count.{leadingZeros, leading-top}
+use Rattle.limits.specs.Limits.{documentNodes}
 use Rattle.exponents.specs.Exponent.{Exponent}
-use Rattle.exponents.proofs.Table.{at, both, both-left, both-right}
 use Rattle.exponents.proofs.exponent.Statement.{statement}
 use Rattle.exponents.proofs.exponent.Tie as tie
 
--- the table, as 2 ^ k times the exponent k for each k
-entries : List ℕ
-entries = replicate 1 0 ++ (replicate 2 1 ++ (replicate 4 2 ++ (replicate 8 3 ++ (replicate 16 4 ++ (replicate 32 5 ++ (replicate 64 6 ++ (replicate 128 7 ++ (replicate 256 8 ++ (replicate 512 9 ++ (replicate 1024 10 ++ (replicate 2048 11 ++ (12 ∷ []))))))))))))
+-- the highest digit of 1 is its last
+one : leadingZeros 64 1 ≡ 63
+unfolding leadingZeros
+one = refl
 
--- the test at place i, which is the length i + 1
-right : ℕ → ℕ → Bool
-right i k = both (leb (2 ^ k) (suc i)) (ltb (suc i) (2 ^ suc k))
-
-rule : (i : ℕ) → i < 4096 → Exponent (suc i) (getD entries i 0)
-unfolding entries right
-rule i h =
-    let t = at right entries tt i h in
-    let k = getD entries i 0 in
-    record {
-      low = leb→le (2 ^ k) (suc i) (both-left (leb (2 ^ k) (suc i)) _ t);
-      high = ltb→lt (suc i) (2 ^ suc k) (both-right (leb (2 ^ k) (suc i)) _ t);
-    }
+-- the highest digit of a length stands k places higher
+above : (n : ℕ) → 1 ≤ n → n ≤ documentNodes → (k : ℕ) × (leadingZeros 64 n + k ≡ leadingZeros 64 1) × Exponent n k
+above n h l = let (k, e, low, high) = leading-top 64 n (omega arith) (omega arith) in (k, omega (arith, one), record { low = low; high = high })
 
 sub-result : tie.Need-sub-result
-sub-result c = search needs
+sub-result c = let (k, e, _) = above (c .args .length) (c .pre .0) (c .pre .1) in omega arith
 
-array-read-result : tie.Need-array-read-result
-array-read-result c = search needs
+cast-result : tie.Need-cast-result
+cast-result c = omega (arith, one)
 
 returns : tie.Need-returns
-unfolding entries
 returns c =
     let n = c .args .length in
-    subst (λ (m : ℕ). Exponent m (getD entries (n - 1) 0)) (let e : suc (n - 1) ≡ n = omega arith in e) (rule (n - 1) (omega arith))
+    let (k, e, x) = above n (c .pre .0) (c .pre .1) in
+    subst (Exponent n) (let d : k ≡ leadingZeros 64 1 - leadingZeros 64 n = omega arith in d) x
 
 pub exponent-spec : {M : Type 1} → statement M
-exponent-spec = tie.close (tie.spec sub-result array-read-result returns)
+exponent-spec = tie.close (tie.spec sub-result cast-result returns)
