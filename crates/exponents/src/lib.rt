@@ -4,7 +4,7 @@ ghost use Prim.Native.Nat.{_^_, _≤_, _<_};
 ghost use Rattle.limits.specs.Limits.{documentNodes, nodeDigits};
 ghost use Rattle.exponents.specs.Exponent.{Exponent};
 
-// The exponent for a length: the place of its highest binary digit, which stands behind the leading zeros.
+// The exponent for a length is the place of its highest binary digit: 0 for the length 1, and for each place further up there is a leading zero less.
 pub fn exponent(length: usize) -> u8
     requires { ⌜ (1 ≤ length) × (length ≤ documentNodes) ⌝ }
     ensures { λ r. ⌜ Exponent length r ⌝ }
