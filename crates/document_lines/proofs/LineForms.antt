@@ -1,11 +1,12 @@
 -- The lines of a node as keys and runs of bytes.
-use Prim.Native.Nat.{ℕ, _+_, _≤_, _<_}
+use Prim.Native.Nat.{ℕ, suc, _+_, _≤_, _<_}
 use mathlib.Core.Path.{_≡_, refl, sym, ap, _∙_, subst}
 use mathlib.Core.Logic.{inl}
 use mathlib.Core.List.{List, [], _∷_, _++_}
 use lib.ListN.{length, getD, drop, length-append, length-drop}
-use lib.Seq.{getD-drop}
+use lib.Seq.{drop-cons, getD-drop}
 use lib.Dec.{T}
+use native.Mathlib.Numerals.{add-one}
 use native.Mathlib.Omega.{arith}
 use Rattle.limits.specs.Limits.{labelBytes, valueBytes}
 use Rattle.lists.specs.Lists.{All}
@@ -16,7 +17,8 @@ use Rattle.document_spec.specs.Library.{Kind, element, attribute, text, Value, 
 use Rattle.lexer.specs.declared.Ending.{Ending}
 use Rattle.lexer.specs.declared.Ending.the-variants.{Next, Bad}
 use Rattle.lexer.specs.declared.Class.the-variants.{Label, Text}
-use Rattle.lexer.specs.Reading.{Ended, inClass, Run, Behind}
+use Rattle.lexer.specs.Reading.{Spans, Ended, inClass, Run, Behind}
+use Rattle.lexer.proofs.Keys.{spans-join, behind-key, no-key}
 use Rattle.lexer.proofs.Classes.{between-is, is-between, name-byte, label-byte}
 use Rattle.document_lines.specs.Nodes.{IsLabel, IsValue}
 
@@ -26,11 +28,46 @@ ended-as F G to from s i (Next j) (l, f, p) = (l, to l f, p)
 ended-as F G to from s i Bad h = λ l r g e. h l r (from l g) e
 
 -- ── Kinds ──
-pub kind-none : (s : List ℕ) (i : ℕ) → Ended (λ l. l ≡ kindLine element) s i Bad → Ended (λ l. l ≡ kindLine attribute) s i Bad → Ended (λ l. l ≡ kindLine text) s i Bad
-    → (k : Kind) (r : List ℕ) → ¬ (drop i s ≡ kindLine k ++ r)
-kind-none s i e a t element r q = e (kindLine element) r refl q
-kind-none s i e a t attribute r q = a (kindLine attribute) r refl q
-kind-none s i e a t text r q = t (kindLine text) r refl q
+-- the byte that tells the kind
+abbrev letter : Kind → ℕ
+letter element = 101
+letter attribute = 97
+letter text = 116
+
+kind-spelled : (k : Kind) → kindLine k ≡ bytes "kind=" ++ (letter k ∷ bytes "\n")
+kind-spelled element = refl
+kind-spelled attribute = refl
+kind-spelled text = refl
+
+pub no-letter : {b : ℕ} → ¬ (b ≡ 101) → ¬ (b ≡ 97) → ¬ (b ≡ 116) → (k : Kind) → ¬ (b ≡ letter k)
+no-letter e a t element = e
+no-letter e a t attribute = a
+no-letter e a t text = t
+
+pub kind-none : (s : List ℕ) (i : ℕ) → Ended (λ l. l ≡ bytes "kind=") s i Bad → (k : Kind) (r : List ℕ) → ¬ (drop i s ≡ kindLine k ++ r)
+kind-none s i h k r e = no-key s (bytes "kind=") i h (letter k ∷ bytes "\n") r (rw kind-spelled at e)
+
+-- at j stand a kind's letter and the LF that ends its line
+pub record KindEnds (s : List ℕ) (j : ℕ) (k : Kind) : Type 0 where
+  pub room : j + 2 ≤ length s
+  pub named : getD s j 0 ≡ letter k
+  pub ended : getD s (j + 1) 0 ≡ 10
+
+two-bytes : (s : List ℕ) (j : ℕ) → j + 2 ≤ length s → drop j s ≡ getD s j 0 ∷ getD s (j + 1) 0 ∷ drop (j + 2) s
+two-bytes s j h =
+    let e : j + 2 ≡ suc (suc j) = omega arith in
+    rw (e, add-one, drop-cons s j 0 (omega arith), drop-cons s (suc j) 0 (omega arith))
+
+module _ {s : List ℕ} {i j : ℕ} (p : Spans s i (bytes "kind=") j) where
+  -- behind its key a kind line ends so, and only a kind line does
+  pub kind-ends : (k : Kind) (r : List ℕ) → drop i s ≡ kindLine k ++ r → KindEnds s j k
+  kind-ends k r e =
+      let q : drop j s ≡ letter k ∷ 10 ∷ r = behind-key s (bytes "kind=") i j p (letter k ∷ bytes "\n") r (rw kind-spelled at e) in
+      let h : j + 2 ≤ length s = omega (arith, length-drop j s, ap length q) in
+      record { room = h; named = cc (two-bytes s j h); ended = cc (two-bytes s j h) }
+
+  pub kind-line : (k : Kind) → KindEnds s j k → Spans s i (kindLine k) (j + 2)
+  kind-line k h = rw kind-spelled (spans-join p (record { inside = h .room; spelled = cc (two-bytes s j (h .room)) }))
 
 -- ── Values ──
 abbrev ValueRun : List ℕ → Type 0

@@ -14,23 +14,29 @@ pub enum KindLine {
     NoKind,
 }
 
+// The key is read once: the byte behind it tells the kind, and the LF behind that ends the line.
 pub fn read_kind(s: &[u8], at: usize) -> KindLine
     requires { ⌜ at ≤ length (now s) ⌝ }
     ensures { λ r. ⌜ KindRead (now (s .entry)) at r ⌝ }
 {
-    let element = lexer::read_key(s, at, b"kind=e\n");
-    if let Ending::Next(j) = element {
-        return KindLine::Is(Kind::Element, j);
+    let r = lexer::read_key(s, at, b"kind=");
+    let Ending::Next(j) = r else {
+        return KindLine::NoKind;
+    };
+    if s.len() - j < 2 {
+        return KindLine::NoKind;
     }
-    let attribute = lexer::read_key(s, at, b"kind=a\n");
-    if let Ending::Next(j) = attribute {
-        return KindLine::Is(Kind::Attribute, j);
+    if s[j + 1] != 10 {
+        return KindLine::NoKind;
     }
-    let text = lexer::read_key(s, at, b"kind=t\n");
-    if let Ending::Next(j) = text {
-        return KindLine::Is(Kind::Text, j);
+    let b = s[j];
+    let end = j + 2;
+    match b {
+        b'e' => KindLine::Is(Kind::Element, end),
+        b'a' => KindLine::Is(Kind::Attribute, end),
+        b't' => KindLine::Is(Kind::Text, end),
+        _ => KindLine::NoKind,
     }
-    KindLine::NoKind
 }
 
 // A label is a run of name bytes that begins with a letter.

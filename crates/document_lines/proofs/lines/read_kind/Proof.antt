@@ -1,69 +1,66 @@
 -- `document_lines::lines::read_kind` meets its contract.
-use mathlib.Core.Path.{_≡_, subst}
-use Rattle.lexer.specs.Reading.{Ended}
-use Rattle.document_spec.specs.Library.{element, attribute, text, kindLine}
+use native.Mathlib.Omega.{arith}
+use Rattle.lists.specs.Text.{bytes}
+use Rattle.lexer.specs.Reading.{Spans}
+use Rattle.document_spec.specs.Library.{element, attribute, text}
 use Rattle.lexer.proofs.Keys.{key-spans}
-use Rattle.document_lines.proofs.LineForms.{kind-none}
+use Rattle.document_lines.proofs.LineForms.{kind-none, kind-ends, kind-line, no-letter}
 use borrow.Author.Needs.{needs}
 use Rattle.document_lines.proofs.lines.read_kind.Statement.{statement}
 use Rattle.document_lines.proofs.lines.read_kind.Tie as tie
 
--- ── An element ──
+-- the key that was read
+key : (c : tie.After-known-told) → Spans (c .before .before .before .before .before .before .args .s .now) (c .before .before .before .before .before .before .args .at) (bytes "kind=") (c .before .r .given .0 .0)
+key c =
+    key-spans _ (bytes "kind=") _ _ (rw (c .before .r .given .1) at (c .before .before .before .read-key .ensures))
+
 slice-aggregate-read-key : tie.Need-slice-aggregate-read-key
 slice-aggregate-read-key c = search needs
 
 read-key-requires : tie.Need-read-key-requires
 read-key-requires c κs = search needs
 
-enum-known-element : tie.Need-enum-known-element
-enum-known-element c = search needs
-
-returns : tie.Need-returns
-returns c = let a = c .before .before .before .before .before .before .args in key-spans (a .s .now) (kindLine element) (a .at) (c .before .element .given .0 .0) (subst (λ r. Ended (λ l. l ≡ kindLine element) (a .s .now) (a .at) r) (c .before .element .given .1) (c .before .before .before .read-key .ensures))
+enum-known-r : tie.Need-enum-known-r
+enum-known-r c = search needs
 
 enum-told : tie.Need-enum-told
 enum-told c = search needs
 
--- ── An attribute ──
-slice-aggregate-read-key-2 : tie.Need-slice-aggregate-read-key-2
-slice-aggregate-read-key-2 c = search needs
+returns : tie.Need-returns
+returns c = let a = c .before .before .before .before .before .args in kind-none (a .s .now) (a .at) (rw (c .enum-told .given .1) at (c .before .before .read-key .ensures))
 
-read-key-requires-2 : tie.Need-read-key-requires-2
-read-key-requires-2 c κs = search needs
-
-enum-known-attribute : tie.Need-enum-known-attribute
-enum-known-attribute c = search needs
+sub-if1 : tie.Need-sub-if1
+sub-if1 c = key c .inside
 
 returns-2 : tie.Need-returns-2
-returns-2 c = let a = c .before .before .before .before .before .before .before .before .before .before .args in key-spans (a .s .now) (kindLine attribute) (a .at) (c .before .attribute .given .0 .0) (subst (λ r. Ended (λ l. l ≡ kindLine attribute) (a .s .now) (a .at) r) (c .before .attribute .given .1) (c .before .before .before .read-key2 .ensures))
+returns-2 c = λ k r e. let w = kind-ends (key (c .before)) k r e in omega arith
 
-enum-told-2 : tie.Need-enum-told-2
-enum-told-2 c = search needs
+add-if2 : tie.Need-add-if2
+add-if2 c = search needs
 
--- ── A text ──
-slice-aggregate-read-key-3 : tie.Need-slice-aggregate-read-key-3
-slice-aggregate-read-key-3 c = search needs
-
-read-key-requires-3 : tie.Need-read-key-requires-3
-read-key-requires-3 c κs = search needs
-
-enum-known-text : tie.Need-enum-known-text
-enum-known-text c = search needs
+shared-slice-read-if2 : tie.Need-shared-slice-read-if2
+shared-slice-read-if2 c = search needs
 
 returns-3 : tie.Need-returns-3
-returns-3 c = let a = c .before .before .before .before .before .before .before .before .before .before .before .before .before .before .args in key-spans (a .s .now) (kindLine text) (a .at) (c .before .text .given .0 .0) (subst (λ r. Ended (λ l. l ≡ kindLine text) (a .s .now) (a .at) r) (c .before .text .given .1) (c .before .before .before .read-key3 .ensures))
+returns-3 c = λ k r e. let w = kind-ends (key (c .before .before .before)) k r e in omega arith
 
-enum-told-3 : tie.Need-enum-told-3
-enum-told-3 c = search needs
+shared-slice-read-b : tie.Need-shared-slice-read-b
+shared-slice-read-b c = search needs
 
--- ── None of the three ──
+add-end : tie.Need-add-end
+add-end c = search needs
+
 returns-4 : tie.Need-returns-4
-returns-4 c =
-    let a = c .before .before .before .before .before .before .before .before .before .before .before .before .before .args in
-    kind-none (a .s .now) (a .at)
-    (subst (λ r. Ended (λ l. l ≡ kindLine element) (a .s .now) (a .at) r) (c .before .before .before .before .before .before .before .before .enum-told .given .1) (c .before .before .before .before .before .before .before .before .before .before .read-key .ensures))
-    (subst (λ r. Ended (λ l. l ≡ kindLine attribute) (a .s .now) (a .at) r) (c .before .before .before .before .enum-told2 .given .1) (c .before .before .before .before .before .before .read-key2 .ensures))
-    (subst (λ r. Ended (λ l. l ≡ kindLine text) (a .s .now) (a .at) r) (c .enum-told3 .given .1) (c .before .before .read-key3 .ensures))
+returns-4 c = kind-line (key (c .before .before .before .before .before)) element (search needs)
+
+returns-5 : tie.Need-returns-5
+returns-5 c = kind-line (key (c .before .before .before .before .before)) attribute (search needs)
+
+returns-6 : tie.Need-returns-6
+returns-6 c = kind-line (key (c .before .before .before .before .before)) text (search needs)
+
+returns-7 : tie.Need-returns-7
+returns-7 c = let n = c .match2 .rest in λ k r e. no-letter (n .0 .0 .1) (n .0 .1) (n .1) k (kind-ends (key (c .before .before .before .before .before)) k r e .named)
 
 pub read-kind-spec : {M : Type 1} → statement M
 read-kind-spec =
@@ -71,17 +68,17 @@ read-kind-spec =
     (tie.spec
     slice-aggregate-read-key
     read-key-requires
-    enum-known-element
-    returns
+    enum-known-r
     enum-told
-    slice-aggregate-read-key-2
-    read-key-requires-2
-    enum-known-attribute
+    returns
+    sub-if1
     returns-2
-    enum-told-2
-    slice-aggregate-read-key-3
-    read-key-requires-3
-    enum-known-text
+    add-if2
+    shared-slice-read-if2
     returns-3
-    enum-told-3
-    returns-4)
+    shared-slice-read-b
+    add-end
+    returns-4
+    returns-5
+    returns-6
+    returns-7)
