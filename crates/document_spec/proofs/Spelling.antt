@@ -16,7 +16,7 @@ use Rattle.lists.proofs.Numerals.{Digit, decimal-injective, decimal-digits}
 use Rattle.document_spec.proofs.Lines.{Plain, Line, end, line-from}
 
 -- ── Whole lines ──
-whole : (c : List ℕ) → All Plain c → Line (c ++ bytes "\n")
+pub whole : (c : List ℕ) → All Plain c → Line (c ++ bytes "\n")
 whole c h = line-from c h end
 
 numeral : (n : ℕ) → Line (decimal n ++ bytes "\n")
@@ -27,7 +27,7 @@ name-byte b (inl h) = omega arith
 name-byte b (inr (inl h)) = omega arith
 name-byte b (inr (inr h)) = omega arith
 
-name : (a : List ℕ) → Name a → All Plain a
+pub name : (a : List ℕ) → Name a → All Plain a
 unfolding Name
 name [] h = absurd h
 name (b ∷ a) h = let l = h .0 in (omega arith, all-imp NameByte Plain name-byte a (h .1))

@@ -10,6 +10,7 @@ use lib.Seq.{slice, take-all, drop-append-le, drop-cons}
 use Rattle.lists.specs.Text.{bytes, NameByte}
 use Rattle.lists.proofs.Lists.{all-append}
 use Rattle.limits.specs.Names.{Name}
+use Rattle.limits.proofs.Names.{name-some}
 use Rattle.document_spec.specs.Library.{Node, at, depthLine, kindLine, labelLine, valueLine, nodeLines}
 use Rattle.document_lines.specs.declared.entries.Entry.{Entry}
 use Rattle.document_lines.specs.Entries.{Stands, IsEntry}
@@ -43,11 +44,6 @@ not-lf : (b : ℕ) → NameByte b → ¬ (b ≡ 10)
 not-lf b (inl h) = omega arith
 not-lf b (inr (inl h)) = omega arith
 not-lf b (inr (inr h)) = omega arith
-
-name-some : (a : List ℕ) → Name a → 0 < length a
-unfolding Name
-name-some [] h = absurd h
-name-some (b ∷ a) h = omega arith
 
 name-unended : (r : List ℕ) → ¬ Name (r ++ bytes "\n")
 unfolding Name
