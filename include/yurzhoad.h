@@ -142,9 +142,12 @@ extern "C" {
 /* ------------------------------------------------------------------------
  * Numbers. Each call hands back one of them, in the field number, with a place
  * beside it. Where several grounds apply, the one that comes first is handed
- * back: 1; then of 2, 3 and 4 the one on the first line; 5; of 6 and 7 the one
- * at the lower offset; 8; 9; 10; 11. docs/FORMAT.md, section 4, has each with
- * examples.
+ * back: 1; then of 2, 3, 4 and 14 the one on the first line, and on one line
+ * the lower number; 5; of 6 and 7 the one at the lower offset; 8; 9; 10; 11.
+ * docs/FORMAT.md, section 4, has each with examples.
+ *
+ * The numbers 12 and 13 are kept for calls to come. No call hands them back
+ * yet.
  *
  * Lines count from 1, offsets from 0. Node v has the lines 4v + 2 to 4v + 5.
  */
@@ -201,6 +204,13 @@ extern "C" {
 #define YURZHOAD_MARKS_LENGTH 11
 
 /*
+ * An attribute has the label of another one before it, of the same element.
+ * So no element of an accepted document has two attributes of one label.
+ * Place: the line of the second one's label.
+ */
+#define YURZHOAD_DUPLICATE_ATTRIBUTE 14
+
+/*
  * The buffers are not such as a call may be handed. The archive never hands
  * this back: it was not called, and nothing was read or written. Place: the
  * number of the buffer, which is 1 for the document, 2 for the rule, 3 for the
@@ -234,6 +244,7 @@ static inline const char *yurzhoad_words(uint16_t number)
     case YURZHOAD_STEPS: return "too many steps in a comparison";
     case YURZHOAD_SCRATCH_LENGTH: return "scratch too short";
     case YURZHOAD_MARKS_LENGTH: return "too few marks";
+    case YURZHOAD_DUPLICATE_ATTRIBUTE: return "duplicate attribute";
     case YURZHOAD_MISUSE: return "buffer null, overlapping or out of place";
     default: return "unknown number";
     }
@@ -282,7 +293,7 @@ static inline size_t yurzhoad_needed_words(size_t nodes)
 
 /* What the document check hands back. */
 typedef struct yurzhoad_document_answer {
-    uint16_t number; /* YURZHOAD_ACCEPTED, or 1 to 4, or YURZHOAD_MISUSE */
+    uint16_t number; /* YURZHOAD_ACCEPTED, or 1 to 4 or 14, or YURZHOAD_MISUSE */
     size_t place;    /* 0 if accepted; else see the number */
     size_t nodes;    /* N if accepted, else 0 */
 } yurzhoad_document_answer;
@@ -295,7 +306,7 @@ typedef struct yurzhoad_rule_answer {
 
 /* What an evaluation hands back. */
 typedef struct yurzhoad_evaluation {
-    uint16_t number; /* YURZHOAD_ACCEPTED, or 1 to 11, or YURZHOAD_MISUSE */
+    uint16_t number; /* YURZHOAD_ACCEPTED, or 1 to 11 or 14, or YURZHOAD_MISUSE */
     size_t place;    /* 0 if accepted; else see the number */
     size_t selected; /* the nodes that are marked if accepted, else 0 */
     size_t snippets; /* their count if accepted by snippets, else 0 */
@@ -306,12 +317,14 @@ typedef struct yurzhoad_evaluation {
  */
 
 /*
- * Judges a document, by the numbers 1 to 4, and tells its number of nodes.
+ * Judges a document, by the numbers 1 to 4 and 14, and tells its number of
+ * nodes.
  *
  * document: read, document_length bytes. It may be empty, and is refused then.
  *
- * Cost: one pass over the bytes, up to the first bad line. A document that is
- * too long is not read.
+ * Cost: one pass over the bytes, up to the first bad line. The label of each
+ * attribute is compared with others of its element besides, with at most 144
+ * of them. A document that is too long is not read.
  */
 YURZHOAD_READS(1, 2)
 yurzhoad_document_answer yurzhoad_check_document(const uint8_t *document, size_t document_length);
@@ -328,8 +341,8 @@ yurzhoad_rule_answer yurzhoad_check_rule(const uint8_t *rule, size_t rule_length
 
 /*
  * Marks the nodes of a document that a rule selects, by following its paths
- * from every node. Judges by the numbers 1 to 11: the document, then the rule,
- * then the scratch, then the marks. So no check need be called before.
+ * from every node. Judges by the numbers 1 to 11 and 14: the document, then the
+ * rule, then the scratch, then the marks. So no check need be called before.
  *
  * document, rule: read. They may overlap each other, and nothing else.
  *

@@ -249,12 +249,32 @@ static void test_cases(void)
 
 /* ---- refusals ---- */
 
-static int refused[YURZHOAD_MARKS_LENGTH + 1];
+/* The numbers that a call of the archive hands back. 12 and 13 are not among them yet. */
+static const uint16_t numbers[] = {
+    YURZHOAD_ACCEPTED,
+    YURZHOAD_DOCUMENT_LENGTH,
+    YURZHOAD_LINE_FORM,
+    YURZHOAD_NODE_COUNT,
+    YURZHOAD_TREE_RULE,
+    YURZHOAD_RULE_LENGTH,
+    YURZHOAD_UNREADABLE,
+    YURZHOAD_NESTING,
+    YURZHOAD_TESTS,
+    YURZHOAD_STEPS,
+    YURZHOAD_SCRATCH_LENGTH,
+    YURZHOAD_MARKS_LENGTH,
+    YURZHOAD_DUPLICATE_ATTRIBUTE,
+};
+
+#define NUMBERS (sizeof numbers / sizeof numbers[0])
+
+static int refused[YURZHOAD_DUPLICATE_ATTRIBUTE + 1];
 
 /* The checks refuse what is theirs, and accept the rest. */
 static void refuse_checks(const call *c, uint16_t number, size_t place)
 {
-    int of_document = number >= YURZHOAD_DOCUMENT_LENGTH && number <= YURZHOAD_TREE_RULE;
+    int of_document = (number >= YURZHOAD_DOCUMENT_LENGTH && number <= YURZHOAD_TREE_RULE)
+        || number == YURZHOAD_DUPLICATE_ATTRIBUTE;
     int of_rule = number >= YURZHOAD_RULE_LENGTH && number <= YURZHOAD_STEPS;
     yurzhoad_document_answer d = check_document(c);
     yurzhoad_rule_answer r;
@@ -307,6 +327,32 @@ static void refuse_changed(size_t line, const char *changed, uint16_t number)
     }
     memcpy(at, changed, strlen(changed));
     refuse_document(document, X_LENGTH, number, line);
+}
+
+/* A drug with a name, and with a second attribute or what else is put in its place. */
+static void refuse_behind_name(const char *behind, uint16_t number, size_t place)
+{
+    char document[200];
+    strcpy(document, "nodes=3\ndepth=0\nkind=e\nlabel=drug\nvalue=\n");
+    strcat(document, "depth=1\nkind=a\nlabel=name\nvalue=heparin\n");
+    strcat(document, behind);
+    refuse_document(document, strlen(document), number, place);
+}
+
+/* In line order: what is wrong before the label comes first, what is wrong behind it does not. */
+static void test_duplicates(void)
+{
+    const uint16_t duplicate = YURZHOAD_DUPLICATE_ATTRIBUTE;
+    refuse_behind_name("depth=1\nkind=a\nlabel=name\nvalue=heparin\n", duplicate, 12);
+    refuse_behind_name("depth=1\nkind=a\nlabel=name\nvalue=\n", duplicate, 12);
+    refuse_behind_name("depth=1\nkind=a\nlabel=name\nvalue", duplicate, 12);
+    refuse_behind_name("depth=1\nkind=a\nlabel=name\n", duplicate, 12);
+    refuse_behind_name("depth=1\nkind=a\nlabel=name", YURZHOAD_LINE_FORM, 12);
+    refuse_behind_name("depth=1\nkind=x\nlabel=name\nvalue=\n", YURZHOAD_LINE_FORM, 11);
+    refuse_behind_name("depth=2\nkind=a\nlabel=name\nvalue=\n", YURZHOAD_TREE_RULE, 10);
+    /* Another label, or another kind, is none: what is wrong is wrong behind it. */
+    refuse_behind_name("depth=1\nkind=a\nlabel=names\nvalue", YURZHOAD_LINE_FORM, 13);
+    refuse_behind_name("depth=1\nkind=e\nlabel=name\nvalue=x\n", YURZHOAD_TREE_RULE, 13);
 }
 
 static char long_document[YURZHOAD_MAX_DOCUMENT_BYTES + 1];
@@ -368,7 +414,7 @@ static void test_rules(void)
 /* One short of each buffer is refused; just enough, which the cases have, is not. */
 static void test_lengths(void)
 {
-    uint16_t number;
+    size_t i;
     call c = on_x(":a");
     c.scratch_words = X_WORDS - 1;
     refuse(&c, YURZHOAD_SCRATCH_LENGTH, 0);
@@ -380,8 +426,8 @@ static void test_lengths(void)
     CHECK(evaluate(PLAIN, &c).number == YURZHOAD_ACCEPTED);
     CHECK(evaluate(SNIPPETS, &c).number == YURZHOAD_ACCEPTED);
     subject = "each number is refused once or more";
-    for (number = YURZHOAD_DOCUMENT_LENGTH; number <= YURZHOAD_MARKS_LENGTH; number++) {
-        CHECK(refused[number]);
+    for (i = 1; i < NUMBERS; i++) {
+        CHECK(refused[numbers[i]]);
     }
 }
 
@@ -625,21 +671,21 @@ static int same_words(uint16_t a, uint16_t b)
 
 static void test_words(void)
 {
-    static const uint16_t others[] = {12, 255, 256, 0xFFFE};
-    uint16_t a;
-    uint16_t b;
+    static const uint16_t others[] = {12, 13, 15, 255, 256, 0xFFFE};
+    size_t a;
+    size_t b;
     size_t i;
     subject = "words";
     for (i = 0; i < sizeof others / sizeof others[0]; i++) {
         CHECK(strcmp(yurzhoad_words(others[i]), "unknown number") == 0);
     }
     CHECK(!same_words(YURZHOAD_MISUSE, 12));
-    for (a = YURZHOAD_ACCEPTED; a <= YURZHOAD_MARKS_LENGTH; a++) {
-        CHECK(strlen(yurzhoad_words(a)) > 0);
-        CHECK(!same_words(a, 12));
-        CHECK(!same_words(a, YURZHOAD_MISUSE));
-        for (b = YURZHOAD_ACCEPTED; b < a; b++) {
-            CHECK(!same_words(a, b));
+    for (a = 0; a < NUMBERS; a++) {
+        CHECK(strlen(yurzhoad_words(numbers[a])) > 0);
+        CHECK(!same_words(numbers[a], 12));
+        CHECK(!same_words(numbers[a], YURZHOAD_MISUSE));
+        for (b = 0; b < a; b++) {
+            CHECK(!same_words(numbers[a], numbers[b]));
         }
     }
 }
@@ -731,6 +777,7 @@ int main(void)
 {
     test_cases();
     test_documents();
+    test_duplicates();
     test_rules();
     test_lengths();
     test_null();

@@ -1,11 +1,10 @@
 -- The walk over the nodes: from the count line to what is behind the last node.
-use Prim.Native.Nat.{ℕ, suc, _+_, _*_, _≤_, _<_}
+use Prim.Native.Nat.{ℕ, _+_, _*_, _≤_, _<_}
 use mathlib.Core.Path.{_≡_, refl, sym, ap, _∙_, subst}
 use mathlib.Core.Logic.{_⊎_}
 use mathlib.Core.List.{List}
 use lib.ListN.{length, drop, length-drop, drop-of-length-le}
 use native.Mathlib.Omega.{arith}
-use native.Mathlib.Numerals.{add-one}
 use Rattle.limits.specs.Limits.{documentBytes, documentNodes}
 use Rattle.lists.specs.Text.{bytes}
 use Rattle.refusals.specs.Refusals.{lineForm, nodeCount, First}
@@ -18,15 +17,43 @@ use Rattle.document_spec.proofs.Good.{good-start, first-extra}
 use Rattle.document_spec.proofs.Accepted.{good-accepts}
 use Rattle.lexer.specs.declared.Numeral.the-variants.{Value, NoNumeral}
 use Rattle.lexer.specs.Reading.{NumberedLine}
-use Rattle.document_lines.specs.declared.rules.Node.{Node}
-use Rattle.document.specs.Check.{Cursor, Says, Before}
+use Rattle.document_lines.specs.declared.rules.Kind.{Kind}
+use Rattle.document_lines.specs.declared.rules.Kind.the-variants.{Element, Attribute, Text}
+use Rattle.label_trees.specs.Trees.{Copied}
+use Rattle.document.specs.declared.nodes.Progress.{Progress}
+use Rattle.document.specs.Check.{Cursor, Labelled, Run, Carries, Reached}
 
--- ── Behind a node ──
-pub next-cursor : {s : List ℕ} {n j : ℕ} (v : ℕ) → Cursor s n (4 * suc v + 1) j → Cursor s n (4 * (v + 1) + 1) j
-next-cursor {s} {n} {j} v c = let e : 4 * suc v + 1 ≡ 4 * (v + 1) + 1 = omega arith in subst (λ k. Cursor s n k j) e c
+-- ── Words ──
+-- before the first node nothing is held
+pub first-reached : {s t : List ℕ} {n i : ℕ} → Cursor s n 1 i → Reached s t n (record { node = 0; at = i; before = record { depth = 0; kind = Element } })
+first-reached c = record { cursor = c; before = tt; small = omega arith; carries = tt }
 
-pub next-before : {s : List ℕ} {v : ℕ} {x : Node} → Says s v x → Before s (v + 1) x
-next-before {s} {v} {x} h = subst (λ w. Before s w x) (sym (add-one v)) h
+-- the words were changed, and hold what they must
+pub reached-still : {s t t′ : List ℕ} {n : ℕ} {h : Progress} → Reached s t n h → Carries s t′ (h .node) (h .at) (h .before .kind) → Reached s t′ n h
+reached-still r c = record { cursor = r .cursor; before = r .before; small = r .small; carries = c }
+
+-- with more words the same is held
+module _ {s t u u′ : List ℕ} (c : Copied t u u′) where
+  run-copied : {v i : ℕ} → Run s t v i → Run s u′ v i
+  run-copied {v} {i} r =
+      let e = c .same in
+      let l = r .holds .room in
+      record {
+        holds = c .holds s (r .holds);
+        first = r .first;
+        upto = let m = r .upto in omega arith;
+        opens = r .opens;
+        labelled = λ k h. subst (Labelled s (r .first + k)) (sym (c .offsets k (omega arith))) (r .labelled k (omega arith));
+        below = λ k h. omega (arith, c .offsets k (omega arith), r .below k (omega arith));
+      }
+
+  pub reached-copied : {n : ℕ} {h : Progress} → Reached s t n h → Reached s u′ n h
+  reached-copied {h} r = reached-still r (go (h .before .kind) (r .carries))
+    where
+      go : (k : Kind) → Carries s t (h .node) (h .at) k → Carries s u′ (h .node) (h .at) k
+      go Element q = tt
+      go Attribute q = run-copied q
+      go Text q = tt
 
 -- ── Behind the last node ──
 module _ {s : List ℕ} {n : ℕ} where

@@ -1,17 +1,18 @@
 -- A document whose lines are all good is the spelling of a legal library, and the other way round.
 use Prim.Native.Nat.{ℕ, zero, suc, _+_, _*_, _≤_, _<_}
-use mathlib.Core.Path.{_≡_, refl, sym, ap, _∙_}
+use mathlib.Core.Path.{_≡_, refl, sym, ap, _∙_, subst}
 use mathlib.Core.List.{List, [], _∷_, _++_, append-nil, append-assoc}
 use native.Mathlib.Omega.{arith}
 use lib.ListN.{length}
-use Rattle.limits.specs.Limits.{documentBytes}
-use Rattle.document_spec.specs.Library.{Node, at, Legal, nodesLine, nodeLines, spell}
-use Rattle.document_spec.specs.Verdict.{behindLines, line, Accepts}
+use Rattle.limits.specs.Limits.{documentBytes, documentNodes}
+use Rattle.document_spec.specs.Library.{Node, at, attribute, Legal, nodesLine, nodeLines, spell}
+use Rattle.document_spec.specs.Verdict.{behindLines, line, KindIs, LabelIs, Duplicate, Accepts}
 use Rattle.document_spec.specs.Fields.{Field, depth, kind, label, value, lineOf, Formed, Ruled}
 use Rattle.document_spec.specs.Good.{Good}
 use Rattle.document_spec.proofs.Lines.{line-none}
-use Rattle.document_spec.proofs.Reading.{NodeIs, Reads, Writable, reads-one, reads-text, text-reads}
+use Rattle.document_spec.proofs.Reading.{NodeIs, Reads, Writable, kind-one, label-one, reads-one, reads-text, text-reads}
 use Rattle.document_spec.proofs.Fields.{offset-bounds}
+use Rattle.document_spec.proofs.Duplicates.{together-map, repeated}
 use Rattle.document_spec.proofs.Rules.{ruled-top, ruled-root, ruled-depth, ruled-kind, ruled-label, ruled-value}
 
 -- ── From the lines to a library ──
@@ -59,6 +60,12 @@ module _ {s : List ℕ} {n k : ℕ} (g : Good s n k) where
         kinds = λ v i. let x = r .nodes v (omega arith) in let y = r .nodes (suc v) i in ruled (suc v) kind i _ _ _ _ (x .depth) (x .kind) (y .depth) (y .kind);
         labelled = λ v i. let x = r .nodes v i in ruled v label i _ _ (x .kind) (x .label);
         empties = λ v i. let x = r .nodes v i in ruled v value i _ _ (x .kind) (x .value);
+        distinct = λ u w i t same.
+            let b = t .before in
+            g .fresh (lineOf w label) (omega arith)
+            (Duplicate.label (at ns w .label) (g .count) (omega arith)
+            (together-map (λ v j e. subst (KindIs s v) e (r .nodes v (omega arith) .kind)) t)
+            (subst (LabelIs s u) same (r .nodes u (omega arith) .label)) (r .nodes w i .label));
       }
     where
       ruled : (v : ℕ) (f : Field) → v < length ns → Ruled s v f
@@ -80,7 +87,7 @@ module _ {ns : List Node} (legal : Legal ns) where
   legal-depth zero l = let e = legal .top in omega arith
   legal-depth (suc v) l = let h = legal-depth v (omega arith) in let d = legal .depths v l in omega arith
 
-  legal-writable : (v : ℕ) → v < length ns → Writable (at ns v)
+  pub legal-writable : (v : ℕ) → v < length ns → Writable (at ns v)
   legal-writable v l =
       let d = legal-depth v l in
       let f = legal .few in
@@ -102,15 +109,22 @@ spell-injective ns ms l k e = reads-one (spell ns) ns ms (spelled-reads l (spell
 pub accepts-one : (s : List ℕ) (ns ms : List Node) → Accepts s ns → Accepts s ms → ns ≡ ms
 accepts-one s ns ms a b = spell-injective ns ms (a .legal) (b .legal) (sym (a .spelled) ∙ b .spelled)
 
--- lines that say a legal library are good
-pub reads-good : (s : List ℕ) (ns : List Node) → length s ≤ documentBytes → Legal ns → Reads s (length ns) ns → Good s (length ns) (4 * length ns + 1)
-reads-good s ns short legal r = record {
+-- lines that say a legal library are good, also where further nodes are to come
+pub reads-good-so-far : (s : List ℕ) (n : ℕ) (ns : List Node) → length s ≤ documentBytes → length ns ≤ n → n ≤ documentNodes → Legal ns → Reads s n ns
+    → Good s n (4 * length ns + 1)
+reads-good-so-far s n ns short part few legal r = record {
   short = short;
   count = r .count;
-  some = legal .some;
-  few = legal .few;
+  some = let p = legal .some in omega arith;
+  few = few;
   within = omega arith;
   lines = λ v f l. let o = offset-bounds f in lines v f (omega arith);
+  fresh = λ i l d.
+      let (w, e, x) = repeated d in
+      let b = x .together .before in
+      legal .distinct (x .node) w (omega arith) (together-map (λ v j k. kind-one s v _ attribute (r .nodes v (omega arith) .kind) k) (x .together))
+      (label-one s (x .node) _ (x .name) (r .nodes (x .node) (omega arith) .label) (x .there)
+      ∙ label-one s w (x .name) _ (x .here) (r .nodes w (omega arith) .label));
 }
   where
     lines : (v : ℕ) (f : Field) → v < length ns → Formed s v f × Ruled s v f
@@ -126,6 +140,9 @@ reads-good s ns short legal r = record {
         ((at ns (suc v) .kind, y .kind), ruled-kind s v _ _ _ (x .depth) (x .kind) (y .depth) _ (y .kind) (legal .kinds v l))
     lines v label l = let x = r .nodes v l in ((_, x .label), ruled-label s v _ (x .kind) _ (x .label) (legal .labelled v l))
     lines v value l = let x = r .nodes v l in ((_, x .value), ruled-value s v _ (x .kind) _ (x .value) (legal .empties v l))
+
+pub reads-good : (s : List ℕ) (ns : List Node) → length s ≤ documentBytes → Legal ns → Reads s (length ns) ns → Good s (length ns) (4 * length ns + 1)
+reads-good s ns short legal r = reads-good-so-far s (length ns) ns short (omega arith) (legal .few) legal r
 
 pub accepts-good : (s : List ℕ) (ns : List Node) → Accepts s ns → Good s (length ns) (4 * length ns + 1) × (line s (4 * length ns + 2) ≡ [])
 accepts-good s ns a =

@@ -1,5 +1,5 @@
 -- Examples: 01's document X is accepted, and some documents that are refused (readings 8 to 11).
-use Prim.Native.Nat.{ℕ, _≤_}
+use Prim.Native.Nat.{ℕ, zero, suc, _≤_, _<_}
 use mathlib.Core.Path.{_≡_, refl, sym, ap, _∙_}
 use mathlib.Core.Logic.{inl, inr, ⊎-elim, _≢_}
 use mathlib.Core.List.{List, [], _∷_, _++_}
@@ -12,16 +12,20 @@ use Rattle.limits.specs.Names.{Name}
 use Rattle.lists.specs.Numerals.{reading}
 use Rattle.lists.proofs.Lists.{all-imp}
 use Rattle.lists.proofs.Numerals.{reading-decimal}
-use Rattle.refusals.specs.Refusals.{lineForm, nodeCount, treeRule, First}
-use Rattle.document_spec.specs.Library.{Kind, element, attribute, text, Value, DepthBehind, KindBehind, LabelRule, ValueRule, Legal, kindLine, nodeLines, spell}
+use Rattle.refusals.specs.Refusals.{lineForm, nodeCount, treeRule, duplicateAttribute, First}
+use Rattle.document_spec.specs.Library.{Node, Kind, element, attribute, text, Value, DepthBehind, KindBehind, LabelRule, ValueRule, at, Legal, kindLine, nodeLines, spell}
 use Rattle.document_spec.specs.Example.{node, root, drug, name, X, textX}
-use Rattle.document_spec.specs.Verdict.{firstLine, behindLine, behindLines, line, CountIs, Breaks, DocumentGround, Accepts}
-use Rattle.document_spec.specs.Fields.{depth}
+use Rattle.document_spec.specs.Verdict.{firstLine, behindLine, behindLines, line, CountIs, DepthIs, KindIs, Breaks, Duplicate, DocumentGround, Accepts}
+use Rattle.document_spec.specs.Fields.{depth, kind}
 use Rattle.document_spec.proofs.Spelling.{between, nodes-injective, depth-injective}
 use Rattle.document_spec.proofs.Grounds.{first-uncounted, first-number}
-use Rattle.document_spec.proofs.Legality.{Fits, Behind, legal-chain}
+use Rattle.document_spec.proofs.Legality.{Fits, Behind, distinct-alone, legal-chain}
 use Rattle.document_spec.proofs.Verdict.{further-bytes}
-use Rattle.document_spec.proofs.Good.{good-start, first-form, first-rule}
+use Rattle.document_spec.proofs.Good.{good-start, good-on, first-form, first-rule, first-duplicate}
+use Rattle.document_spec.proofs.Reading.{text-reads}
+use Rattle.document_spec.proofs.Rules.{ruled-depth, ruled-kind}
+use Rattle.document_spec.proofs.Duplicates.{unrepeated}
+use Rattle.document_spec.proofs.Accepted.{legal-writable, reads-good-so-far}
 
 -- ── Document X ──
 pub spelled : textX ≡ spell X
@@ -43,17 +47,28 @@ element-fits d b a h l = record { name = word b a h l; bound = (tt, lit≤ tt); 
 drug-fits : Fits drug
 drug-fits = element-fits 1 _ _ (omega arith) (lit≤ tt)
 
-name-fits : Fits name
-unfolding Value
-name-fits = record {
-  name = word _ _ (omega arith) (lit≤ tt);
-  bound = (omega arith, lit≤ tt);
+attribute-fits : (d b : ℕ) (a c : List ℕ) → All Letter (b ∷ a) → length (b ∷ a) ≤ 16 → Value c → Fits (node d attribute (b ∷ a) c)
+attribute-fits d b a c h l v = record {
+  name = word b a h l;
+  bound = v;
   labelled = differ attribute text (omega arith);
   empty = differ attribute element (omega arith);
 }
 
+name-fits : Fits name
+unfolding Value
+name-fits = attribute-fits 2 _ _ _ (omega arith) (lit≤ tt) (omega arith, lit≤ tt)
+
 named : Behind drug name
 named = record { depth = (lit< tt, lit≤ tt, λ e. refl); kind = λ e. inl (refl, refl) }
+
+-- between two attributes there is an element
+apart : (v : ℕ) → suc v < length X → at X v .kind ≡ attribute → at X (suc v) .kind ≢ attribute
+apart zero l e f = differ element attribute (omega arith) e
+apart (suc zero) l e f = differ element attribute (omega arith) e
+apart (suc (suc zero)) l e f = differ element attribute (omega arith) f
+apart (suc (suc (suc zero))) l e f = differ element attribute (omega arith) e
+apart (suc (suc (suc (suc v)))) l e f = omega arith
 
 pub legal : Legal X
 legal =
@@ -61,7 +76,7 @@ legal =
     (element-fits 0 _ _ (omega arith) (lit≤ tt), (drug-fits, (name-fits, (drug-fits, (name-fits, tt))))) (
       record { depth = (lit< tt, lit≤ tt, λ e. refl); kind = differ element attribute (omega arith) },
       (named, (record { depth = (lit< tt, lit≤ tt, λ e. absurd (omega arith)); kind = differ element attribute (omega arith) }, (named, tt))),
-    )
+    ) (distinct-alone X apart)
 
 pub accepted : Accepts textX X
 accepted = record { short = lit≤ tt; legal = legal; spelled = spelled }
@@ -140,3 +155,41 @@ too-deep =
 pub extra-byte : First (DocumentGround (spell X ++ bytes "\n")) (lineForm 22)
 unfolding spell nodeLines decimal digits digitsBy
 extra-byte = further-bytes X legal 10 [] (lit≤ tt)
+
+-- ── An attribute given twice (02, d) ──
+abbrev textTwice : List ℕ
+textTwice = bytes "nodes=3\ndepth=0\nkind=e\nlabel=e\nvalue=\ndepth=1\nkind=a\nlabel=a\nvalue=\ndepth=1\nkind=a\nlabel=a\nvalue=\n"
+
+-- its first two nodes
+abbrev once : List Node
+once = node 0 element (bytes "e") [] ∷ node 1 attribute (bytes "a") [] ∷ []
+
+legal-once : Legal once
+unfolding Value
+legal-once =
+    legal-chain (node 0 element (bytes "e") []) (node 1 attribute (bytes "a") [] ∷ []) (lit≤ tt) refl refl
+    (element-fits 0 _ _ (omega arith) (lit≤ tt), (attribute-fits 1 _ _ [] (omega arith) (lit≤ tt) (tt, lit≤ tt), tt))
+    (record { depth = (lit< tt, lit≤ tt, λ e. refl); kind = λ e. inl (refl, refl) }, tt)
+    (distinct-alone once alone)
+  where
+    alone : (v : ℕ) → suc v < length once → at once v .kind ≡ attribute → at once (suc v) .kind ≢ attribute
+    alone zero l e f = differ element attribute (omega arith) e
+    alone (suc v) l e f = omega arith
+
+-- at the label line of the second
+pub twice : First (DocumentGround textTwice) (duplicateAttribute 12)
+unfolding line firstLine behindLine behindLines nodeLines decimal digits digitsBy
+twice =
+    let (r, on) = text-reads textTwice 3 once (bytes "depth=1\nkind=a\nlabel=a\nvalue=\n") (lit< tt) (legal-writable legal-once) refl in
+    let x = r .nodes 1 (lit< tt) in
+    let g = reads-good-so-far textTwice 3 once (lit≤ tt) (lit≤ tt) (lit≤ tt) legal-once r in
+    let d : DepthIs textTwice 2 1 = (lit< tt, refl) in
+    let g = good-on g 2 depth refl (lit< tt) (1, d) (ruled-depth textTwice 1 1 1 attribute (x .depth) (x .kind) d (lit< tt, lit≤ tt, λ e. absurd (omega arith))) (unrepeated 2 depth (omega arith)) in
+    let g = good-on g 2 kind refl (lit< tt) (attribute, refl) (ruled-kind textTwice 1 1 1 attribute (x .depth) (x .kind) d attribute refl (λ e. inr (refl, refl))) (unrepeated 2 kind (omega arith)) in
+    first-duplicate g 2 refl (Duplicate.label {u = 1} (bytes "a") (r .count) (lit< tt) (record { before = lit< tt; all = both }) (x .label) (x .label .0, refl))
+  where
+    both : (i : ℕ) → 1 ≤ i → i ≤ 2 → KindIs textTwice i attribute
+    both zero h l = absurd (omega arith)
+    both (suc zero) h l = refl
+    both (suc (suc zero)) h l = refl
+    both (suc (suc (suc i))) h l = absurd (omega arith)

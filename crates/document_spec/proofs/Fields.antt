@@ -76,15 +76,20 @@ module _ (s : List ℕ) where
   unruled i (Breaks.label {k} {a} v c l q p h) = unruled-at v label c l (a, p) (λ r. h (r k a q p))
   unruled i (Breaks.value {k} {b} v c l q p h) = unruled-at v value c l (b, p) (λ r. h (r k b q p))
 
+  -- ── What a good line has not ──
+  -- a node's line that has the form due there has no number 2
+  pub formed-line : (n v : ℕ) (f : Field) → CountIs s n → v < n → Formed s v f → (i : ℕ) → i ≡ lineOf v f → ¬ Malformed s i
+  formed-line n v f c l p i e m = go i e (unformed i m)
+    where
+      go : (i : ℕ) → i ≡ lineOf v f → Unformed s i → ⊥
+      go i e (count h) = h n c
+      go i e (field m w g d k h) = h (same-line (Formed s) v w f g (sym e) p)
+      go i e (extra m d h) = let o = offset-bounds f in let z = count-one s m n d c in omega arith
+
+  -- one that keeps the rule of its field has no number 4
+  pub ruled-line : (v : ℕ) (f : Field) → Ruled s v f → (i : ℕ) → i ≡ lineOf v f → ¬ Breaks s i
+  ruled-line v f r i e b = let u = unruled i b in u .broken (same-line (Ruled s) v (u .node) f (u .field) (sym e ∙ u .here) r)
+
   -- a line that breaks a rule has the form due there
   pub breaks-formed : (i : ℕ) → Breaks s i → ¬ Malformed s i
-  breaks-formed i b m = let u = unruled i b in go u (u .here) (unformed i m)
-    where
-      go : (u : Unruled s i) → {j : ℕ} → j ≡ lineOf (u .node) (u .field) → Unformed s j → ⊥
-      go u e (count h) = h (u .number) (u .count)
-      go u e (field n v f c l h) = h (same-line (Formed s) (u .node) v (u .field) f (sym e) (u .formed))
-      go u e (extra n c h) =
-          let o = offset-bounds (u .field) in
-          let l = u .inside in
-          let m = count-one s n (u .number) c (u .count) in
-          omega arith
+  breaks-formed i b = let u = unruled i b in formed-line (u .number) (u .node) (u .field) (u .count) (u .inside) (u .formed) i (u .here)

@@ -7,36 +7,50 @@ use native.Mathlib.Omega.{arith}
 use native.Mathlib.Decide.{decLe}
 use lib.ListN.{length}
 use Rattle.limits.specs.Limits.{documentBytes, documentNodes}
-use Rattle.refusals.specs.Refusals.{Refusal, lineForm, treeRule, First}
-use Rattle.document_spec.specs.Verdict.{line, CountIs, Malformed, Breaks, DocumentGround}
+use Rattle.refusals.specs.Refusals.{Refusal, lineForm, treeRule, duplicateAttribute, First}
+use Rattle.document_spec.specs.Verdict.{line, CountIs, Malformed, Breaks, Duplicate, DocumentGround}
 use Rattle.document_spec.specs.Good.{Good}
-use Rattle.document_spec.specs.Fields.{Field, lineOf, Formed, Ruled}
+use Rattle.document_spec.specs.Fields.{Field, label, lineOf, Formed, Ruled}
 use Rattle.document_spec.proofs.Reading.{count-one}
 use Rattle.document_spec.proofs.Fields.{offset-bounds, same-line, Unformed, count, field, extra, unformed, malformed, unruled}
-use Rattle.document_spec.proofs.Grounds.{Bad, form, few, rule, Ground, long, bad, ground, bad-within, first-line}
+use Rattle.document_spec.proofs.Duplicates.{duplicate-line}
+use Rattle.document_spec.proofs.Grounds.{Bad, form, few, rule, again, Ground, long, bad, ground, bad-within, first-line}
 
 pub good-start : (s : List ℕ) (n : ℕ) → length s ≤ documentBytes → CountIs s n → 0 < n → n ≤ documentNodes → Good s n 1
 good-start s n short c p l =
-    record { short = short; count = c; some = p; few = l; within = omega arith; lines = λ v f h. let o = offset-bounds f in absurd (omega arith) }
+    record {
+      short = short;
+      count = c;
+      some = p;
+      few = l;
+      within = omega arith;
+      lines = λ v f h. let o = offset-bounds f in absurd (omega arith);
+      fresh = λ i h d. let (w, e) = duplicate-line d in omega arith;
+    }
 
 module _ {s : List ℕ} {n k : ℕ} (g : Good s n k) where
   pub good-as : (i : ℕ) → k ≡ i → Good s n i
   good-as i e = subst (Good s n) e g
 
   -- ── The next line is good ──
-  pub good-on : (v : ℕ) (f : Field) → lineOf v f ≡ suc k → v < n → Formed s v f → Ruled s v f → Good s n (lineOf v f)
-  good-on v f next inside p r = record {
+  pub good-on : (v : ℕ) (f : Field) → lineOf v f ≡ suc k → v < n → Formed s v f → Ruled s v f → ¬ Duplicate s (lineOf v f) → Good s n (lineOf v f)
+  good-on v f next inside p r q = record {
     short = g .short;
     count = g .count;
     some = g .some;
     few = g .few;
     within = let o = offset-bounds f in omega arith;
     lines = λ w h l. old-or-new w h l (decLe (lineOf w h) k);
+    fresh = λ i l. old-or-here i l (decLe i k);
   }
     where
       old-or-new : (w : ℕ) (h : Field) → lineOf w h ≤ lineOf v f → Dec (lineOf w h ≤ k) → Formed s w h × Ruled s w h
       old-or-new w h l (yes e) = g .lines w h e
       old-or-new w h l (no e) = same-line (λ w h. Formed s w h × Ruled s w h) v w f h (omega arith) (p, r)
+
+      old-or-here : (i : ℕ) → i ≤ lineOf v f → Dec (i ≤ k) → ¬ Duplicate s i
+      old-or-here i l (yes e) = g .fresh i e
+      old-or-here i l (no e) = let z : lineOf v f ≡ i = omega arith in subst (λ i. ¬ Duplicate s i) z q
 
   -- ── The next line is bad ──
   -- a line that is not good is not among the first k
@@ -61,6 +75,11 @@ module _ {s : List ℕ} {n k : ℕ} (g : Good s n k) where
       let l = g .few in
       absurd (⊎-elim (λ (z : m ≡ 0). omega arith) (λ (z : documentNodes < m). omega arith) h)
   good-later i q (rule h) = let u = unruled s i h in subst (λ j. k < j) (sym (u .here)) (beyond (u .node) (u .field) (λ p. u .broken (p .1)))
+  good-later i q (again h) = go (decLe i k)
+    where
+      go : Dec (i ≤ k) → k < i
+      go (yes e) = absurd (g .fresh i e h)
+      go (no e) = omega arith
 
   -- so a ground on the next line is the first
   pub first-bad : (i : ℕ) → i ≡ suc k → (q : Refusal) → Bad s i q → First (DocumentGround s) q
@@ -71,6 +90,9 @@ module _ {s : List ℕ} {n k : ℕ} (g : Good s n k) where
 
   pub first-rule : (v : ℕ) (f : Field) → lineOf v f ≡ suc k → Breaks s (lineOf v f) → First (DocumentGround s) (treeRule (lineOf v f))
   first-rule v f e h = first-bad (lineOf v f) e (treeRule (lineOf v f)) (rule h)
+
+  pub first-duplicate : (v : ℕ) → lineOf v label ≡ suc k → Duplicate s (lineOf v label) → First (DocumentGround s) (duplicateAttribute (lineOf v label))
+  first-duplicate v e h = first-bad (lineOf v label) e (duplicateAttribute (lineOf v label)) (again h)
 
   pub first-extra : k ≡ 4 * n + 1 → line s (4 * n + 2) ≢ [] → First (DocumentGround s) (lineForm (4 * n + 2))
   first-extra e h = first-bad (4 * n + 2) (omega arith) (lineForm (4 * n + 2)) (form (Malformed.extra n (g .count) h))

@@ -1,13 +1,14 @@
--- A library is legal if each node fits and each is rightly placed behind the one before it.
+-- A library is legal if each node fits, each is rightly placed behind the one before it, and the attributes of each element have different labels.
 use Prim.Native.Nat.{ℕ, zero, suc, _≤_, _<_}
 use mathlib.Core.Path.{_≡_}
+use mathlib.Core.Logic.{_≢_}
 use mathlib.Core.List.{List, [], _∷_}
 use native.Mathlib.Omega.{arith}
 use lib.ListN.{length}
 use Rattle.limits.specs.Limits.{documentNodes}
 use Rattle.lists.specs.Lists.{All}
 use Rattle.limits.specs.Names.{Name}
-use Rattle.document_spec.specs.Library.{Node, element, at, Value, DepthBehind, KindBehind, LabelRule, ValueRule, Legal}
+use Rattle.document_spec.specs.Library.{Node, element, attribute, at, Value, DepthBehind, KindBehind, LabelRule, ValueRule, Together, Legal}
 
 pub record Fits (x : Node) : Type 0 where
   pub name : Name (x .label)
@@ -33,9 +34,16 @@ chain-at x [] h v l = absurd (omega arith)
 chain-at x (y ∷ ns) h zero l = h .0
 chain-at x (y ∷ ns) h (suc v) l = chain-at y ns (h .1) v (omega arith)
 
+abbrev pub Distinct : List Node → Type 0
+Distinct ns = (u w : ℕ) → w < length ns → Together (λ i. at ns i .kind ≡ attribute) u w → at ns u .label ≢ at ns w .label
+
+-- where no attribute is right behind another, no two are of one element
+pub distinct-alone : (ns : List Node) → ((v : ℕ) → suc v < length ns → at ns v .kind ≡ attribute → at ns (suc v) .kind ≢ attribute) → Distinct ns
+distinct-alone ns h u w l t = let b = t .before in absurd (h u (omega arith) (t .all u (omega arith) (omega arith)) (t .all (suc u) (omega arith) (omega arith)))
+
 pub legal-chain : (x : Node) (ns : List Node) → length (x ∷ ns) ≤ documentNodes → x .depth ≡ 0 → x .kind ≡ element
-    → All Fits (x ∷ ns) → Chain x ns → Legal (x ∷ ns)
-legal-chain x ns l d k f c = record {
+    → All Fits (x ∷ ns) → Chain x ns → Distinct (x ∷ ns) → Legal (x ∷ ns)
+legal-chain x ns l d k f c u = record {
   some = omega arith;
   few = l;
   names = λ v i. all-at (x ∷ ns) f v i .name;
@@ -46,4 +54,5 @@ legal-chain x ns l d k f c = record {
   kinds = λ v i. chain-at x ns c v i .kind;
   labelled = λ v i. all-at (x ∷ ns) f v i .labelled;
   empties = λ v i. all-at (x ∷ ns) f v i .empty;
+  distinct = u;
 }

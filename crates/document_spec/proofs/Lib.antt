@@ -5,11 +5,13 @@ pub mod Spelling
 pub mod Cursor
 pub mod Reading
 pub mod Fields
+pub mod Duplicates
 pub mod Grounds
 pub mod Good
 pub mod Rules
 pub mod Forms
 pub mod Accepted
 pub mod Verdict
+pub mod Attributes
 pub mod Legality
 pub mod Examples

@@ -7,14 +7,15 @@ use native.Mathlib.Omega.{arith}
 use native.Mathlib.Decide.{ℕ-discrete, decLe}
 use lib.ListN.{length}
 use Rattle.limits.specs.Limits.{documentBytes, documentNodes}
-use Rattle.refusals.specs.Refusals.{Refusal, documentLength, lineForm, nodeCount, treeRule, First}
+use Rattle.refusals.specs.Refusals.{Refusal, documentLength, lineForm, nodeCount, treeRule, duplicateAttribute, First}
 use Rattle.document_spec.specs.Library.{Node, Legal, spell}
-use Rattle.document_spec.specs.Verdict.{line, CountIs, Breaks, DocumentGround, Accepts, Checked}
+use Rattle.document_spec.specs.Verdict.{line, CountIs, Breaks, Duplicate, DocumentGround, Accepts, Checked}
 use Rattle.document_spec.specs.Fields.{Field, depth, kind, label, value, lineOf, Formed, Ruled}
 use Rattle.document_spec.specs.Good.{Good}
 use Rattle.document_spec.proofs.Lines.{line-none}
 use Rattle.document_spec.proofs.Grounds.{first-long, first-uncounted, first-number}
-use Rattle.document_spec.proofs.Good.{good-start, good-as, good-on, good-whole, first-form, first-rule, first-extra}
+use Rattle.document_spec.proofs.Good.{good-start, good-as, good-on, good-whole, first-form, first-rule, first-duplicate, first-extra}
+use Rattle.document_spec.proofs.Duplicates.{unrepeated, dec-duplicate}
 use Rattle.document_spec.proofs.Rules.{ruled-or-breaks}
 use Rattle.document_spec.proofs.Forms.{dec-count, dec-formed}
 use Rattle.document_spec.proofs.Accepted.{good-accepts, legal-reads, reads-good, accepts-good}
@@ -41,12 +42,23 @@ module _ (s : List ℕ) where
   on : {A B : Type 0} → Refused ⊎ A → (A → Refused ⊎ B) → Refused ⊎ B
   on h f = ⊎-elim inl f h
 
+  -- number 14 stands on the next line, or it does not
+  repeats : {n k : ℕ} → Good s n k → (v : ℕ) (f : Field) → lineOf v f ≡ suc k → v < n → Formed s v f → Refused ⊎ (¬ Duplicate s (lineOf v f))
+  repeats g v depth e l p = inr (unrepeated v depth (omega arith))
+  repeats g v kind e l p = inr (unrepeated v kind (omega arith))
+  repeats g v label e l p = go (dec-duplicate v (g .count) l p)
+    where
+      go : Dec (Duplicate s (lineOf v label)) → Refused ⊎ (¬ Duplicate s (lineOf v label))
+      go (yes d) = inl (duplicateAttribute (lineOf v label), first-duplicate g v e d)
+      go (no h) = inr h
+  repeats g v value e l p = inr (unrepeated v value (omega arith))
+
   -- the next line is bad, or one more line is good
   next-line : {n k : ℕ} → Good s n k → (v : ℕ) (f : Field) → lineOf v f ≡ suc k → v < n → Refused ⊎ Good s n (lineOf v f)
   next-line {n} g v f e l = formed (dec-formed s v f)
     where
       ruled : Formed s v f → Ruled s v f ⊎ Breaks s (lineOf v f) → Refused ⊎ Good s n (lineOf v f)
-      ruled p (inl r) = inr (good-on g v f e l p r)
+      ruled p (inl r) = on (repeats g v f e l p) (λ q. inr (good-on g v f e l p r q))
       ruled p (inr b) = inl (treeRule (lineOf v f), first-rule g v f e b)
 
       formed : Dec (Formed s v f) → Refused ⊎ Good s n (lineOf v f)

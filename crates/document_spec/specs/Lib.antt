@@ -5,3 +5,4 @@ pub mod Example
 pub mod Intervals
 pub mod Fields
 pub mod Good
+pub mod Attributes

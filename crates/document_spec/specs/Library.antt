@@ -1,7 +1,7 @@
 -- A library as a list of nodes in document order, the rules of its tree, and how it is spelled: 01, the library document.
 use Prim.Native.Nat.{ℕ, suc, _≤_, _<_}
 use mathlib.Core.Path.{_≡_}
-use mathlib.Core.Logic.{_⊎_}
+use mathlib.Core.Logic.{_⊎_, _≢_}
 use mathlib.Core.List.{List, [], _∷_, _++_}
 use lib.ListN.{length, getD}
 use Rattle.lists.specs.Lists.{All}
@@ -43,6 +43,11 @@ LabelRule k a = k ≡ text → a ≡ bytes "text"
 abbrev pub ValueRule : Kind → List ℕ → Type 0
 ValueRule k b = k ≡ element → b ≡ []
 
+-- u and w, in this order, are attributes of one element, where A i says that node i is an attribute: an attribute directly follows its element's lines or another of its attributes, so all from u to w are attributes
+pub record Together (A : ℕ → Type 0) (u w : ℕ) : Type 0 where
+  pub before : u < w
+  pub all : (i : ℕ) → u ≤ i → i ≤ w → A i
+
 pub record Legal (ns : List Node) : Type 0 where
   pub some : 0 < length ns
   pub few : length ns ≤ documentNodes
@@ -55,6 +60,8 @@ pub record Legal (ns : List Node) : Type 0 where
   pub kinds : (v : ℕ) → suc v < length ns → KindBehind (at ns v .depth) (at ns v .kind) (at ns (suc v) .depth) (at ns (suc v) .kind)
   pub labelled : (v : ℕ) → v < length ns → LabelRule (at ns v .kind) (at ns v .label)
   pub empties : (v : ℕ) → v < length ns → ValueRule (at ns v .kind) (at ns v .value)
+  -- 02, (d): the attributes of one element have different labels
+  pub distinct : (u w : ℕ) → w < length ns → Together (λ i. at ns i .kind ≡ attribute) u w → at ns u .label ≢ at ns w .label
 
 -- ── The spelling: every line ends in LF ──
 abbrev pub nodesLine : ℕ → List ℕ

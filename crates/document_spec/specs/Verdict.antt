@@ -1,4 +1,4 @@
--- When a document is refused: numbers 1 to 4 of 01.
+-- When a document is refused: numbers 1 to 4 of 01, and 14 of 02.
 use Prim.Native.Nat.{ℕ, zero, suc, _+_, _-_, _*_, _≤_, _<_, _^_}
 use mathlib.Core.Path.{_≡_}
 use mathlib.Core.Logic.{_⊎_, _≢_}
@@ -8,8 +8,8 @@ use lib.ListN.{length}
 use lib.Dec.{eqb}
 use Rattle.limits.specs.Limits.{documentBytes, documentNodes, countDigits, depthDigits}
 use Rattle.limits.specs.Names.{Name}
-use Rattle.refusals.specs.Refusals.{Refusal, documentLength, lineForm, nodeCount, treeRule, number, place, First}
-use Rattle.document_spec.specs.Library.{Node, Kind, element, Value, DepthBehind, KindBehind, LabelRule, ValueRule, Legal, nodesLine, depthLine, kindLine, labelLine, valueLine, spell}
+use Rattle.refusals.specs.Refusals.{Refusal, documentLength, lineForm, nodeCount, treeRule, duplicateAttribute, number, place, First}
+use Rattle.document_spec.specs.Library.{Node, Kind, element, attribute, Value, DepthBehind, KindBehind, LabelRule, ValueRule, Together, Legal, nodesLine, depthLine, kindLine, labelLine, valueLine, spell}
 
 -- a line with the LF that ends it; the last line may lack it
 unfoldable pub firstLine : List ℕ → List ℕ
@@ -67,12 +67,17 @@ module _ (s : List ℕ) where
     label : {n : ℕ} {k : Kind} {a : List ℕ} (v : ℕ) → CountIs n → v < n → KindIs v k → LabelIs v a → ¬ LabelRule k a → Breaks (4 * v + 4)
     value : {n : ℕ} {k : Kind} {b : List ℕ} (v : ℕ) → CountIs n → v < n → KindIs v k → ValueIs v b → ¬ ValueRule k b → Breaks (4 * v + 5)
 
+  -- number 14: an attribute has the label of an earlier attribute of its element; on its label line
+  pub data Duplicate : ℕ → Type 0 where
+    label : {n u w : ℕ} (a : List ℕ) → CountIs n → w < n → Together (λ i. KindIs i attribute) u w → LabelIs u a → LabelIs w a → Duplicate (4 * w + 4)
+
   -- the grounds that judge a document
   pub data DocumentGround : Refusal → Type 0 where
     long : documentBytes < length s → DocumentGround documentLength
     malformed : {i : ℕ} → Malformed i → DocumentGround (lineForm i)
     range : {n : ℕ} → CountIs n → (n ≡ 0) ⊎ (documentNodes < n) → DocumentGround nodeCount
     breaks : {i : ℕ} → Breaks i → DocumentGround (treeRule i)
+    duplicate : {i : ℕ} → Duplicate i → DocumentGround (duplicateAttribute i)
 
   -- the document spells the library ns
   pub record Accepts (ns : List Node) : Type 0 where

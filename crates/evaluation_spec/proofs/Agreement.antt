@@ -9,7 +9,7 @@ use native.Mathlib.Omega.{arith}
 use native.Mathlib.Decide.{decLt}
 use Rattle.limits.specs.Limits.{scratchWords}
 use Rattle.lists.proofs.Lists.{number-one}
-use Rattle.refusals.specs.Refusals.{Refusal, number, First, documentLength, lineForm, nodeCount, treeRule, ruleLength, unreadable, nesting, tests, steps, scratchLength, marksLength}
+use Rattle.refusals.specs.Refusals.{Refusal, number, First, documentLength, lineForm, nodeCount, treeRule, ruleLength, unreadable, nesting, tests, steps, scratchLength, marksLength, duplicateAttribute}
 use Rattle.xpath.specs.Syntax.{Test}
 use Rattle.xpath.specs.Tree.{Tree}
 use Rattle.document_spec.specs.Library.{Node}
@@ -43,6 +43,7 @@ number-positive (tests o) = omega arith
 number-positive (steps o) = omega arith
 number-positive scratchLength = omega arith
 number-positive marksLength = omega arith
+number-positive (duplicateAttribute i) = omega arith
 
 -- ── A call that returns number 0 was accepted ──
 module _ (Snippets : Tree → Test → ℕ → Type 0) (document rule scratch marks : List ℕ) (o : Outcome) (scratch′ marks′ : List ℕ)

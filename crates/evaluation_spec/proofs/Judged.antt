@@ -28,6 +28,7 @@ document-stage (DocumentGround.long h) = omega arith
 document-stage (DocumentGround.malformed h) = omega arith
 document-stage (DocumentGround.range h g) = omega arith
 document-stage (DocumentGround.breaks h) = omega arith
+document-stage (DocumentGround.duplicate h) = omega arith
 
 rule-stage : {s : List ℕ} {r : Refusal} → RuleGround s r → (2 < stage r) × (stage r ≤ 6)
 rule-stage (RuleGround.long h) = omega arith

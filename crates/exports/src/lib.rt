@@ -7,7 +7,7 @@ ghost use Rattle.rule_spec.specs.Verdict as Grammar;
 ghost use Rattle.document_spec.specs.Verdict.{Checked};
 ghost use Rattle.evaluation_spec.specs.Evaluation.{PlainEvaluation, SnippetEvaluation};
 
-// Judges a document by numbers 1 to 4.
+// Judges a document by numbers 1 to 4 and 14.
 #[no_mangle]
 pub extern "C" fn yurzhoad_check_document(document: &[u8]) -> DocumentAnswer
     ensures { λ r. ⌜ Checked (now (document .entry)) (r .number) (r .place) (r .nodes) ⌝ }
@@ -23,7 +23,7 @@ pub extern "C" fn yurzhoad_check_rule(rule: &[u8]) -> RuleAnswer
     verdicts::check_rule(rule)
 }
 
-// Marks the nodes of a document at which a rule holds, or refuses the call by numbers 1 to 11.
+// Marks the nodes of a document at which a rule holds, or refuses the call by numbers 1 to 11 and 14.
 #[no_mangle]
 pub extern "C" fn yurzhoad_evaluate_plain(
     document: &[u8],

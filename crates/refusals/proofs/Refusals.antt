@@ -8,20 +8,28 @@ use lib.Arith.{digits-div, digits-mod, digits-lt}
 use lib.Dec.{lit<}
 use native.Mathlib.Omega.{arith}
 use native.Mathlib.Decide.{decLt, ℕ-discrete}
-use Rattle.refusals.specs.Refusals.{Refusal, documentLength, lineForm, nodeCount, treeRule, ruleLength, unreadable, nesting, tests, steps, scratchLength, marksLength, number, place, stage, Earlier, First}
+use Rattle.refusals.specs.Refusals.{Refusal, documentLength, lineForm, nodeCount, treeRule, ruleLength, unreadable, nesting, tests, steps, scratchLength, marksLength, duplicateAttribute, number, place, stage, Earlier, First}
 
 -- ── Number and place ──
--- the table, read from its left column: 0 is no refusal's number
+-- every refusal's number is below this
+abbrev numbers : ℕ
+numbers = 15
+
+-- stands where a number is no refusal's: at 0, 12 and 13
+none : ℕ → Refusal
+none p = documentLength
+
+-- the table, read from its left column
 back : ℕ → ℕ → Refusal
 back n =
     getD
     (
-    (λ p. documentLength) ∷ (λ p. documentLength) ∷ lineForm ∷ (λ p. nodeCount) ∷ treeRule ∷ (λ p. ruleLength) ∷ unreadable ∷ nesting ∷ tests ∷ steps
-    ∷ (λ p. scratchLength) ∷ (λ p. marksLength) ∷ []
+    none ∷ (λ p. documentLength) ∷ lineForm ∷ (λ p. nodeCount) ∷ treeRule ∷ (λ p. ruleLength) ∷ unreadable ∷ nesting ∷ tests ∷ steps
+    ∷ (λ p. scratchLength) ∷ (λ p. marksLength) ∷ none ∷ none ∷ duplicateAttribute ∷ []
     )
-    n (λ p. documentLength)
+    n none
 
-tabled : (r : Refusal) → (back (number r) (place r) ≡ r) × (number r < 12)
+tabled : (r : Refusal) → (back (number r) (place r) ≡ r) × (number r < numbers)
 unfolding back
 tabled documentLength = (refl, lit< tt)
 tabled (lineForm line) = (refl, lit< tt)
@@ -34,6 +42,7 @@ tabled (tests offset) = (refl, lit< tt)
 tabled (steps offset) = (refl, lit< tt)
 tabled scratchLength = (refl, lit< tt)
 tabled marksLength = (refl, lit< tt)
+tabled (duplicateAttribute line) = (refl, lit< tt)
 
 pub refusal-of : (r q : Refusal) → number r ≡ number q → place r ≡ place q → r ≡ q
 refusal-of r q e f = sym (tabled r .0) ∙ ap₂ back e f ∙ tabled q .0
@@ -85,13 +94,20 @@ earlier-total r q =
     ⊎-map (λ h. h) (⊎-map (λ e. refusal-of r q (e .1 .1) (e .1 .0)) (λ h. h))
     (lex-total (stage r) (stage q) (lex-total (place r) (place q) (trichotomy (number r) (number q))))
 
+-- 02, (d): number 14 is taken in line order with 2 to 4
+pub duplicate-before-later-lines : (i j : ℕ) → i < j → Earlier (duplicateAttribute i) (lineForm j) × Earlier (duplicateAttribute i) (treeRule j)
+duplicate-before-later-lines i j h = (inr (refl, inl h), inr (refl, inl h))
+
+pub duplicate-after-earlier-lines : (i j : ℕ) → j < i → Earlier (lineForm j) (duplicateAttribute i) × Earlier (treeRule j) (duplicateAttribute i)
+duplicate-after-earlier-lines i j h = (inr (refl, inl h), inr (refl, inl h))
+
 -- ── Verdicts ──
 -- a list of all refusals, by place and then by number
 abbrev index : Refusal → ℕ
-index r = place r * 12 + number r
+index r = place r * numbers + number r
 
 at : ℕ → Refusal
-at i = back (i % 12) (i / 12)
+at i = back (i % numbers) (i / numbers)
 
 at-index : (r : Refusal) → at (index r) ≡ r
 unfolding at
@@ -141,12 +157,12 @@ module _ (Applies : Refusal → Type 0) where
   -- where no place is above a bound, there is a verdict or nothing applies
   pub first-of : ((r : Refusal) → Dec (Applies r)) → (bound : ℕ) → ((r : Refusal) → Applies r → place r ≤ bound)
       → ((r : Refusal) × First Applies r) ⊎ ((r : Refusal) → ¬ Applies r)
-  first-of d bound b = go (among d (suc bound * 12))
+  first-of d bound b = go (among d (suc bound * numbers))
     where
-      listed : (r : Refusal) → Applies r → index r < suc bound * 12
+      listed : (r : Refusal) → Applies r → index r < suc bound * numbers
       listed r x = digits-lt {m = suc bound} (suc-le-suc (b r x)) (tabled r .1)
 
-      go : Among (suc bound * 12) → ((r : Refusal) × First Applies r) ⊎ ((r : Refusal) → ¬ Applies r)
+      go : Among (suc bound * numbers) → ((r : Refusal) × First Applies r) ⊎ ((r : Refusal) → ¬ Applies r)
       go (inl (q, a, h)) =
           inl (q, record { applies = a; first = λ r x. subst (λ z. Applies z → ¬ Earlier z q) (at-index r) (h (index r) (listed r x)) x })
       go (inr n) = inr (λ r x. subst (λ z. ¬ Applies z) (at-index r) (n (index r) (listed r x)) x)

@@ -1,4 +1,4 @@
--- The grounds on which a call is refused, with 01's number and place for each, and the order in which they are looked at.
+-- The grounds on which a call is refused, with the papers' number and place for each, and the order in which they are looked at.
 use Prim.Native.Nat.{ℕ, _<_}
 use mathlib.Core.Path.{_≡_}
 use mathlib.Core.Logic.{_⊎_}
@@ -16,11 +16,12 @@ pub data Refusal : Type 0 where
   steps : ℕ → Refusal
   scratchLength : Refusal
   marksLength : Refusal
+  duplicateAttribute : ℕ → Refusal
 
 pub record Row : Type 0 where
   pub number : ℕ
   pub place : ℕ
-  -- 01, order: 1; then 2 to 4; 5; then 6 or 7; 8; 9; 10; 11
+  -- 01, order: 1; then 2 to 4, and with them 14 (02, d); 5; then 6 or 7; 8; 9; 10; 11
   pub stage : ℕ
 
 abbrev row : ℕ → ℕ → ℕ → Row
@@ -39,6 +40,8 @@ table (tests offset) = row 8 offset 5
 table (steps offset) = row 9 offset 6
 table scratchLength = row 10 0 7
 table marksLength = row 11 0 8
+-- 02, (d): at the label line, taken in line order with 2 to 4
+table (duplicateAttribute line) = row 14 line 2
 
 abbrev pub number : Refusal → ℕ
 number r = table r .number

@@ -3,14 +3,14 @@ use Prim.Native.Nat.{ℕ}
 use mathlib.Core.Path.{refl, ap, subst}
 use mathlib.Core.List.{List}
 use lib.ListN.{length}
-use Rattle.refusals.specs.Refusals.{Refusal, documentLength, lineForm, nodeCount, treeRule, number, place, First}
+use Rattle.refusals.specs.Refusals.{Refusal, documentLength, lineForm, nodeCount, treeRule, duplicateAttribute, number, place, First}
 use Rattle.refusals.proofs.Refusals.{first-one}
 use Rattle.document_spec.specs.Library.{Node}
 use Rattle.document_spec.specs.Verdict.{DocumentGround, Accepts, Checked}
 use Rattle.document_spec.proofs.Accepted.{accepts-one}
 use Rattle.document_spec.proofs.Verdict.{accepted-unrefused}
 use Rattle.document.specs.declared.Verdict.{Verdict}
-use Rattle.document.specs.declared.Verdict.the-variants.{Accepted, Length, Form, Count, Tree}
+use Rattle.document.specs.declared.Verdict.the-variants.{Accepted, Length, Form, Count, Tree, Duplicate}
 use Rattle.document.specs.Check.{Judged}
 use Rattle.verdicts.specs.Answers.{answerOf}
 
@@ -33,3 +33,4 @@ module _ (s : List ℕ) where
   checked-by (Form line) f = refused-so (lineForm line) f
   checked-by Count f = refused-so nodeCount f
   checked-by (Tree line) f = refused-so (treeRule line) f
+  checked-by (Duplicate line) f = refused-so (duplicateAttribute line) f

@@ -1,7 +1,7 @@
--- 01's number and place for each verdict, and N for one on a document.
-use Rattle.refusals.specs.Refusals.{Refusal, documentLength, lineForm, nodeCount, treeRule, ruleLength, unreadable, nesting, tests, steps, number, place}
+-- The papers' number and place for each verdict, and N for one on a document.
+use Rattle.refusals.specs.Refusals.{Refusal, documentLength, lineForm, nodeCount, treeRule, duplicateAttribute, ruleLength, unreadable, nesting, tests, steps, number, place}
 use Rattle.document.specs.declared.Verdict.{Verdict}
-use Rattle.document.specs.declared.Verdict.the-variants.{Accepted, Length, Form, Count, Tree}
+use Rattle.document.specs.declared.Verdict.the-variants.{Accepted, Length, Form, Count, Tree, Duplicate}
 use Rattle.rule.specs.declared.Verdict as Rule
 use Rattle.rule.specs.declared.Verdict.the-variants as rule
 use Rattle.verdicts.specs.declared.DocumentAnswer.{DocumentAnswer}
@@ -16,6 +16,7 @@ answerOf Length = refused documentLength
 answerOf (Form line) = refused (lineForm line)
 answerOf Count = refused nodeCount
 answerOf (Tree line) = refused (treeRule line)
+answerOf (Duplicate line) = refused (duplicateAttribute line)
 
 abbrev ruleRefused : Refusal → RuleAnswer
 ruleRefused r = record { number = number r; place = place r }

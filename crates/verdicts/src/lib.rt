@@ -1,4 +1,4 @@
-// The two checks, each answered by the numbers of document 01, and the judgement on all four inputs of an evaluation.
+// The two checks, each answered by the numbers of documents 01 and 02, and the judgement on all four inputs of an evaluation.
 use document::Verdict;
 use limits::Scratch;
 ghost use mathlib.Core.Path.{_≡_};
@@ -44,10 +44,15 @@ fn document_answer(v: Verdict) -> DocumentAnswer
             place: line,
             nodes: 0,
         },
+        Verdict::Duplicate(line) => DocumentAnswer {
+            number: 14,
+            place: line,
+            nodes: 0,
+        },
     }
 }
 
-// Judges a document by numbers 1 to 4.
+// Judges a document by numbers 1 to 4 and 14.
 pub fn check_document(document: &[u8]) -> DocumentAnswer
     ensures { λ r. ⌜ Checked (now (document .entry)) (r .number) (r .place) (r .nodes) ⌝ }
 {

@@ -17,7 +17,8 @@ use core::mem::{offset_of, size_of};
 #[repr(C)]
 #[derive(Clone, Copy, Debug, PartialEq, Eq)]
 pub struct DocumentAnswer {
-    /// 0 if the document is accepted, or the number of the refusal, 1 to 4.
+    /// 0 if the document is accepted, or the number of the refusal, 1 to 4 or
+    /// 14.
     pub number: u16,
     /// 0 if the document is accepted, or the place of the refusal: a line.
     pub place: usize,
@@ -41,7 +42,7 @@ pub struct RuleAnswer {
 #[repr(C)]
 #[derive(Clone, Copy, Debug, PartialEq, Eq)]
 pub struct Evaluation {
-    /// 0 if the call is accepted, or the number of the refusal, 1 to 11.
+    /// 0 if the call is accepted, or the number of the refusal, 1 to 11 or 14.
     pub number: u16,
     /// 0 if the call is accepted, or the place of the refusal.
     pub place: usize,
@@ -96,7 +97,7 @@ extern "C" {
     ) -> Evaluation;
 }
 
-/// Judges a document by numbers 1 to 4.
+/// Judges a document by numbers 1 to 4 and 14.
 ///
 /// ```
 /// use yurzhoad::archive::check_document;
@@ -124,7 +125,7 @@ pub fn check_rule(rule: &[u8]) -> RuleAnswer {
 }
 
 /// Evaluates a rule on a document by following its paths, and marks the nodes
-/// that it selects. Judges by numbers 1 to 11; a refused call leaves both
+/// that it selects. Judges by numbers 1 to 11 and 14; a refused call leaves both
 /// buffers as they were.
 ///
 /// A buffer that is too short is refused by number 10 or 11:

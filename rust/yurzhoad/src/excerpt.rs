@@ -14,7 +14,9 @@ const DOTS: &str = "...";
 /// What stands at this place, where the ground has one.
 pub fn of(ground: Ground, place: usize, document: &[u8], rule: &[u8]) -> Option<String> {
     match ground {
-        Ground::LineForm | Ground::NodeCount | Ground::TreeRule => Some(line(document, place)),
+        Ground::LineForm | Ground::NodeCount | Ground::TreeRule | Ground::DuplicateAttribute => {
+            Some(line(document, place))
+        }
         Ground::Unreadable | Ground::Nesting | Ground::Tests | Ground::Steps => {
             Some(caret(rule, place))
         }

@@ -44,7 +44,7 @@ impl<'a> Library<'a> {
     ///
     /// # Errors
     ///
-    /// The refusal, by numbers 1 to 4.
+    /// The refusal, by numbers 1 to 4 and 14.
     ///
     /// ```
     /// use yurzhoad::{Ground, Library};
@@ -117,7 +117,7 @@ impl fmt::Debug for Library<'_> {
 pub enum Kind {
     /// An element, `kind=e`.
     Element,
-    /// An attribute, `kind=a`.
+    /// An attribute, `kind=a`. No two of an element have one label.
     Attribute,
     /// A text, `kind=t`.
     Text,

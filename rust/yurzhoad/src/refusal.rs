@@ -34,11 +34,13 @@ pub enum Ground {
     ScratchLength = 10,
     /// There are fewer marks than nodes.
     MarksLength = 11,
+    /// The attribute has the label of another one of its element.
+    DuplicateAttribute = 14,
 }
 
 impl Ground {
-    /// All grounds, by their numbers from 1.
-    pub const ALL: [Ground; 11] = [
+    /// All grounds, by rising numbers. No call hands back 12 or 13 yet.
+    pub const ALL: [Ground; 12] = [
         Ground::DocumentLength,
         Ground::LineForm,
         Ground::NodeCount,
@@ -50,6 +52,7 @@ impl Ground {
         Ground::Steps,
         Ground::ScratchLength,
         Ground::MarksLength,
+        Ground::DuplicateAttribute,
     ];
 
     /// The ground of this number, if there is one.
@@ -59,7 +62,7 @@ impl Ground {
             .find(|ground| ground.number() == number)
     }
 
-    /// The number, 1 to 11.
+    /// The number, 1 to 11 or 14.
     pub fn number(self) -> u16 {
         self as u16
     }
@@ -118,7 +121,7 @@ impl Refusal {
         self.ground
     }
 
-    /// The number of the ground, 1 to 11.
+    /// The number of the ground, 1 to 11 or 14.
     pub fn number(&self) -> u16 {
         self.ground.number()
     }
@@ -147,7 +150,10 @@ impl Display for Refusal {
         let (number, place) = (self.number(), self.place);
         let (refused, at) = match self.ground {
             Ground::DocumentLength => ("document", "place"),
-            Ground::LineForm | Ground::NodeCount | Ground::TreeRule => ("document", "line"),
+            Ground::LineForm
+            | Ground::NodeCount
+            | Ground::TreeRule
+            | Ground::DuplicateAttribute => ("document", "line"),
             Ground::RuleLength => ("rule", "place"),
             Ground::Unreadable | Ground::Nesting | Ground::Tests | Ground::Steps => {
                 ("rule", "offset")

@@ -91,7 +91,8 @@ impl<'a> Table<'a> {
     ///
     /// A step is the label of an element, `@` and the label of an attribute, or
     /// `text()`. It has a number in brackets, from 1, where the parent has
-    /// several such: elements of this label, attributes of this label, texts.
+    /// several such: elements of this label, or texts. No element has several
+    /// attributes of one label.
     ///
     /// # Panics
     ///

@@ -34,6 +34,7 @@ pub fn of(ground: Ground, place: usize, document: &[u8], rule: &[u8]) -> String 
             let nodes = counted(count(document).unwrap_or(0));
             format!("there are too few marks: the document has {nodes}")
         }
+        Ground::DuplicateAttribute => duplicate(place, document),
     }
 }
 
@@ -104,6 +105,28 @@ fn tree_rule(line: usize) -> &'static str {
         (_, Field::Label) => "a text has the label `text`",
         (_, Field::Value) => "an element has no value of its own",
     }
+}
+
+/// Which attribute has the label of this line already.
+fn duplicate(line: usize, document: &[u8]) -> String {
+    let words = "the element has an attribute with this label already";
+    match same_label(line, document) {
+        Some(first) => format!("{words}, on line {first}"),
+        None => words.to_string(),
+    }
+}
+
+/// The line before this one that gives the same label to an attribute of the
+/// same element. The attributes of an element stand one behind the other, so
+/// that they are looked for upwards, as far as there is nothing else.
+fn same_label(line: usize, document: &[u8]) -> Option<usize> {
+    let lines: Vec<&[u8]> = document.split(|byte| *byte == b'\n').take(line).collect();
+    let label = lines.get(line.checked_sub(1)?)?;
+    // Each node has four lines, and its kind stands on the line above its label.
+    let above = (2..line).rev().skip(3).step_by(4);
+    above
+        .take_while(|other| lines[other - 2] == b"kind=a")
+        .find(|other| lines[other - 1] == *label)
 }
 
 /// The number of nodes that the first line says, if it has the form.

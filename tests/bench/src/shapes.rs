@@ -60,7 +60,8 @@ fn text(value: usize) -> Node {
     node(Kind::Text, 1, "text", value)
 }
 
-fn node(kind: Kind, depth: usize, label: &str, value: usize) -> Node {
+/// A node with a value of so many bytes.
+pub fn node(kind: Kind, depth: usize, label: &str, value: usize) -> Node {
     Node {
         depth,
         kind,

@@ -1,4 +1,7 @@
-//! The library document: what it spells, and its check (numbers 1 to 4).
+//! The library document: what it spells, and its check (numbers 1 to 4, and 14
+//! of document 02).
+
+use std::collections::BTreeSet;
 
 use crate::{refuse, Refusal};
 
@@ -64,7 +67,8 @@ pub fn check(document: &[u8]) -> DocumentRecord {
 
 /// The library that a document spells, or the refusal that comes first:
 /// "Order: 1; then the first bad line of 2 to 4, lowest number if one line has
-/// two". The lines are taken in order, and on each line form before tree rule.
+/// two", and 14 is "taken in line order with 2 to 4" (02, d). The lines are
+/// taken in order, and on each line form before tree rule before repeat.
 pub fn read(document: &[u8]) -> Result<Library, Refusal> {
     if document.len() > BYTE_LIMIT {
         return refuse(1, 0);
@@ -72,8 +76,17 @@ pub fn read(document: &[u8]) -> Result<Library, Refusal> {
     let lines: Vec<&[u8]> = document.split_inclusive(|byte| *byte == b'\n').collect();
     let count = read_count(&lines)?;
     let mut nodes = Vec::new();
+    // The labels of the attributes so far of the element at hand. They stand
+    // right behind its lines, so that any other node ends them.
+    let mut given = BTreeSet::new();
     while nodes.len() < count {
-        let node = read_node(&lines, &nodes)?;
+        let node = read_node(&lines, &nodes, &given)?;
+        match node.kind {
+            Kind::Attribute => {
+                given.insert(node.label.clone());
+            }
+            Kind::Element | Kind::Text => given.clear(),
+        }
         nodes.push(node);
     }
     let due = LINES_PER_NODE * count + 1;
@@ -123,8 +136,9 @@ fn read_count(lines: &[&[u8]]) -> Result<usize, Refusal> {
     }
 }
 
-/// The four lines of the node behind the given ones.
-fn read_node(lines: &[&[u8]], before: &[Node]) -> Result<Node, Refusal> {
+/// The four lines of the node behind those before it. If it is an attribute,
+/// its element has attributes of the given labels already.
+fn read_node(lines: &[&[u8]], before: &[Node], given: &BTreeSet<Vec<u8>>) -> Result<Node, Refusal> {
     let place = LINES_PER_NODE * before.len() + 2;
     let previous = before.last();
 
@@ -147,6 +161,10 @@ fn read_node(lines: &[&[u8]], before: &[Node]) -> Result<Node, Refusal> {
     // "Text has the label `text`; other kinds may have it too."
     if kind == Kind::Text && label != b"text" {
         return refuse(4, place + 2);
+    }
+    // 02, (d): "14, at the label line of the second such attribute".
+    if kind == Kind::Attribute && given.contains(label) {
+        return refuse(14, place + 2);
     }
     let value = field(lines, place + 3, b"value=")?;
     if !is_value(value) {

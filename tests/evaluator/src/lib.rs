@@ -1,5 +1,6 @@
-//! An evaluator of document 01, written from its sentences and not from the
-//! proved code. No code is shared. The archive is compared with it.
+//! An evaluator of document 01 with request (d) of document 02, written from
+//! their sentences and not from the proved code. No code is shared. The archive
+//! is compared with it.
 //!
 //! By the definitions, over plain sets and tables, are
 //! - the checks: `document`, and `grammar` with `rule_check`;
@@ -10,9 +11,11 @@
 //!   are written out and kept in one set.
 //!
 //! The checks have no bound; marks and counts are meant for libraries of up to
-//! a few hundred nodes. In four places something is found in a quicker way than
+//! a few hundred nodes. In five places something is found in a quicker way than
 //! the sentence says, and the tests in `tests/suite` hold it against the
 //! sentence:
+//! - `document` keeps the labels of the attributes of the element at hand; in
+//!   `repeated_labels` every two attributes of one element are compared.
 //! - `relation` joins relations row by row and closes them by doubling; in
 //!   `relations` both are done pair by pair.
 //! - `positions` keeps what two steps see of a word and not the words; in
@@ -44,7 +47,8 @@ pub mod shrink;
 pub mod snippets;
 pub mod tree;
 
-/// What a refused check hands back: a number and a place of document 01's table.
+/// What a refused check hands back: a number and a place of document 01's table,
+/// or of a request of document 02.
 #[derive(Clone, Copy, Debug, PartialEq, Eq)]
 pub struct Refusal {
     pub number: u32,

@@ -20,6 +20,9 @@ enum-told-2 c = search needs
 enum-known-v-3 : tie.Need-enum-known-v-3
 enum-known-v-3 c = search needs
 
+enum-known-v-4 : tie.Need-enum-known-v-4
+enum-known-v-4 c = search needs
+
 returns : tie.Need-returns
 returns c = sym (ap answerOf (c .before .v .given .1))
 
@@ -35,6 +38,9 @@ returns-4 c = sym (ap answerOf (c .enum-told2 .given .1))
 returns-5 : tie.Need-returns-5
 returns-5 c = sym (ap answerOf (c .before .v3 .given .1))
 
+returns-6 : tie.Need-returns-6
+returns-6 c = sym (ap answerOf (c .before .v4 .given .1))
+
 pub document-answer-spec : {M : Type 1} → statement M
 document-answer-spec =
     tie.close
@@ -44,8 +50,10 @@ document-answer-spec =
     enum-known-v-2
     enum-told-2
     enum-known-v-3
+    enum-known-v-4
     returns
     returns-2
     returns-3
     returns-4
-    returns-5)
+    returns-5
+    returns-6)

@@ -1,10 +1,12 @@
 //! `yurzhoad check LIBRARY` on good and damaged libraries.
 
+use std::collections::BTreeMap;
+
 use evaluator::samples::documents::{with_line, GROUPS};
 use evaluator::samples::{document, X};
 use yurzhoad::Library;
 
-use crate::desk::{accepted, failed, run_inside, Desk};
+use crate::desk::{accepted, failed, named_twice, run_inside, Desk};
 
 /// The whole of what a refusal prints, behind the file's name.
 fn assert_refused(library: impl AsRef<[u8]>, words: &[&str]) {
@@ -126,6 +128,24 @@ fn other_broken_tree_rules() {
 }
 
 #[test]
+fn an_attribute_given_twice() {
+    let due = [
+        "the document is refused: number 14 at line 16: the element has an attribute with this \
+         label already, on line 8",
+        "  16 | label=name",
+    ];
+    assert_refused(named_twice(), &due);
+    // A selection from such a library is refused in the same words, whichever
+    // evaluation is asked for.
+    let desk = Desk::with("lib.txt", named_twice());
+    let due = failed(1, &format!("yurzhoad: lib.txt: {}\n", due.join("\n")));
+    for option in ["--plain", "--both", "--count"] {
+        let ran = desk.run(["select", option, ":drug", "lib.txt"]);
+        assert_eq!(ran, due, "{option}");
+    }
+}
+
+#[test]
 fn bytes_that_are_no_text() {
     // A program, a picture, a text in another encoding: nothing reaches the
     // terminal as it is.
@@ -165,11 +185,11 @@ fn the_name_of_the_file_is_shown_without_control_characters() {
 /// that it has from the format, and the words those of the crate.
 #[test]
 fn every_fixed_document_is_judged_as_due() {
-    let mut numbers = [0; 5];
+    let mut numbers = BTreeMap::new();
     for (name, cases) in GROUPS {
         for case in cases() {
             let ran = run_inside(&case.document, ["check", "-"]);
-            numbers[case.due.number as usize] += 1;
+            *numbers.entry(case.due.number).or_insert(0) += 1;
             let due = match Library::check(&case.document) {
                 Ok(_) => {
                     let plural = if case.due.nodes == 1 { "" } else { "s" };
@@ -185,7 +205,8 @@ fn every_fixed_document_is_judged_as_due() {
             assert!(number < 2 || ran.err.contains(&told), "{name}: {}", ran.err);
         }
     }
-    assert!(numbers.iter().all(|cases| *cases > 1), "{numbers:?}");
+    assert!(numbers.keys().copied().eq([0, 1, 2, 3, 4, 14]));
+    assert!(numbers.values().all(|cases| *cases > 1), "{numbers:?}");
 }
 
 const LONG: &str = "yurzhoad: standard input: the document is refused: number 1 at place 0: \

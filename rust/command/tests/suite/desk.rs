@@ -9,7 +9,7 @@ use std::sync::atomic::{AtomicUsize, Ordering};
 use std::thread;
 
 use evaluator::document::{spell, Library};
-use evaluator::samples::libraries::{element, text};
+use evaluator::samples::libraries::{attribute, element, text};
 
 /// The program.
 pub const PROGRAM: &str = env!("CARGO_BIN_EXE_yurzhoad");
@@ -144,6 +144,18 @@ pub fn run_inside<A: Into<OsString>>(
         out: String::from_utf8(out).expect("text"),
         err: String::from_utf8(err).expect("text"),
     }
+}
+
+/// A drug that has two names, on the lines 8 and 16.
+pub fn named_twice() -> Vec<u8> {
+    spell(&Library {
+        nodes: vec![
+            element(0, "drug"),
+            attribute(1, "name", "heparin"),
+            attribute(1, "unit", "mg"),
+            attribute(1, "name", "again"),
+        ],
+    })
 }
 
 /// A library of 4,096 nodes that has just so many bytes: texts, with values as

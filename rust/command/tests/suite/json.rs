@@ -7,7 +7,7 @@ use std::str::Chars;
 use evaluator::samples::documents::with_line;
 use evaluator::samples::{document, X};
 
-use crate::desk::{accepted, Desk, Ran};
+use crate::desk::{accepted, named_twice, Desk, Ran};
 
 /// A value of JSON, as far as the command has any.
 #[derive(Debug, PartialEq, Eq)]
@@ -142,6 +142,23 @@ fn checks_as_objects() {
          \"words\":\"it ends here and is not whole\"}\n",
         "yurzhoad: the rule is refused: number 6 at offset 2: it ends here and is not whole",
     );
+}
+
+#[test]
+fn an_attribute_given_twice_as_an_object() {
+    let desk = Desk::with("lib.txt", named_twice());
+    for arguments in [
+        &["check", "--json", "lib.txt"][..],
+        &["select", "--json", ":drug", "lib.txt"],
+    ] {
+        assert_refused(
+            desk.run(arguments),
+            "{\"accepted\":false,\"number\":14,\"place\":16,\"words\":\"the element has an \
+             attribute with this label already, on line 8\"}\n",
+            "yurzhoad: lib.txt: the document is refused: number 14 at line 16: the element has an \
+             attribute with this label already, on line 8",
+        );
+    }
 }
 
 #[test]

@@ -88,7 +88,7 @@ fn paths_and_values_of_every_kind() {
         ('e', 0, "lib", ""),
         ('e', 1, "drug", ""),
         ('a', 2, "name", " a \\ \"b\" "),
-        ('a', 2, "name", ""),
+        ('a', 2, "area", ""),
         ('t', 2, "text", "5"),
         ('e', 2, "text", ""),
         ('t', 3, "text", " mg"),
@@ -97,8 +97,8 @@ fn paths_and_values_of_every_kind() {
     let desk = Desk::with("lib.txt", library);
     let due = "0\t/lib\tlib\t5 mg/ml\n\
                1\t/lib/drug\tdrug\t5 mg/ml\n\
-               2\t/lib/drug/@name[1]\tname\t a \\ \"b\" \n\
-               3\t/lib/drug/@name[2]\tname\t\n\
+               2\t/lib/drug/@name\tname\t a \\ \"b\" \n\
+               3\t/lib/drug/@area\tarea\t\n\
                4\t/lib/drug/text()[1]\ttext\t5\n\
                5\t/lib/drug/text\ttext\t mg\n\
                6\t/lib/drug/text/text()\ttext\t mg\n\

@@ -4,8 +4,12 @@ use evaluator::document::{self, spell};
 use evaluator::random::{any_library, damage_document, damage_one_line, damage_rule};
 use evaluator::random::{any_rule, Random};
 use evaluator::rule_check;
-use evaluator::samples::{documents, rules, X};
+use evaluator::samples::{document as spelled, documents, rules, X};
+use yurzhoad::archive::{evaluate_plain, evaluate_snippets};
+use yurzhoad::limits::needed_words;
 use yurzhoad::{Library, Refusal, Rule};
+
+use crate::named_twice;
 
 /// Number and place of a check, 0 and 0 if it accepts.
 fn outcome<T>(checked: Result<T, Refusal>) -> (u32, usize) {
@@ -100,6 +104,40 @@ fn random_rules_are_checked_as_the_evaluator_does() {
         accepted += usize::from(assert_rule(&format!("seed {seed}"), &bytes));
     }
     assert!((1_000..3_000).contains(&accepted), "{accepted} accepted");
+}
+
+/// Whatever else is lent: the document is judged first.
+#[test]
+fn an_attribute_given_twice_is_refused_by_every_call_that_reads_the_document() {
+    let document = named_twice();
+    assert_eq!(outcome(Library::check(&document)), (14, 24));
+    for evaluate in [evaluate_plain, evaluate_snippets] {
+        for (rule, words) in [(":drug", needed_words(6)), ("no rule", 0)] {
+            let (mut scratch, mut marks) = (vec![7; words], [7; 6]);
+            let answer = evaluate(&document, rule.as_bytes(), &mut scratch, &mut marks);
+            assert_eq!((answer.number, answer.place), (14, 24), "{rule}");
+            assert_eq!((answer.selected, answer.snippets), (0, 0), "{rule}");
+            assert_eq!((scratch, marks), (vec![7; words], [7; 6]), "{rule}");
+        }
+    }
+}
+
+/// Labels are told apart among the attributes of one element alone: elements,
+/// texts and the attributes of other elements may have them too.
+#[test]
+fn one_label_in_two_places_is_accepted() {
+    let document = spelled(&[
+        ('e', 0, "name", ""),
+        ('a', 1, "name", "heparin"),
+        ('a', 1, "names", "heparin"),
+        ('a', 1, "nam", "heparin"),
+        ('e', 1, "name", ""),
+        ('a', 2, "name", "heparin"),
+        ('a', 2, "text", "5 mg"),
+        ('t', 2, "text", "5 mg"),
+        ('e', 1, "name", ""),
+    ]);
+    assert!(assert_document("labels that are alike", &document));
 }
 
 #[test]

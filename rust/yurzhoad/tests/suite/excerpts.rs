@@ -2,7 +2,9 @@
 
 use evaluator::samples::documents::with_line;
 use evaluator::samples::X;
-use yurzhoad::{Library, Refusal, Rule};
+use yurzhoad::{Ground, Library, Refusal, Rule};
+
+use crate::named_twice;
 
 fn of_document(document: impl AsRef<[u8]>) -> String {
     let refusal = Library::check(&document).expect_err("a refused document");
@@ -72,6 +74,11 @@ fn extra_bytes_are_shown() {
     assert_eq!(of_document(format!("{X}\0\nmore\n")), "  22 | \\x00");
     // Of many lines the first.
     assert_eq!(of_document(format!("{X}one\ntwo\n")), "  22 | one");
+}
+
+#[test]
+fn the_label_that_is_given_twice_is_shown_where_it_is_given_again() {
+    assert_eq!(of_document(named_twice()), "  24 | label=name");
 }
 
 #[test]
@@ -204,8 +211,9 @@ fn any_place_of_any_bytes_is_shown() {
     let samples: [&[u8]; 4] = [b"", b"\n", X.as_bytes(), b"nodes=9\n\xff"];
     let mut shown = 0;
     for bytes in samples {
-        for number in 1..=11 {
+        for ground in Ground::ALL {
             for place in [0, 1, 2, 3, 21, 22, 23, usize::MAX] {
+                let number = ground.number();
                 let refusal = Refusal::explain(number, place, bytes, bytes).expect("a ground");
                 let text = format!("{refusal:#}");
                 assert!(text.is_ascii() && !text.contains(['\r', '\u{7f}']));
@@ -213,5 +221,6 @@ fn any_place_of_any_bytes_is_shown() {
             }
         }
     }
-    assert_eq!(shown, samples.len() * 7 * 8);
+    // Four grounds of a document have a place, and four of a rule.
+    assert_eq!(shown, samples.len() * 8 * 8);
 }

@@ -45,9 +45,11 @@ fn grounds_are_those_of_the_definitions() {
     }
 }
 
+/// Of these are 12 and 13, which the definitions do not have yet.
 #[test]
 fn other_numbers_have_no_ground() {
-    for number in (0..=u16::MAX).filter(|number| !(1..=11).contains(number)) {
+    let defined: Vec<u16> = rows().iter().map(|row| row.number).collect();
+    for number in (0..=u16::MAX).filter(|number| !defined.contains(number)) {
         assert_eq!(Ground::from_number(number), None, "{number}");
         assert_eq!(Refusal::explain(number, 0, b"", b""), None, "{number}");
     }

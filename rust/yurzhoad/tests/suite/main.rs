@@ -16,8 +16,23 @@ mod wordings;
 use std::fs;
 use std::path::Path;
 
+use evaluator::samples::document;
+
 /// A file of the repository.
 fn file(name: &str) -> String {
     let root = Path::new(env!("CARGO_MANIFEST_DIR")).join("../..");
     fs::read_to_string(root.join(name)).unwrap_or_else(|error| panic!("{name}: {error}"))
+}
+
+/// A library with a drug that has two names, on the lines 16 and 24. The
+/// library has a name of its own.
+fn named_twice() -> Vec<u8> {
+    document(&[
+        ('e', 0, "lib", ""),
+        ('a', 1, "name", "heparin"),
+        ('e', 1, "drug", ""),
+        ('a', 2, "name", "heparin"),
+        ('a', 2, "unit", "mg"),
+        ('a', 2, "name", "again"),
+    ])
 }

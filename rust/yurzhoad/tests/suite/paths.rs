@@ -124,9 +124,9 @@ type Spelled = ((char, usize, &'static str, &'static str), &'static str);
 const SPELLED: [Spelled; 13] = [
     (('e', 0, "lib", ""), "/lib"),
     (('e', 1, "drug", ""), "/lib/drug[1]"),
-    (('a', 2, "name", "heparin"), "/lib/drug[1]/@name[1]"),
+    (('a', 2, "name", "heparin"), "/lib/drug[1]/@name"),
     (('a', 2, "area", "icu"), "/lib/drug[1]/@area"),
-    (('a', 2, "name", "again"), "/lib/drug[1]/@name[2]"),
+    (('a', 2, "unit", "again"), "/lib/drug[1]/@unit"),
     (('t', 2, "text", "a"), "/lib/drug[1]/text()[1]"),
     (('e', 2, "unit", ""), "/lib/drug[1]/unit"),
     (('t', 3, "text", "b"), "/lib/drug[1]/unit/text()"),

@@ -5,6 +5,8 @@ use evaluator::samples::{balanced, steps, X};
 use std::error::Error;
 use yurzhoad::{archive, Library, Refusal, Rule};
 
+use crate::named_twice;
+
 /// Asserts both forms: the line, and the line with the excerpt below it.
 fn assert_printed(refusal: Refusal, line: &str, below: &str) {
     assert_eq!(refusal.to_string(), line);
@@ -191,6 +193,40 @@ fn number_11() {
         "the call is refused: number 11 at place 0: there are too few marks: the document has 5 nodes",
         "",
     );
+}
+
+#[test]
+fn number_14() {
+    assert_printed(
+        document(named_twice()),
+        "the document is refused: number 14 at line 24: the element has an attribute with this label already, on line 16",
+        "\n  24 | label=name",
+    );
+}
+
+/// The words of number 14 at this line, though no check need place it there.
+fn words_of_14(line: usize, document: &[u8]) -> String {
+    let refusal = Refusal::explain(14, line, document, b"").expect("a ground");
+    refusal.words().to_string()
+}
+
+/// Where the label stands already is said if it does, in the same element.
+#[test]
+fn number_14_where_no_check_places_it() {
+    let words = "the element has an attribute with this label already";
+    let document = named_twice();
+    assert_eq!(words_of_14(24, &document), format!("{words}, on line 16"));
+    // The only unit, and the first name: the one above it is the library's.
+    assert_eq!(words_of_14(20, &document), words);
+    assert_eq!(words_of_14(16, &document), words);
+    // No line of a label, and none at all.
+    for line in [0, 1, 2, 3, 4, 5, 26, usize::MAX] {
+        assert_eq!(words_of_14(line, &document), words, "{line}");
+    }
+    // A document that ends in the line of the label.
+    let end = document.len() - "\nvalue=again\n".len();
+    let short = &document[..end];
+    assert_eq!(words_of_14(24, short), format!("{words}, on line 16"));
 }
 
 #[test]

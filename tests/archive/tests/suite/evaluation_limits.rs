@@ -4,15 +4,9 @@
 use crate::evaluation_agreement::{assert_agreement, assert_marked, needed};
 use evaluator::document::spell;
 use evaluator::random::{library, Random};
-use evaluator::samples::document;
+use evaluator::samples::counts::row;
 use evaluator::samples::rules::constants;
-
-/// A root with attributes of these values, which are nodes 1, 2 and so on.
-fn row(values: &[String]) -> Vec<u8> {
-    let mut rows = vec![('e', 0, "lib", "")];
-    rows.extend(values.iter().map(|value| ('a', 1, "name", value.as_str())));
-    document(&rows)
-}
+use evaluator::samples::{document, name};
 
 /// Different leaves joined by one sign two and two.
 fn joined(sign: &str, leaves: &[String]) -> String {
@@ -45,7 +39,9 @@ fn each_of_64_tests_counts() {
     let rest = others(41, &marked);
     assert_marked("64 tests", &document, denied.as_bytes(), needed(2), &rest);
     // 21 with a test in a bracket each: 21 * 2 + 20 and two more.
-    let bracketed = leaves(&|value| format!("([:name]=\"{value}\")"), 21);
+    let bracketed: Vec<String> = (0..21)
+        .map(|number| format!("([:{}]=\"{}\")", name(number), values[number]))
+        .collect();
     let rule = format!("!!{}", joined("|", &bracketed));
     assert_marked(
         "64 tests",
@@ -69,16 +65,10 @@ fn each_of_64_tests_counts() {
 
 #[test]
 fn nesting_32_of_tests_paths_and_brackets() {
-    let document = row(&["a", "b", "a"].map(String::from));
-    let names = [1, 2, 3];
-    for count in [30, 31] {
-        let rule = format!("{}:name", "!".repeat(count));
-        let due = if count % 2 == 0 {
-            names.to_vec()
-        } else {
-            vec![0]
-        };
-        assert_marked("denials", &document, rule.as_bytes(), needed(1), &due);
+    let document = row(&["a", "b", "a"]);
+    for (count, due) in [(30, &[0][..]), (31, &[1, 2, 3])] {
+        let rule = format!("{}:lib", "!".repeat(count));
+        assert_marked("denials", &document, rule.as_bytes(), needed(1), due);
     }
     let stars = "*".repeat(30);
     let rule = format!("({stars}r=\"b\")");
@@ -90,7 +80,12 @@ fn nesting_32_of_tests_paths_and_brackets() {
     let rule = format!("({choice}r=\"b\")");
     assert_marked("choice", &document, rule.as_bytes(), needed(4), &[1]);
     // Two parts for each bracket and its comparison, one or two inside.
-    for (inside, due) in [(":name", &names[..]), ("(e=\"a\")", &[1, 3])] {
+    let insides = [
+        (":lib", &[0][..]),
+        ("!:lib", &[1, 2, 3]),
+        ("(e=\"a\")", &[1, 3]),
+    ];
+    for (inside, due) in insides {
         let (before, behind) = ("([".repeat(15), "]=e)".repeat(15));
         let rule = format!("{before}{inside}{behind}");
         assert_marked("brackets", &document, rule.as_bytes(), needed(5), due);
@@ -98,7 +93,7 @@ fn nesting_32_of_tests_paths_and_brackets() {
     // Each bracket takes one node off the end of the row.
     let values: Vec<String> = (0..20).map(|number| format!("v{number}")).collect();
     let (before, behind) = ("(.r[".repeat(10), "]>=\"\")".repeat(10));
-    let rule = format!("{before}:name{behind}");
+    let rule = format!("{before}!:lib{behind}");
     let due: Vec<usize> = (1..=10).collect();
     assert_marked("steps", &row(&values), rule.as_bytes(), needed(6), &due);
 }

@@ -1,5 +1,5 @@
-//! Every number of document 01's table from an evaluation, each two at once,
-//! and what the buffers hold afterwards.
+//! Every number of document 01's table, and 14, from an evaluation, each two at
+//! once, and what the buffers hold afterwards.
 
 use std::collections::BTreeSet;
 
@@ -7,7 +7,7 @@ use crate::evaluation_agreement::{
     assert_agreement, assert_marked, assert_refused, needed, Buffers, Length,
 };
 use evaluator::document::{spell, Kind, Library, Node, BYTE_LIMIT};
-use evaluator::samples::documents;
+use evaluator::samples::documents::{self, with_lines};
 use evaluator::samples::rules::{self, constants};
 use evaluator::samples::selections::SESSION;
 use evaluator::samples::{balanced, flat, steps, X};
@@ -54,13 +54,15 @@ fn lent_documents() -> Vec<Lent<Vec<u8>>> {
     };
     let mut broken = too_long();
     broken.nodes[1].depth = 0;
-    let changed = |changes: &[(usize, &str)]| {
-        let mut lines: Vec<&str> = X.lines().collect();
-        for (line, text) in changes {
-            lines[line - 1] = text;
-        }
-        (lines.join("\n") + "\n").into_bytes()
-    };
+    let changed = |changes: &[(usize, &str)]| with_lines(X, changes).into_bytes();
+    // Node 3 is a second attribute of node 1 then, and its label line is 16.
+    let repeat = [(14, "depth=2"), (15, "kind=a"), (16, "label=name")];
+    let repeated = |changes: &[_]| changed(&[&repeat[..], changes].concat());
+    let mut long = repeated(&[]);
+    long.resize(BYTE_LIMIT + 1, b'\n');
+    let whole = repeated(&[]);
+    let lines = whole.split_inclusive(|byte| *byte == b'\n');
+    let cut = lines.take(16).collect::<Vec<_>>().concat();
     vec![
         lent(X.into(), &[], (0, 0)),
         lent(spell(&too_long()), &[1], (1, 0)),
@@ -85,6 +87,16 @@ fn lent_documents() -> Vec<Lent<Vec<u8>>> {
             (3, 1),
         ),
         lent(changed(&[(10, "depth=3")]), &[4], (4, 10)),
+        lent(repeated(&[]), &[14], (14, 16)),
+        lent(long, &[1, 14], (1, 0)),
+        // A bad form and a broken tree rule before the repeat, and behind it;
+        // on its own line a bad form is the lack of an LF.
+        lent(repeated(&[(9, "value")]), &[2, 14], (2, 9)),
+        lent(repeated(&[(17, "value")]), &[2, 14], (14, 16)),
+        lent(cut[..cut.len() - 1].to_vec(), &[2, 14], (2, 16)),
+        lent(repeated(&[(1, "nodes=0")]), &[3, 14], (3, 1)),
+        lent(repeated(&[(9, "value=x")]), &[4, 14], (4, 9)),
+        lent(repeated(&[(18, "depth=3")]), &[4, 14], (14, 16)),
     ]
 }
 
@@ -135,8 +147,9 @@ fn lent_buffers() -> Vec<Lent<(Length, Length)>> {
 }
 
 /// "Order: 1; then the first bad line of 2 to 4 ...; 5; then 6 or 7 with the
-/// lower offset; 8; 9; 10; 11." So what the document is refused with comes
-/// first, then what the rule is, then what the buffers are.
+/// lower offset; 8; 9; 10; 11", with 14 in line order with 2 to 4. So what the
+/// document is refused with comes first, then what the rule is, then what the
+/// buffers are.
 #[test]
 fn each_two_grounds_at_once_in_the_written_order() {
     let mut pairs = BTreeSet::new();
@@ -163,8 +176,8 @@ fn each_two_grounds_at_once_in_the_written_order() {
             }
         }
     }
-    // Every two of eleven numbers.
-    assert_eq!(pairs.len(), 55, "{pairs:?}");
+    // Every two of twelve numbers.
+    assert_eq!(pairs.len(), 66, "{pairs:?}");
 }
 
 #[test]

@@ -25,20 +25,46 @@ fn x_inside_a_larger_buffer() {
     }
 }
 
-#[test]
-fn every_byte_changed_put_in_or_left_out() {
-    for at in 0..=X.len() {
-        let (before, behind) = X.as_bytes().split_at(at);
+/// Tries every byte changed, put in or left out, and returns how often that
+/// made an attribute twice.
+fn repeats_by_one_byte(document: &[u8]) -> usize {
+    let mut repeats = 0;
+    let mut try_one = |origin: String, changed: &[u8]| {
+        let record = assert_agreement(origin, changed);
+        repeats += usize::from(record.number == 14);
+    };
+    for at in 0..=document.len() {
+        let (before, behind) = document.split_at(at);
         let rest = behind.get(1..).unwrap_or_default();
-        let shorter = [before, rest].concat();
-        assert_agreement(format_args!("byte {at} left out"), &shorter);
+        try_one(format!("byte {at} left out"), &[before, rest].concat());
         for byte in 0..=255 {
             let changed = [before, &[byte], rest].concat();
-            assert_agreement(format_args!("byte {at} changed to {byte}"), &changed);
+            try_one(format!("byte {at} changed to {byte}"), &changed);
             let longer = [before, &[byte], behind].concat();
-            assert_agreement(format_args!("{byte} put in at {at}"), &longer);
+            try_one(format!("{byte} put in at {at}"), &longer);
         }
     }
+    repeats
+}
+
+#[test]
+fn every_byte_changed_put_in_or_left_out() {
+    assert_eq!(repeats_by_one_byte(X.as_bytes()), 0);
+}
+
+#[test]
+fn every_byte_changed_where_labels_are_nearly_the_same() {
+    let attribute = |label| ('a', 1, label, "v");
+    let rows = [
+        ('e', 0, "b", ""),
+        attribute("a"),
+        attribute("b"),
+        attribute("ab"),
+    ];
+    // Counted by hand: `a` for `b` and `b` for `a`, `ab` less either byte, `a`
+    // and `b` more the other one, and in `ab` an LF for `b` or before it, since
+    // the label line ends there.
+    assert_eq!(repeats_by_one_byte(&document(&rows)), 8);
 }
 
 #[test]
@@ -70,23 +96,42 @@ fn every_length_of_label_and_value() {
     }
 }
 
-#[test]
-fn every_tree_of_four_nodes() {
+/// Tries every choice of kinds and depths for four nodes of these labels, and
+/// returns how many are accepted and how many have an attribute twice.
+fn trees_of_four_nodes(labels: [&str; 4]) -> (usize, usize) {
     let places: Vec<(char, usize)> = "eat"
         .chars()
         .flat_map(|kind| (0..5).map(move |depth| (kind, depth)))
         .collect();
-    let mut accepted = 0;
+    let (mut accepted, mut repeats) = (0, 0);
     for choice in 0..places.len().pow(4) {
         let rows = [0, 1, 2, 3].map(|node| {
             let (kind, depth) = places[choice / places.len().pow(node) % places.len()];
-            let label = if kind == 't' { "text" } else { "a" };
+            let label = if kind == 't' {
+                "text"
+            } else {
+                labels[node as usize]
+            };
             (kind, depth, label, "")
         });
         let record = assert_agreement(format_args!("{rows:?}"), &document(&rows));
         accepted += usize::from(record.number == 0);
+        repeats += usize::from(record.number == 14);
     }
+    (accepted, repeats)
+}
+
+#[test]
+fn every_tree_of_four_nodes() {
     // Counted by hand: behind the root stand e1, t1 or a1, behind which there
     // are 23, 7 and 10 ways to go on with two nodes.
-    assert_eq!(accepted, 40);
+    assert_eq!(trees_of_four_nodes(["a", "b", "c", "d"]), (40, 0));
+}
+
+#[test]
+fn every_tree_of_four_nodes_with_one_label() {
+    // Of the 40 those with a1 a1 behind the root, which go on in three ways,
+    // and e1 a2 a2 are gone. Behind a1 a1 the lines of the fourth node do not
+    // matter, whichever of 15 they are.
+    assert_eq!(trees_of_four_nodes(["a"; 4]), (40 - 3 - 1, 15 + 1));
 }

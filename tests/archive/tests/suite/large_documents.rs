@@ -2,6 +2,7 @@
 
 use crate::agreement::assert_agreement;
 use evaluator::document::{spell, Kind, Library, Node, BYTE_LIMIT, NODE_LIMIT};
+use evaluator::samples::name;
 
 fn node(kind: Kind, depth: usize, value: usize) -> Node {
     let label = if kind == Kind::Text { "text" } else { "a" };
@@ -22,10 +23,15 @@ fn chain() -> Library {
 }
 
 /// A root with 4,095 nodes of one kind directly inside it, their values of so
-/// many bytes.
+/// many bytes. Attributes have different labels.
 fn level(kind: Kind, value: usize) -> Library {
     let mut nodes = vec![node(kind, 1, value); NODE_LIMIT];
     nodes[0] = node(Kind::Element, 0, 0);
+    if kind == Kind::Attribute {
+        for (number, attribute) in nodes[1..].iter_mut().enumerate() {
+            attribute.label = name(number).into_bytes();
+        }
+    }
     Library { nodes }
 }
 
@@ -56,6 +62,22 @@ fn documents_of_4_096_nodes() {
     assert_judged("attributes", &spell(&level(Kind::Attribute, 9)), accepted);
     assert_judged("texts", &spell(&level(Kind::Text, 200)), accepted);
     assert_judged("too long", &spell(&level(Kind::Text, 255)), (1, 0, 0));
+}
+
+#[test]
+fn a_repeat_in_a_document_of_4_096_nodes() {
+    let mut library = level(Kind::Attribute, 9);
+    library.nodes[NODE_LIMIT - 1].label = name(0).into_bytes();
+    let last = 4 * NODE_LIMIT;
+    assert_judged("last repeats the first", &spell(&library), (14, last, 0));
+    // Too long, and with the repeat in a node too many.
+    let mut long = library.clone();
+    for node in &mut long.nodes[1..] {
+        node.value = vec![b'~'; 255];
+    }
+    assert_judged("too long", &spell(&long), (1, 0, 0));
+    library.nodes.push(node(Kind::Attribute, 1, 0));
+    assert_judged("4,097 nodes", &spell(&library), (3, 1, 0));
 }
 
 #[test]

@@ -1,5 +1,5 @@
 //! The proved functions in the archive against the evaluator, which is written
-//! from document 01 and not from their code.
+//! from document 01 and request (d) of document 02 and not from their code.
 //!
 //! The proof holds of the source; these tests run what was compiled from it,
 //! through the calling convention that other languages use.
@@ -18,10 +18,12 @@ mod fixed_evaluations;
 mod fixed_rules;
 mod large_documents;
 mod large_evaluations;
+mod many_attributes;
 mod plain_beside_snippets;
 mod program_runs;
 mod random_documents;
 mod random_evaluations;
+mod random_repeats;
 mod random_rules;
 mod rule_agreement;
 mod rule_limits;

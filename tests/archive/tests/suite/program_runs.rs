@@ -5,11 +5,11 @@ use std::path::{Path, PathBuf};
 use std::process::{Command, Stdio};
 use std::thread;
 
-use evaluator::document::spell;
+use evaluator::document::{spell, DocumentRecord};
 use evaluator::program::{program, INPUT_LIMIT};
 use evaluator::random::{damage_document, library, rule, Random};
 use evaluator::samples::selections::{CASES_ON_X, SESSION};
-use evaluator::samples::{document, flat, X};
+use evaluator::samples::{document, documents, flat, X};
 
 fn binary() -> PathBuf {
     let path = Path::new(env!("CARGO_MANIFEST_DIR")).join("../../target/bin/select");
@@ -81,6 +81,26 @@ fn the_cases_on_x_and_their_refusals_print_alike() {
     }
     assert_printed("no rule", &joined("", X.as_bytes()));
     assert_printed("a long rule", &joined(&"!".repeat(1_025), X.as_bytes()));
+}
+
+#[test]
+fn every_fixed_document_prints_alike() {
+    let mut repeats = 0;
+    for (name, cases) in documents::GROUPS {
+        for case in cases() {
+            let input = joined(":name", &case.document);
+            let text = assert_printed(name, &input);
+            let DocumentRecord { number, place, .. } = case.due;
+            // What is accepted may be too large for the program, and what is
+            // refused too long.
+            if number > 0 && input.len() <= INPUT_LIMIT {
+                let due = format!("number={number}\nplace={place}\n");
+                assert!(text.starts_with(&due), "{name}: {text}");
+                repeats += usize::from(number == 14);
+            }
+        }
+    }
+    assert!(repeats > 100, "{repeats}");
 }
 
 #[test]

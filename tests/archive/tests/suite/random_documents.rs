@@ -64,6 +64,7 @@ impl Tally {
         for line in ["depth", "kind", "label", "value"] {
             due.extend([(2, line), (4, line)]);
         }
+        due.push((14, "label"));
         for key in &due {
             let count = self.0.get(key).copied().unwrap_or(0);
             assert!(count >= at_least, "{key:?} {count} times");

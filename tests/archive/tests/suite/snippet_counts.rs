@@ -62,7 +62,6 @@ fn two_equal_values_at_the_ends_of_a_row() {
     for length in lengths.chain([NODE_LIMIT - 2]) {
         let mut values: Vec<String> = (0..=length).map(|number| format!("v{number}")).collect();
         values[length] = values[0].clone();
-        let values: Vec<&str> = values.iter().map(String::as_str).collect();
         let origin = format!("{length} edges");
         let due = PAIRS * stretches_between(length);
         assert_eq!(count(&origin, &row(&values), EVERYWHERE), due, "{origin}");
@@ -89,8 +88,7 @@ fn no_rule_counts_more_than_its_bound() {
         .map(|number| format!("v{}", number % 37))
         .collect();
     for nodes in [2, BY_DEFINITION, 100, 1_000] {
-        let values: Vec<&str> = values[1..nodes].iter().map(String::as_str).collect();
-        let document = row(&values);
+        let document = row(&values[1..nodes]);
         let outcome = assert_agreement("the most", &document, rule.as_bytes(), needed(2));
         let most = most_snippets(nodes, &reader::read(rule.as_bytes()));
         assert!(outcome.snippets <= most, "{} of {most}", outcome.snippets);

@@ -12,6 +12,8 @@ struct Shape {
     /// The labels of elements and attributes, and the values, to draw from.
     labels: Vec<Vec<u8>>,
     values: Vec<Vec<u8>>,
+    /// Whether an element may have two attributes of one label.
+    repeats: bool,
 }
 
 /// A legal library of so many nodes, deep or wide, with many or few
@@ -23,6 +25,7 @@ pub fn library(random: &mut Random, nodes: usize) -> Library {
         texts: *random.pick(&[5, 30, 60]),
         labels: NAMES.map(|name| name.as_bytes().to_vec()).into(),
         values: draw_values(random),
+        repeats: false,
     };
     grow(random, &shape, nodes)
 }
@@ -39,6 +42,22 @@ pub fn any_library(random: &mut Random, nodes: usize) -> Library {
         texts: *random.pick(&[0, 5, 30, 97]),
         labels: (0..pool).map(|_| any_label(random)).collect(),
         values: (0..pool).map(|_| any_value(random)).collect(),
+        repeats: false,
+    };
+    grow(random, &shape, nodes)
+}
+
+/// A library of so many nodes that is legal but for attributes given twice.
+/// There are few labels or some hundred, many of them nearly the same.
+pub fn repeating_library(random: &mut Random, nodes: usize) -> Library {
+    let pool = *random.pick(&[3, 6, 12, 40, 300]);
+    let shape = Shape {
+        deep: *random.pick(&[5, 40, 75]),
+        attributes: *random.pick(&[20, 50, 80, 95, 99]),
+        texts: *random.pick(&[5, 30]),
+        labels: alike_labels(random, pool),
+        values: VALUES.map(|value| value.as_bytes().to_vec()).into(),
+        repeats: true,
     };
     grow(random, &shape, nodes)
 }
@@ -46,25 +65,38 @@ pub fn any_library(random: &mut Random, nodes: usize) -> Library {
 fn grow(random: &mut Random, shape: &Shape, nodes: usize) -> Library {
     let mut library = Library { nodes: Vec::new() };
     while library.nodes.len() < nodes {
-        let node = draw_node(random, shape, library.nodes.last());
+        let node = draw_node(random, shape, &library.nodes);
         library.nodes.push(node);
     }
     library
 }
 
-fn draw_node(random: &mut Random, shape: &Shape, previous: Option<&Node>) -> Node {
-    let (depth, kind) = match previous {
+fn draw_node(random: &mut Random, shape: &Shape, before: &[Node]) -> Node {
+    let (depth, kind) = match before.last() {
         None => (0, Kind::Element),
         Some(previous) => draw_place(random, shape, previous),
     };
-    fill_node(random, shape, depth, kind)
+    let attributes = before.iter().rev();
+    let attributes = attributes.take_while(|node| node.kind == Kind::Attribute);
+    let taken: Vec<&[u8]> = attributes.map(|node| node.label.as_slice()).collect();
+    fill_node(random, shape, (depth, kind), &taken)
 }
 
-/// A node of this depth and kind, with a label and a value from the shape's.
-fn fill_node(random: &mut Random, shape: &Shape, depth: usize, kind: Kind) -> Node {
+/// A node of this depth and kind, with a label and a value from the shape's; an
+/// attribute gets none of the taken labels, which its element's others have.
+fn fill_node(
+    random: &mut Random,
+    shape: &Shape,
+    (depth, kind): (usize, Kind),
+    taken: &[&[u8]],
+) -> Node {
     let label = match kind {
         Kind::Text => b"text".to_vec(),
-        _ => random.pick(&shape.labels).clone(),
+        Kind::Attribute if !shape.repeats => {
+            let drawn = random.below(shape.labels.len());
+            free_label(&shape.labels, drawn, taken)
+        }
+        Kind::Element | Kind::Attribute => random.pick(&shape.labels).clone(),
     };
     let value = match kind {
         Kind::Element => Vec::new(),
@@ -76,6 +108,24 @@ fn fill_node(random: &mut Random, shape: &Shape, depth: usize, kind: Kind) -> No
         label,
         value,
     }
+}
+
+/// The drawn label, or the next that is not taken, or if all are the drawn one
+/// with a number for its last bytes.
+fn free_label(labels: &[Vec<u8>], drawn: usize, taken: &[&[u8]]) -> Vec<u8> {
+    let from_drawn = labels[drawn..].iter().chain(&labels[..drawn]).cloned();
+    let numbered = (1..).map(|number| numbered(&labels[drawn], number));
+    from_drawn
+        .chain(numbered)
+        .find(|label| !taken.contains(&label.as_slice()))
+        .expect("there are more numbers than nodes")
+}
+
+/// A label that ends in this number, cut to the length that labels may have.
+fn numbered(label: &[u8], number: usize) -> Vec<u8> {
+    let digits = number.to_string().into_bytes();
+    let kept = label.len().min(LABEL_LIMIT - digits.len());
+    [&label[..kept], &digits].concat()
 }
 
 /// A library that branches: each node is put into some element so far that has
@@ -101,9 +151,10 @@ pub fn branching_library(random: &mut Random, nodes: usize) -> Library {
         texts: *random.pick(&[20, 30, 40]),
         labels: NAMES.map(|name| name.as_bytes().to_vec()).into(),
         values: (0..count).map(|number| few_value(random, number)).collect(),
+        repeats: false,
     };
     let mut branching = Branching {
-        nodes: vec![fill_node(random, &shape, 0, Kind::Element)],
+        nodes: vec![fill_node(random, &shape, (0, Kind::Element), &[])],
         inside: vec![Vec::new()],
         room: *random.pick(&[2, 3, 5]),
         near: *random.pick(&[4, 12, nodes]),
@@ -129,9 +180,13 @@ impl Branching {
             drawn if drawn < shape.attributes + shape.texts => Kind::Text,
             _ => Kind::Element,
         };
-        self.inside[parent].push(self.nodes.len());
+        let inside = self.inside[parent].iter().map(|v| &self.nodes[*v]);
+        let attributes = inside.filter(|node| node.kind == Kind::Attribute);
+        let taken: Vec<&[u8]> = attributes.map(|node| node.label.as_slice()).collect();
         let depth = self.nodes[parent].depth + 1;
-        self.nodes.push(fill_node(random, shape, depth, kind));
+        let node = fill_node(random, shape, (depth, kind), &taken);
+        self.inside[parent].push(self.nodes.len());
+        self.nodes.push(node);
         self.inside.push(Vec::new());
     }
 
@@ -190,13 +245,37 @@ fn draw_values(random: &mut Random) -> Vec<Vec<u8>> {
     values
 }
 
+/// What a label may have: letters at first, and any of these behind.
+const LABEL_BYTES: &[u8] = b"abcdefghijklmnopqrstuvwxyz0123456789-";
+const LETTERS: usize = 26;
+
 /// A letter, then any bytes that a label may have.
 pub(super) fn any_label(random: &mut Random) -> Vec<u8> {
-    let bytes = b"abcdefghijklmnopqrstuvwxyz0123456789-";
     let length = 1 + random.below(LABEL_LIMIT);
-    let mut label = vec![*random.pick(&bytes[..26])];
-    label.extend((1..length).map(|_| *random.pick(bytes)));
+    let mut label = vec![*random.pick(&LABEL_BYTES[..LETTERS])];
+    label.extend((1..length).map(|_| *random.pick(LABEL_BYTES)));
     label
+}
+
+/// So many labels, most of them another one with a byte changed, more or less;
+/// some may be the same.
+fn alike_labels(random: &mut Random, count: usize) -> Vec<Vec<u8>> {
+    let mut labels = vec![any_label(random)];
+    while labels.len() < count {
+        let mut label = random.pick(&labels).clone();
+        let at = random.below(label.len());
+        match random.below(4) {
+            0 => label = any_label(random),
+            1 if label.len() < LABEL_LIMIT => label.push(*random.pick(LABEL_BYTES)),
+            2 if label.len() > 1 => {
+                label.pop();
+            }
+            _ if at == 0 => label[0] = *random.pick(&LABEL_BYTES[..LETTERS]),
+            _ => label[at] = *random.pick(LABEL_BYTES),
+        }
+        labels.push(label);
+    }
+    labels
 }
 
 /// Short values, values of any length, and the longest.

@@ -19,12 +19,13 @@ pub fn damage_one_line(random: &mut Random, document: &[u8]) -> Vec<u8> {
         None => (line, &b""[..]),
     };
     let content = content.strip_suffix(b"\n").unwrap_or(content);
+    let before = &document[..range.start];
     let mut changed = match random.below(8) {
-        0..=2 => [key, &same_form(random, key, content)].concat(),
+        0..=2 => [key, &same_form(random, key, content, before)].concat(),
         3 | 4 => [key, &no_form(random, key, content)].concat(),
         // Two errors on one line: 01 asks for the lowest number then.
         5 | 6 => {
-            let content = same_form(random, key, content);
+            let content = same_form(random, key, content, before);
             [key, &no_form(random, key, &content)].concat()
         }
         _ => [key, content].concat(),
@@ -52,11 +53,14 @@ fn pick_line(random: &mut Random, document: &[u8]) -> Option<Range<usize>> {
     Some(starts[line]..end)
 }
 
-/// Another content of the form that the key asks for.
-fn same_form(random: &mut Random, key: &[u8], content: &[u8]) -> Vec<u8> {
+/// Another content of the form that the key asks for. Before the line stands
+/// this much of the document.
+fn same_form(random: &mut Random, key: &[u8], content: &[u8], before: &[u8]) -> Vec<u8> {
     match key {
         b"nodes=" | b"depth=" => near(random, content).into_bytes(),
         b"kind=" => vec![*random.pick(b"eat")],
+        // Of two attributes of one element the second would be a repeat.
+        b"label=" if random.percent(30) => last_label(before),
         b"label=" => random
             .pick(&["text", "tex", "texts", "a", "t-9", "abcdefghijklmn-9"])
             .as_bytes()
@@ -66,6 +70,13 @@ fn same_form(random: &mut Random, key: &[u8], content: &[u8]) -> Vec<u8> {
             printable_of(random, length)
         }
     }
+}
+
+/// The label of the node before, if there is one.
+fn last_label(before: &[u8]) -> Vec<u8> {
+    let lines = before.rsplit(|byte| *byte == b'\n');
+    let mut labels = lines.filter_map(|line| line.strip_prefix(b"label="));
+    labels.next().unwrap_or(b"a").to_vec()
 }
 
 /// A number a little above or below the given one, or one at a limit.

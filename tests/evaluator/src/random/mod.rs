@@ -6,7 +6,7 @@ mod line_damage;
 mod rule;
 
 pub use damage::{damage_document, damage_rule};
-pub use library::{any_library, branching_library, library};
+pub use library::{any_library, branching_library, library, repeating_library};
 pub use line_damage::damage_one_line;
 pub use rule::{any_rule, deep_rule, large_rule, rule, rule_about, wandering_rule};
 

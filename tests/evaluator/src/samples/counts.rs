@@ -1,8 +1,10 @@
 //! Fixed documents and rules with the number of their snippets, given by
 //! document 01 or worked out by hand.
 
+use super::libraries::{attribute, element};
 use super::selections::SESSION;
-use super::{document, flat, X};
+use super::{flat, name, X};
+use crate::document::{spell, Library};
 
 pub struct CountCase {
     pub document: Vec<u8>,
@@ -30,11 +32,13 @@ fn case(document: &[u8], rule: &'static str, snippets: usize) -> CountCase {
     }
 }
 
-/// A root with attributes of these values, one right of the other.
-pub fn row(values: &[&str]) -> Vec<u8> {
-    let mut rows = vec![('e', 0, "lib", "")];
-    rows.extend(values.iter().map(|value| ('a', 1, "name", *value)));
-    document(&rows)
+/// A root with attributes of these values, one right of the other. They are
+/// nodes 1, 2 and so on.
+pub fn row<T: AsRef<str>>(values: &[T]) -> Vec<u8> {
+    let mut nodes = vec![element(0, "lib")];
+    let values = values.iter().map(AsRef::as_ref).enumerate();
+    nodes.extend(values.map(|(number, value)| attribute(1, &name(number), value)));
+    spell(&Library { nodes })
 }
 
 fn given() -> Vec<CountCase> {
@@ -52,7 +56,7 @@ fn two_values() -> Vec<CountCase> {
     // The value `a` at nodes 1 and 4 yields the stretches 1-3 and 2-4 of power
     // 1 and 1-2, 2-3, 3-4 of power 0; the value `b` at 2 and 5 yields 2-4, 3-5
     // and 2-3, 3-4, 4-5.
-    let one = |values, stretches| case(&row(values), EVERYWHERE, stretches * PAIRS);
+    let one = |values: &[&str], stretches| case(&row(values), EVERYWHERE, stretches * PAIRS);
     vec![
         one(&["a", "b", "c", "a", "x"], 5),
         one(&["a", "b", "c", "x", "b"], 5),

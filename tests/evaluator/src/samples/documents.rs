@@ -1,7 +1,7 @@
 //! Fixed documents with what their check must hand back: every row of the
-//! table for numbers 1 to 4, and which of two comes first.
+//! table for numbers 1 to 4, number 14, and which of two comes first.
 
-use super::{document, flat, X};
+use super::{attributes, document, flat, X};
 use crate::document::DocumentRecord;
 
 pub struct DocumentCase {
@@ -13,7 +13,7 @@ pub struct DocumentCase {
 pub type Group = (&'static str, fn() -> Vec<DocumentCase>);
 
 /// All fixed cases.
-pub const GROUPS: [Group; 12] = [
+pub const GROUPS: [Group; 20] = [
     ("accepted documents give their number of nodes", accepted),
     ("depth may rise to its last digit", deepest),
     ("a document above 1,048,576 bytes is 1", byte_limit),
@@ -26,9 +26,26 @@ pub const GROUPS: [Group; 12] = [
     ("children of leaves break their depth line", leaf_children),
     ("an attribute follows its element", attribute_places),
     ("the first bad line comes first", first_of_several),
+    ("the second attribute of a label is 14", attributes::repeats),
+    ("an element's labels are its own", attributes::elements),
+    ("labels are compared whole", attributes::spellings),
+    (
+        "of a repeat and a bad line the first",
+        attributes::bad_lines,
+    ),
+    ("a document cut at a repeat", attributes::cuts),
+    ("around 25 attributes", attributes::around_25),
+    ("an element of 4,095 attributes", attributes::most),
+    ("behind many attributes", attributes::behind_many),
 ];
 
-fn case(document: impl Into<Vec<u8>>, number: u32, place: usize, nodes: usize) -> DocumentCase {
+/// A case: the document, and what its check hands back.
+pub(super) fn case(
+    document: impl Into<Vec<u8>>,
+    number: u32,
+    place: usize,
+    nodes: usize,
+) -> DocumentCase {
     DocumentCase {
         document: document.into(),
         due: DocumentRecord {
@@ -39,14 +56,21 @@ fn case(document: impl Into<Vec<u8>>, number: u32, place: usize, nodes: usize) -
     }
 }
 
-fn refused(document: impl Into<Vec<u8>>, number: u32, place: usize) -> DocumentCase {
+pub(super) fn refused(document: impl Into<Vec<u8>>, number: u32, place: usize) -> DocumentCase {
     case(document, number, place, 0)
 }
 
 /// Document X with one line replaced; lines count from 1.
 pub fn with_line(line: usize, text: &str) -> String {
-    let mut lines: Vec<&str> = X.lines().collect();
-    lines[line - 1] = text;
+    with_lines(X, &[(line, text)])
+}
+
+/// A document with some lines replaced.
+pub fn with_lines(document: &str, changes: &[(usize, &str)]) -> String {
+    let mut lines: Vec<&str> = document.lines().collect();
+    for (line, text) in changes {
+        lines[line - 1] = text;
+    }
     lines.join("\n") + "\n"
 }
 
@@ -220,8 +244,9 @@ fn attribute_places() -> Vec<DocumentCase> {
     let text = ('t', 1, "text", "");
     let attribute = |depth| ('a', depth, "n", "v");
     let (first, second) = (attribute(1), attribute(2));
+    let other = ('a', 1, "m", "v");
     vec![
-        case(document(&[root, first, first]), 0, 0, 3),
+        case(document(&[root, first, other]), 0, 0, 3),
         case(document(&[root, first, text, inner, second]), 0, 0, 5),
         refused(document(&[root, text, first]), 4, 11),
         refused(document(&[root, inner, first]), 4, 11),

@@ -1,5 +1,6 @@
 //! Libraries of any number of nodes, deep and wide, and one as hospitals have.
 
+use super::name;
 use crate::document::{Kind, Library, Node, NODE_LIMIT};
 
 pub fn node(kind: Kind, depth: usize, label: &str, value: impl Into<String>) -> Node {
@@ -56,21 +57,22 @@ pub fn ladder(nodes: usize) -> Library {
     grown(nodes, (0..).map(rung))
 }
 
-/// Attributes of the root, then its elements, most of them with a text inside.
+/// Attributes of the root, then its elements, drugs and names by turns and most
+/// of them with a text inside.
 pub fn level(nodes: usize) -> Library {
     let value = |number: usize| VALUES[mixed(number) % 7];
     let member = move |number: usize| match (number < nodes / 2, number % 3) {
-        (true, _) => attribute(1, "name", value(number)),
+        (true, _) => attribute(1, &name(number), value(number)),
         (false, 1) if number > nodes / 2 + 2 => text(2, value(number)),
         (false, 2) => text(1, value(number)),
-        (false, _) => element(1, "drug"),
+        (false, _) => element(1, ["drug", "name"][number / 3 % 2]),
     };
     grown(nodes, (0..).map(member))
 }
 
 /// Attributes of the root, no two with the same value.
 pub fn catalogue(nodes: usize) -> Library {
-    let entry = |number: usize| attribute(1, "name", format!("{:04}", mixed(number)));
+    let entry = |number: usize| attribute(1, &name(number), format!("{:04}", mixed(number)));
     grown(nodes, (0..).map(entry))
 }
 

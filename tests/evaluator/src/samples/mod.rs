@@ -1,6 +1,7 @@
 //! Documents and shorthands for rules that the tests share, also those of
 //! other packages.
 
+pub mod attributes;
 pub mod counts;
 pub mod documents;
 pub mod libraries;
@@ -48,6 +49,15 @@ pub fn document(rows: &[(char, usize, &str, &str)]) -> Vec<u8> {
     spell(&Library {
         nodes: rows.iter().map(node).collect(),
     })
+}
+
+/// Another label for each number, the first of them `name`: no two attributes
+/// of one element have the same.
+pub fn name(number: usize) -> String {
+    match number {
+        0 => "name".to_string(),
+        _ => format!("name-{number}"),
+    }
 }
 
 /// A root with so many nodes in all, the others text directly inside it.

@@ -1,6 +1,6 @@
 //! The two evaluations as calls: buffers, and the order of all the checks.
 
-use crate::samples::{balanced, flat, steps, X};
+use crate::samples::{balanced, document, flat, steps, X};
 use evaluator::evaluate::{
     evaluate, evaluate_plain, evaluate_snippets, needed_words, Evaluation, Outcome,
 };
@@ -69,6 +69,10 @@ fn the_document_is_judged_before_the_rule_and_the_buffers() {
     assert_refused(&vec![b'x'; 1_048_577], &"x".repeat(2_000), 0, 0, (1, 0));
     assert_refused(b"nodes=0\n", "x", 0, 0, (3, 1));
     assert_refused(b"nodes=1\ndepth=1\n", "x", 0, 0, (4, 2));
+    let attribute = ('a', 1, "name", "");
+    let twice = document(&[('e', 0, "lib", ""), attribute, attribute]);
+    assert_refused(&twice, "x", 0, 0, (14, 12));
+    assert_refused(&twice, ":name", 10_000, 10, (14, 12));
 }
 
 #[test]

@@ -1,4 +1,4 @@
-//! Numbers 1 to 4: every row of the table, and which of two comes first.
+//! Numbers 1 to 4 and 14: every row of the table, and which of two comes first.
 
 use evaluator::document::{check, read, spell};
 use evaluator::samples::documents::GROUPS;

@@ -1,5 +1,6 @@
-//! What document 01 says, tried on this evaluator: its examples, every row of
-//! its table of refusals, and its promises on random documents and rules.
+//! What document 01 and request (d) of document 02 say, tried on this evaluator:
+//! the examples, every row of the table of refusals, and the promises on random
+//! documents and rules.
 
 mod calls;
 mod document_refusals;
@@ -12,6 +13,7 @@ mod random_documents;
 mod random_pairs;
 mod random_rules;
 mod relations;
+mod repeated_labels;
 mod rule_refusals;
 mod samples;
 mod shrinking;

@@ -1,5 +1,5 @@
 -- `document::nodes::value_step` meets its contract.
-use mathlib.Core.Path.{subst}
+use mathlib.Core.Path.{refl, subst}
 use native.Mathlib.Omega.{arith}
 use Rattle.lexer.specs.Reading.{Ended}
 use Rattle.document_lines.specs.Nodes.{Told, kindOf, IsValue}
@@ -35,16 +35,21 @@ returns c = let x = c .before .before .before .before .args in λ n a. value-for
 value-fits-requires : tie.Need-value-fits-requires
 value-fits-requires c κs = let h = got c .2 .inside in let s = c .before .before .before .before .before .pre .1 .cursor .good .short in omega arith
 
-mul-t13 : tie.Need-mul-t13
-mul-t13 c = search needs
+add-t13 : tie.Need-add-t13
+add-t13 c = search needs
 
-add-t14 : tie.Need-add-t14
-add-t14 c = search needs
+mul-t15 : tie.Need-mul-t15
+mul-t15 c = search needs
+
+add-t16 : tie.Need-add-t16
+add-t16 c = search needs
 
 returns-2 : tie.Need-returns-2
 returns-2 c =
     let x = c .before .before .before .before .before .before .before .args in let g = got (c .before .before) in
-    λ n a. (value-on a _ g (subst (Told (ValueRule (kindOf (x .node .kind)) (g .1 .0))) (c .if1 .taken) (c .before .value-fits .ensures (g .1 .0) (value-length a _ g))), a .says)
+    λ n a.
+    let l = value-length a _ g in
+    (omega arith, refl, omega arith, value-on a _ g (subst (Told (ValueRule (kindOf (x .node .kind)) (g .1 .0))) (c .if1 .taken) (c .before .value-fits .ensures (g .1 .0) l)))
 
 returns-3 : tie.Need-returns-3
 returns-3 c =
@@ -62,7 +67,8 @@ value-step-spec =
     add-t9
     returns
     value-fits-requires
-    mul-t13
-    add-t14
+    add-t13
+    mul-t15
+    add-t16
     returns-2
     returns-3)
