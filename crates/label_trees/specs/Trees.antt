@@ -69,8 +69,8 @@ pub record Meets (t l : List ℕ) (q : ℕ) : Type 0 where
 pub record Holds (s t : List ℕ) : Type 0 where
   pub room : heads + 3 * held t ≤ length t
   pub roots : (r : ℕ) → r < rootCount → getD t (1 + r) 0 ≤ held t
-  pub links : (k i : ℕ) → k < held t → i < 2 → getD t (18 + 3 * k + i) 0 ≤ held t
-  pub rising : (k i : ℕ) → k < held t → i < 2 → 0 < getD t (18 + 3 * k + i) 0 → suc k < getD t (18 + 3 * k + i) 0
+  pub links : (k i : ℕ) → k < held t → i < 2 → getD t (heads + 1 + 3 * k + i) 0 ≤ held t
+  pub rising : (k i : ℕ) → k < held t → i < 2 → 0 < getD t (heads + 1 + 3 * k + i) 0 → suc k < getD t (heads + 1 + 3 * k + i) 0
   pub met : (k : ℕ) → k < held t → Meets t (keyAt s (offsetAt t k)) (suc k)
 
 -- the line at an offset is held
@@ -89,7 +89,7 @@ pub record Inserted (t : List ℕ) (p o : ℕ) (t′ : List ℕ) : Type 0 where
   pub count : held t′ ≡ suc (held t)
   pub link : getD t′ p 0 ≡ suc (held t)
   pub offset : offsetAt t′ (held t) ≡ o
-  pub free : (i : ℕ) → i < 2 → getD t′ (18 + 3 * held t + i) 0 ≡ 0
+  pub free : (i : ℕ) → i < 2 → getD t′ (heads + 1 + 3 * held t + i) 0 ≡ 0
   pub other : (j : ℕ) → j ≢ 0 → j ≢ p → j < heads + 3 * held t → getD t′ j 0 ≡ getD t j 0
 
 pub record Grown (s t : List ℕ) (o : ℕ) (t′ : List ℕ) : Type 0 where
