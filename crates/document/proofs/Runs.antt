@@ -10,9 +10,7 @@ use Rattle.lists.specs.Text.{bytes}
 use Rattle.limits.specs.Names.{Name}
 use Rattle.document_spec.specs.Library as Library
 use Rattle.document_spec.specs.Library.{kindLine, labelLine}
-use Rattle.document_spec.specs.Verdict.{firstLine, CountIs, KindIs, LabelIs, Duplicate}
-use Rattle.document_spec.proofs.Lines.{line-first}
-use Rattle.document_spec.proofs.Spelling.{name, whole}
+use Rattle.document_spec.specs.Verdict.{CountIs, KindIs, LabelIs, Duplicate}
 use Rattle.document_spec.proofs.Reading.{label-one}
 use Rattle.document_spec.proofs.Duplicates.{Repeated, repeated-at}
 use Rattle.document_lines.specs.declared.rules.Kind.{Kind}
@@ -20,6 +18,7 @@ use Rattle.document_lines.specs.declared.rules.Kind.the-variants.{Element, Attr
 use Rattle.document_lines.specs.declared.rules.Node.{Node}
 use Rattle.document_lines.specs.Nodes.{kindOf}
 use Rattle.label_trees.specs.Trees.{keyAt, held, offsetAt, IsHeld, Stands, Grown}
+use Rattle.label_trees.proofs.Keys.{key-is}
 use Rattle.document.specs.Check.{Before, Labelled, Run, Carries, Cleared, Opened}
 
 -- ── A label line ──
@@ -30,8 +29,9 @@ module _ (s : List ℕ) (i j : ℕ) (a : List ℕ) (n : Name a) (spelled : drop 
   pub label-stands : j ≤ length s → Stands s (i + 6) j
   label-stands l = record { label = a; name = n; here = label-behind; inside = l }
 
-  pub label-key : keyAt s (i + 6) ≡ a ++ bytes "\n"
-  label-key = ap firstLine label-behind ∙ line-first (whole a (name a n)) (drop j s)
+  pub label-key : j ≤ length s → keyAt s (i + 6) ≡ a ++ bytes "\n"
+  unfolding label-stands
+  label-key l = key-is s (i + 6) j (label-stands l)
 
 module _ (s : List ℕ) where
   -- a line says one kind

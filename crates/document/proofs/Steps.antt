@@ -139,7 +139,7 @@ module _ {s : List ℕ} {n v i : ℕ} where
           go Text r = tt
 
       key : keyAt s (i + 6) ≡ the-label ++ bytes "\n"
-      key = label-key s i j the-label (h .1 .1) label-spelled
+      key = label-key s i j the-label (h .1 .1) label-spelled (h .2 .inside)
 
       -- a label that is new is no repeat
       fresh : (t′ : List ℕ) (k : Kind) → KindIs s v (kindOf k) → Carries s t v i k → Entered s t i k t′ New → ¬ Duplicate s (4 * v + 4)
@@ -212,7 +212,7 @@ module _ {s : List ℕ} {n v i : ℕ} where
 
       -- how long the line is
       pub value-length : j ≡ i + 7 + length the-value
-      value-length = omega (arith, a .cursor .inside, h .2 .inside, length-drop i s, length-drop j s, ap length value-spelled, length-append (the-value ++ bytes "\n") (drop j s), length-append the-value (bytes "\n"))
+      value-length = omega (arith, forth s i j (valueLine the-value) (a .cursor .inside) (h .2 .inside) value-spelled, length-append the-value (bytes "\n"))
 
       says-value : ValueIs s v the-value × (behindLines (4 * suc v + 1) s ≡ drop j s)
       says-value = value-here s v the-value (drop j s) (h .1 .1) (a .cursor .here ∙ value-spelled)

@@ -60,7 +60,7 @@ fn read_nodes(s: &[u8], n: usize, start: Progress, words: &mut [u32]) -> Reading
     }
 }
 
-// Goes on with words for as many attributes as an element can have.
+// Goes on with words for as many attributes as an element can have, so that they are never used up.
 fn with_more_words(s: &[u8], n: usize, here: Progress, few: &[u32]) -> Verdict
     requires { ⌜ (here .node < n) × Reached (now s) (now few) n here × Room (now few) ⌝ }
     ensures { λ r. ⌜ Judged (now (s .entry)) r ⌝ }

@@ -8,7 +8,7 @@ use lib.ListN.{length}
 use Rattle.limits.specs.Limits.{documentNodes}
 use Rattle.lists.specs.Lists.{All}
 use Rattle.limits.specs.Names.{Name}
-use Rattle.document_spec.specs.Library.{Node, element, attribute, at, Value, DepthBehind, KindBehind, LabelRule, ValueRule, Together, Legal}
+use Rattle.document_spec.specs.Library.{Node, element, attribute, at, Value, DepthBehind, KindBehind, LabelRule, ValueRule, DifferentLabels, Legal}
 
 pub record Fits (x : Node) : Type 0 where
   pub name : Name (x .label)
@@ -34,15 +34,12 @@ chain-at x [] h v l = absurd (omega arith)
 chain-at x (y ∷ ns) h zero l = h .0
 chain-at x (y ∷ ns) h (suc v) l = chain-at y ns (h .1) v (omega arith)
 
-abbrev pub Distinct : List Node → Type 0
-Distinct ns = (u w : ℕ) → w < length ns → Together (λ i. at ns i .kind ≡ attribute) u w → at ns u .label ≢ at ns w .label
-
 -- where no attribute is right behind another, no two are of one element
-pub distinct-alone : (ns : List Node) → ((v : ℕ) → suc v < length ns → at ns v .kind ≡ attribute → at ns (suc v) .kind ≢ attribute) → Distinct ns
+pub distinct-alone : (ns : List Node) → ((v : ℕ) → suc v < length ns → at ns v .kind ≡ attribute → at ns (suc v) .kind ≢ attribute) → DifferentLabels ns
 distinct-alone ns h u w l t = let b = t .before in absurd (h u (omega arith) (t .all u (omega arith) (omega arith)) (t .all (suc u) (omega arith) (omega arith)))
 
 pub legal-chain : (x : Node) (ns : List Node) → length (x ∷ ns) ≤ documentNodes → x .depth ≡ 0 → x .kind ≡ element
-    → All Fits (x ∷ ns) → Chain x ns → Distinct (x ∷ ns) → Legal (x ∷ ns)
+    → All Fits (x ∷ ns) → Chain x ns → DifferentLabels (x ∷ ns) → Legal (x ∷ ns)
 legal-chain x ns l d k f c u = record {
   some = omega arith;
   few = l;

@@ -48,6 +48,10 @@ pub record Together (A : ℕ → Type 0) (u w : ℕ) : Type 0 where
   pub before : u < w
   pub all : (i : ℕ) → u ≤ i → i ≤ w → A i
 
+-- 02, (d): the attributes of one element have different labels
+abbrev pub DifferentLabels : List Node → Type 0
+DifferentLabels ns = (u w : ℕ) → w < length ns → Together (λ i. at ns i .kind ≡ attribute) u w → at ns u .label ≢ at ns w .label
+
 pub record Legal (ns : List Node) : Type 0 where
   pub some : 0 < length ns
   pub few : length ns ≤ documentNodes
@@ -60,8 +64,7 @@ pub record Legal (ns : List Node) : Type 0 where
   pub kinds : (v : ℕ) → suc v < length ns → KindBehind (at ns v .depth) (at ns v .kind) (at ns (suc v) .depth) (at ns (suc v) .kind)
   pub labelled : (v : ℕ) → v < length ns → LabelRule (at ns v .kind) (at ns v .label)
   pub empties : (v : ℕ) → v < length ns → ValueRule (at ns v .kind) (at ns v .value)
-  -- 02, (d): the attributes of one element have different labels
-  pub distinct : (u w : ℕ) → w < length ns → Together (λ i. at ns i .kind ≡ attribute) u w → at ns u .label ≢ at ns w .label
+  pub distinct : DifferentLabels ns
 
 -- ── The spelling: every line ends in LF ──
 abbrev pub nodesLine : ℕ → List ℕ

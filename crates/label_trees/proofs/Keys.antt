@@ -34,7 +34,7 @@ module _ (s : List ℕ) (from to : ℕ) (h : Stands s from to) where
   key-line : Line (h .label ++ bytes "\n")
   key-line = whole (h .label) (name (h .label) (h .name))
 
-  key-is : keyAt s from ≡ h .label ++ bytes "\n"
+  pub key-is : keyAt s from ≡ h .label ++ bytes "\n"
   key-is = ap firstLine (h .here) ∙ line-first key-line (drop to s)
 
   pub stands-length : from + length (keyAt s from) ≡ to
@@ -44,9 +44,6 @@ module _ (s : List ℕ) (from to : ℕ) (h : Stands s from to) where
       let k : length (keyAt s from) ≡ l + 1 = ap length key-is ∙ length-append (h .label) (bytes "\n") in
       let i = h .inside in
       omega arith
-
-  pub stands-some : from < to
-  stands-some = omega (arith, stands-length, ap length key-is, length-append (h .label) (bytes "\n"))
 
   pub stands-byte : (i : ℕ) → from + i < to → getD (keyAt s from) i 0 ≡ getD s (from + i) 0
   stands-byte i l = key-byte s from i (omega (arith, stands-length))

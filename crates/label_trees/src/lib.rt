@@ -23,8 +23,11 @@ impl Trees {
 
     const LINKS: usize = Trees::HEADS - 2;
 
-    // For the attributes of most elements, and for those of any.
-    pub const FEW_WORDS: usize = Trees::HEADS + 3 * 24;
+    // As many attributes as most elements have at most.
+    pub const FEW_LINES: usize = 24;
+
+    // Words for so many lines, and for the attributes of any element.
+    pub const FEW_WORDS: usize = Trees::HEADS + 3 * Trees::FEW_LINES;
 
     pub const MAX_WORDS: usize = Trees::HEADS + 3 * Document::MAX_NODES;
 }

@@ -4,7 +4,7 @@ use native.Mathlib.Omega.{arith}
 use borrow.Author.Needs.{needs}
 use Rattle.label_trees.specs.Trees.{Placed}
 use Rattle.label_trees.specs.declared.Place.the-variants.{Free}
-use Rattle.label_trees.proofs.Keys.{stands-some}
+use Rattle.label_trees.proofs.Keys.{stands-two}
 use Rattle.label_trees.proofs.Growing.{free-inside, grown}
 use Rattle.label_trees.proofs.add.Statement.{statement}
 use Rattle.label_trees.proofs.add.Tie as tie
@@ -55,7 +55,7 @@ insert-requires c κs =
     let g = c .before .before .before .before .place .given in
     let f : Placed (a .s .now) (a .t .now) (a .from) (Free (g .0 .0)) = subst (Placed (a .s .now) (a .t .now) (a .from)) (g .1) (c .before .before .before .before .before .before .find .ensures) in
     let i = free-inside (start .pre .2) (a .from) (g .0 .0) f in
-    (omega arith, start .pre .4, i .0, i .1, omega (arith, stands-some (a .s .now) (a .from) (a .to) (start .pre .0)))
+    (omega arith, start .pre .4, i .0, i .1, omega (arith, stands-two (a .s .now) (a .from) (a .to) (start .pre .0)))
 
 same-length-3 : tie.Need-same-length-3
 same-length-3 c = search needs

@@ -3,21 +3,14 @@
 use std::collections::{BTreeMap, BTreeSet};
 
 use crate::agreement::assert_agreement;
-use evaluator::document::{spell, DocumentRecord, Library, BYTE_LIMIT, NODE_LIMIT};
+use evaluator::document::{spell, DocumentRecord, Library, BYTE_LIMIT};
 use evaluator::random::{any_library, damage_document, damage_one_line, library, Random};
 
 /// So many legal documents, and as many damaged ones.
 const CASES: u64 = 300_000;
 
-/// Mostly few nodes, so that many documents are tried, seldom very many.
 fn draw_library(random: &mut Random) -> Library {
-    let most = match random.below(2_000) {
-        0 => NODE_LIMIT,
-        1..=40 => 400,
-        41..=400 => 60,
-        _ => 12,
-    };
-    let nodes = 1 + random.below(most);
+    let nodes = random.nodes(400);
     match random.percent(25) {
         true => library(random, nodes),
         false => any_library(random, nodes),

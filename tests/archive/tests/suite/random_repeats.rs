@@ -5,7 +5,7 @@ use std::collections::{BTreeMap, BTreeSet};
 
 use crate::agreement::assert_agreement;
 use crate::evaluation_agreement::{self, Buffers, Length};
-use evaluator::document::{spell, DocumentRecord, NODE_LIMIT};
+use evaluator::document::{spell, DocumentRecord};
 use evaluator::evaluate::needed_words;
 use evaluator::random::{damage_document, damage_one_line, repeating_library, rule, Random};
 
@@ -13,18 +13,11 @@ use evaluator::random::{damage_document, damage_one_line, repeating_library, rul
 const CASES: u64 = 120_000;
 /// Other seeds than those of the other tests.
 const FIRST_SEED: u64 = 5_000_000;
-/// Every so many documents are lent to both evaluations too.
+/// Of every so many documents one of each half is lent to both evaluations too.
 const EVALUATED: u64 = 20;
 
-/// Mostly few nodes, so that many documents are tried, seldom very many.
 fn draw_document(random: &mut Random, damaged: bool) -> Vec<u8> {
-    let most = match random.below(2_000) {
-        0 => NODE_LIMIT,
-        1..=40 => 400,
-        41..=600 => 60,
-        _ => 12,
-    };
-    let nodes = 1 + random.below(most);
+    let nodes = random.nodes(600);
     let drawn = spell(&repeating_library(random, nodes));
     match (damaged, random.percent(40)) {
         (false, _) => drawn,

@@ -10,6 +10,8 @@ pub use library::{any_library, branching_library, library, repeating_library};
 pub use line_damage::damage_one_line;
 pub use rule::{any_rule, deep_rule, large_rule, rule, rule_about, wandering_rule};
 
+use crate::document::NODE_LIMIT;
+
 /// The splitmix64 generator.
 pub struct Random(u64);
 
@@ -50,6 +52,18 @@ impl Random {
     /// True in so many cases of a hundred.
     pub fn percent(&mut self, cases: usize) -> bool {
         self.below(100) < cases
+    }
+
+    /// How many nodes a document gets: mostly few, so that many documents are
+    /// tried, in so many cases of 2,000 up to 60 or more, seldom very many.
+    pub fn nodes(&mut self, some: usize) -> usize {
+        let most = match self.below(2_000) {
+            0 => NODE_LIMIT,
+            1..=40 => 400,
+            drawn if drawn <= some => 60,
+            _ => 12,
+        };
+        1 + self.below(most)
     }
 
     pub fn pick<'a, T>(&mut self, items: &'a [T]) -> &'a T {
