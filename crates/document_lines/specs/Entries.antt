@@ -27,5 +27,6 @@ pub record IsEntry (s : List ℕ) (ns : List Library.Node) (v : ℕ) (e : Entry)
   pub kind : kindOf (e .kind) ≡ at ns v .kind
   pub label : slice (e .label .from) (e .label .to) s ≡ at ns v .label
   pub value : slice (e .value .from) (e .value .to) s ≡ at ns v .value
+  pub order : e .value .from ≤ e .value .to
   pub ends : e .value .to ≤ e .next
   pub behind : Start s (drop (suc v) ns) (e .next)

@@ -1,4 +1,5 @@
 pub mod Decide
 pub mod Lists
+pub mod Blanks
 pub mod Numerals
 pub mod Search

@@ -154,6 +154,7 @@ returns-5 c =
       kind = kind-on ns v (c .before .before .before .before .before .before .before .before) a .0;
       label = label-on ns v (c .before .before .before .before) a .0;
       value = value-on ns v c a .0;
+      order = let w = value-on ns v c a .1 in omega arith;
       ends = omega arith;
       behind = value-on ns v c a .2;
     }
