@@ -38,6 +38,9 @@
  * Bytes are taken as they are. A document or a rule needs no byte 0 at its
  * end; if one is there, it is not counted in the length.
  *
+ * Values and constants are compared without the blanks, bytes 0x20, at both
+ * their ends; document and rule are only read, and none of it is changed.
+ *
  * WHAT A CALL ASKS OF ITS BUFFERS
  *
  * A buffer is a pointer and a length. The length counts bytes, and words of

@@ -1,7 +1,8 @@
 /*
- * The archive through include/yurzhoad.h: records, the ten cases M on document X, a refusal of each
- * number, lengths of the buffers, misuse, and a document of the most nodes. It compiles as C99 and as
- * C++11. Prints each check that failed with its line, and at the end how many were made.
+ * The archive through include/yurzhoad.h: records, the ten cases M on document X, blanks at the ends of
+ * values, a refusal of each number, lengths of the buffers, misuse, and a document of the most nodes. It
+ * compiles as C99 and as C++11. Prints each check that failed with its line, and at the end how many were
+ * made.
  */
 #include "yurzhoad.h"
 #include <stdio.h>
@@ -206,17 +207,17 @@ static const selection cases[] = {
     {"(.l[:name]=..r*rl)", "01000", 19},
 };
 
-static void select_one(const selection *s, int evaluation)
+/* The call has buffers that are just long enough. */
+static void select_one(const selection *s, const call *c, int evaluation)
 {
-    call c = on_x(s->rule);
     yurzhoad_evaluation e;
     size_t selected = 0;
     size_t v;
     fill();
-    e = evaluate(evaluation, &c);
+    e = evaluate(evaluation, c);
     subject = s->rule;
     CHECK(e.number == YURZHOAD_ACCEPTED && e.place == 0);
-    for (v = 0; v < X_NODES; v++) {
+    for (v = 0; v < c->marks_length; v++) {
         CHECK(marks[v] == s->marked[v] - '0');
         selected += marks[v];
     }
@@ -226,9 +227,9 @@ static void select_one(const selection *s, int evaluation)
     } else if (s->snippets != SIZE_MAX) {
         CHECK(e.snippets == s->snippets);
     }
-    CHECK(words_are(0, X_WORDS, 0));
-    CHECK(words_are(X_WORDS, YURZHOAD_MAX_WORDS + 8, WORD));
-    CHECK(marks_are(X_NODES, YURZHOAD_MAX_NODES + 8, MARK));
+    CHECK(words_are(0, c->scratch_words, 0));
+    CHECK(words_are(c->scratch_words, YURZHOAD_MAX_WORDS + 8, WORD));
+    CHECK(marks_are(c->marks_length, YURZHOAD_MAX_NODES + 8, MARK));
 }
 
 static void test_cases(void)
@@ -242,8 +243,82 @@ static void test_cases(void)
         subject = cases[i].rule;
         CHECK(d.number == YURZHOAD_ACCEPTED && d.place == 0 && d.nodes == X_NODES);
         CHECK(r.number == YURZHOAD_ACCEPTED && r.place == 0);
-        select_one(&cases[i], PLAIN);
-        select_one(&cases[i], SNIPPETS);
+        select_one(&cases[i], &c, PLAIN);
+        select_one(&cases[i], &c, SNIPPETS);
+    }
+}
+
+/* ---- blanks at the ends of values ---- */
+
+/* X with its two names padded, each in another way. */
+static const char padded_x[] =
+    "nodes=5\n"
+    "depth=0\nkind=e\nlabel=lib\nvalue=\n"
+    "depth=1\nkind=e\nlabel=drug\nvalue=\n"
+    "depth=2\nkind=a\nlabel=name\nvalue=  heparin\n"
+    "depth=1\nkind=e\nlabel=drug\nvalue=\n"
+    "depth=2\nkind=a\nlabel=name\nvalue= heparin   \n";
+
+/* The text of the drug 1 is in two parts, with blanks where they meet and at both ends. */
+static const char padded[] =
+    "nodes=9\n"
+    "depth=0\nkind=e\nlabel=lib\nvalue=\n"
+    "depth=1\nkind=e\nlabel=drug\nvalue=\n"
+    "depth=2\nkind=a\nlabel=name\nvalue=  heparin \n"
+    "depth=2\nkind=t\nlabel=text\nvalue= 5 \n"
+    "depth=2\nkind=t\nlabel=text\nvalue= mg \n"
+    "depth=1\nkind=e\nlabel=drug\nvalue=\n"
+    "depth=2\nkind=a\nlabel=name\nvalue=heparin\n"
+    "depth=2\nkind=a\nlabel=note\nvalue=   \n"
+    "depth=2\nkind=t\nlabel=text\nvalue=5  mg\n";
+
+#define PADDED_NODES 9
+
+static const selection padded_cases[] = {
+    {"(e=\"heparin\")", "001000100", 0},
+    {"(e=\"   heparin \")", "001000100", 0},
+    {"(e!=\"heparin\")", "110111011", 0},
+    /* Blanks inside are kept, those that were joined too. */
+    {"(e=\"5  mg\")", "010001001", 0},
+    {"(e=\"  5  mg \")", "010001001", 0},
+    {"(e=\"5 mg\")", "000000000", 0},
+    {"(e=\"5mg\")", "000000000", 0},
+    /* Blanks alone are the empty value, and the empty constant. */
+    {"(e=\"\")", "000000010", 0},
+    {"(e=\"  \")", "000000010", 0},
+    {"(e<\"5\")", "000000010", 0},
+    {"(.l[:name]=..r*rl)", "010000000", SIZE_MAX},
+};
+
+/* The document lies where it could be written, and is as before afterwards. */
+static void select_padded(const selection *s, const char *document, size_t nodes)
+{
+    static char lent[sizeof padded];
+    size_t length = strlen(document);
+    call c = on_x(s->rule);
+    int evaluation;
+    memcpy(lent, document, length);
+    c.document = bytes_of(lent);
+    c.document_length = length;
+    c.scratch_words = yurzhoad_needed_words(nodes);
+    c.marks_length = nodes;
+    for (evaluation = PLAIN; evaluation < EVALUATIONS; evaluation++) {
+        select_one(s, &c, evaluation);
+        CHECK(memcmp(lent, document, length) == 0);
+    }
+}
+
+MUST(padded_x_fits, sizeof padded_x <= sizeof padded);
+
+/* On X the padding of its names changes no mark and no count. */
+static void test_padded(void)
+{
+    size_t i;
+    for (i = 0; i < sizeof cases / sizeof cases[0]; i++) {
+        select_padded(&cases[i], padded_x, X_NODES);
+    }
+    for (i = 0; i < sizeof padded_cases / sizeof padded_cases[0]; i++) {
+        select_padded(&padded_cases[i], padded, PADDED_NODES);
     }
 }
 
@@ -776,6 +851,7 @@ static void test_large(void)
 int main(void)
 {
     test_cases();
+    test_padded();
     test_documents();
     test_duplicates();
     test_rules();

@@ -4,7 +4,7 @@ use mathlib.Core.Path.{_≡_}
 use mathlib.Core.List.{List}
 use Rattle.xpath.specs.Meaning.{Less}
 use Rattle.document_spec.specs.Library.{Node}
-use Rattle.document_spec.specs.Binary.{stringOf}
+use Rattle.document_spec.specs.Binary.{comparedOf}
 use Rattle.layout.specs.Table.{RANK}
 use Rattle.layout.specs.Words.{word}
 use Rattle.constants.specs.declared.Place.{Place}
@@ -20,6 +20,6 @@ pub record Nearest (t : List ℕ) (n low v : ℕ) : Type 0 where
 
 -- each node's rank tells how its value compares with the constant c
 pub record Placed (ns : List Node) (n : ℕ) (c t : List ℕ) (p : Place) : Type 0 where
-  pub smaller : (v : ℕ) → v < n → rank t n v < p .first → Less (stringOf ns v) c
-  pub same : (v : ℕ) → v < n → p .first ≤ rank t n v → rank t n v < p .behind → stringOf ns v ≡ c
-  pub greater : (v : ℕ) → v < n → p .behind ≤ rank t n v → Less c (stringOf ns v)
+  pub smaller : (v : ℕ) → v < n → rank t n v < p .first → Less (comparedOf ns v) c
+  pub same : (v : ℕ) → v < n → p .first ≤ rank t n v → rank t n v < p .behind → comparedOf ns v ≡ c
+  pub greater : (v : ℕ) → v < n → p .behind ≤ rank t n v → Less c (comparedOf ns v)

@@ -2,19 +2,19 @@
 use layout::Table;
 use layout::words::get;
 use string_order::Order;
-use string_order::compare_constant;
-use value_order::nodes::open_node;
-use values::reading::Reading;
+use value_order::constant::compare_constant;
+use values::Reading;
+use values::value_of;
 ghost use mathlib.Core.List.{List};
 ghost use Prim.Native.Nat.{ℕ, _≤_, _<_};
 ghost use lib.ListN.{length};
 ghost use lib.Seq.{slice};
 ghost use Rattle.document_spec.specs.Library as Library;
-ghost use Rattle.document_spec.specs.Binary.{stringOf};
+ghost use Rattle.document_spec.specs.Binary.{comparedOf};
 ghost use Rattle.document_spec.specs.Verdict.{Accepts};
 ghost use Rattle.layout.specs.Table.{Room};
 ghost use Rattle.string_order.specs.Ordered.{Ordered};
-ghost use Rattle.table.specs.Tabled.{Tabled};
+ghost use Rattle.value_notes.specs.Notes.{Annotated};
 ghost use Rattle.ranks.specs.Ranks.{Ranked};
 ghost use Rattle.constants.specs.Places.{Nearest, Placed};
 
@@ -57,16 +57,16 @@ fn compare_value(
     from: usize,
     to: usize,
 ) -> Order
-    requires { ⌜ Tabled (now s) n (now t) × (v < n) × (from ≤ to) × (to ≤ length (now rule)) ⌝ }
-    ensures { λ r. ⌜ ((ns : List Library.Node) → Accepts (now (s .entry)) ns → Ordered (stringOf ns v) (slice from to (now (rule .entry))) r) ⌝ }
+    requires { ⌜ Annotated (now s) n (now t) × (v < n) × (from ≤ to) × (to ≤ length (now rule)) ⌝ }
+    ensures { λ r. ⌜ ((ns : List Library.Node) → Accepts (now (s .entry)) ns → Ordered (comparedOf ns v) (slice from to (now (rule .entry))) r) ⌝ }
 {
-    let r: Reading = open_node(s, t, n, v);
-    compare_constant(s, r, rule, from, to)
+    let x: Reading = value_of(t, n, v);
+    compare_constant(s, t, n, x, rule, from, to)
 }
 
 // The place of the constant that stands in the rule from one offset up to another.
 pub fn find_place(s: &[u8], rule: &[u8], t: &[u16], n: usize, from: usize, to: usize) -> Place
-    requires { ⌜ Tabled (now s) n (now t) × (from ≤ to) × (to ≤ length (now rule)) ⌝ }
+    requires { ⌜ Annotated (now s) n (now t) × (from ≤ to) × (to ≤ length (now rule)) ⌝ }
     ensures { λ r. ⌜ ((ns : List Library.Node) → Accepts (now (s .entry)) ns → Ranked ns (now (t .entry)) → Placed ns n (slice from to (now (rule .entry))) (now (t .entry)) r) ⌝ }
 {
     let mut lo = 0;
@@ -99,7 +99,7 @@ pub fn find_place(s: &[u8], rule: &[u8], t: &[u16], n: usize, from: usize, to: u
 // How the value of node `v` compares with the constant that has this place.
 pub fn compare_rank(t: &[u16], n: usize, v: usize, p: Place) -> Order
     requires { ⌜ Room n (now t) × (v < n) ⌝ }
-    ensures { λ r. ⌜ ((ns : List Library.Node) (c : List ℕ) → Placed ns n c (now (t .entry)) p → Ordered (stringOf ns v) c r) ⌝ }
+    ensures { λ r. ⌜ ((ns : List Library.Node) (c : List ℕ) → Placed ns n c (now (t .entry)) p → Ordered (comparedOf ns v) c r) ⌝ }
 {
     let r = get(t, n, Table::RANK, v);
     if r < p.first {

@@ -2,11 +2,12 @@
 use Prim.Native.Nat.{ℕ, zero, suc, _≤_, _<_}
 use mathlib.Core.Path.{_≡_, refl, sym, ap, _∙_}
 use mathlib.Core.Logic.{inl, inr, ⊎-elim, _≢_}
-use mathlib.Core.List.{List, [], _∷_, _++_}
+use mathlib.Core.List.{List, [], _∷_, _++_, map}
 use native.Mathlib.Omega.{arith}
 use lib.ListN.{length, getD}
 use lib.Dec.{lit<, lit≤}
 use Rattle.lists.specs.Lists.{All}
+use Rattle.lists.specs.Blanks.{trim, trimEnd, trimStart}
 use Rattle.lists.specs.Text.{bytes, Letter, NameByte, digitsBy, digits, decimal}
 use Rattle.limits.specs.Names.{Name}
 use Rattle.lists.specs.Numerals.{reading}
@@ -14,6 +15,7 @@ use Rattle.lists.proofs.Lists.{all-imp}
 use Rattle.lists.proofs.Numerals.{reading-decimal}
 use Rattle.refusals.specs.Refusals.{lineForm, nodeCount, treeRule, duplicateAttribute, First}
 use Rattle.document_spec.specs.Library.{Node, Kind, element, attribute, text, Value, DepthBehind, KindBehind, LabelRule, ValueRule, at, Legal, kindLine, nodeLines, spell}
+use Rattle.document_spec.specs.Binary.{comparedOf, treeOf}
 use Rattle.document_spec.specs.Example.{node, root, drug, name, X, textX}
 use Rattle.document_spec.specs.Verdict.{firstLine, behindLine, behindLines, line, CountIs, DepthIs, KindIs, Breaks, Duplicate, DocumentGround, Accepts}
 use Rattle.document_spec.specs.Fields.{depth, kind}
@@ -193,3 +195,22 @@ twice =
     both (suc zero) h l = refl
     both (suc (suc zero)) h l = refl
     both (suc (suc (suc i))) h l = absurd (omega arith)
+
+-- ── Blanks (02, b) ──
+-- a name with blanks around it, and an element whose text is blank in parts
+abbrev pub padded : List Node
+padded =
+    node 0 element (bytes "drug") []
+    ∷ node 1 attribute (bytes "name") (bytes "  heparin ")
+    ∷ node 1 text [] (bytes "  ")
+    ∷ node 1 text [] (bytes " a ")
+    ∷ node 1 element (bytes "unit") []
+    ∷ node 2 text [] (bytes " ")
+    ∷ node 2 text [] (bytes "b c ")
+    ∷ node 1 text [] (bytes "   ")
+    ∷ []
+
+-- blanks between and inside texts are kept, those at the ends of the joined text are not, and blanks alone make the empty value
+pub padded-values : map (treeOf padded .value) (0 ∷ 1 ∷ 2 ∷ 3 ∷ 4 ∷ 7 ∷ []) ≡ bytes "a  b c" ∷ bytes "heparin" ∷ [] ∷ bytes "a" ∷ bytes "b c" ∷ [] ∷ []
+unfolding comparedOf trim trimEnd trimStart
+padded-values = refl

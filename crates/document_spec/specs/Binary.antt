@@ -1,9 +1,10 @@
--- The binary tree and the string values that a library stands for: 01, the library document, behind the tree rules; 000, 1.2.1.
+-- The binary tree and the string values that a library stands for: 01, the library document, behind the tree rules; 000, 1.2.1; 02 (b).
 use Prim.Native.Nat.{ℕ, zero, suc}
 use mathlib.Core.Bool.{Bool, true, false}
 use mathlib.Core.List.{List, [], _∷_, _++_}
 use lib.ListN.{length, drop}
 use lib.Dec.{eqb, ltb}
+use Rattle.lists.specs.Blanks.{trim}
 use Rattle.xpath.specs.Tree.{Tree}
 use Rattle.document_spec.specs.Library.{Node, element, attribute, text, at}
 
@@ -41,11 +42,15 @@ joined d (n ∷ ns) = pick (ltb d (n .depth)) (textOf n ++ joined d ns) []
 abbrev pub stringOf : List Node → ℕ → List ℕ
 stringOf ns v = elim (at ns v .kind) [ element ↦ joined (at ns v .depth) (drop (suc v) ns) | attribute ↦ at ns v .value | text ↦ at ns v .value ]
 
+-- 02 (b): the value that is compared is the string value without the blanks at its ends, cut after an element's text is joined
+unfoldable pub comparedOf : List Node → ℕ → List ℕ
+comparedOf ns v = trim (stringOf ns v)
+
 abbrev pub treeOf : List Node → Tree
 treeOf ns = record {
   size = length ns;
   parent = parentOf ns;
   isLeft = isFirst ns;
   label = λ v. at ns v .label;
-  value = stringOf ns;
+  value = comparedOf ns;
 }

@@ -26,7 +26,6 @@ use Rattle.test_numbers.specs.Tests.{testsOf, test}
 use Rattle.test_numbers.proofs.Counts.{tests-few}
 use Rattle.test_numbers.proofs.Following.{inner-not, inner-two}
 use Rattle.driver.specs.Tasks.{Shape, Task, Tells, Decided}
-use Rattle.driver.proofs.Frames.{scene-tabled}
 use Rattle.driver.proofs.Answers.{some-nodes}
 use Rattle.driver.proofs.Settling.{decided}
 
@@ -60,7 +59,7 @@ module _ {s rule : List ℕ} {ns : List Node} {T : Test} {n at k : ℕ} {t : Lis
   number-small = let f = tests-few (task .accepts) in let l = task .number in omega arith
 
   pub tabled : Tabled s n t
-  tabled = scene-tabled (task .scene) (some-nodes task)
+  tabled = task .scene .annotated .tabled
 
   pub room : Room n t
   room = tabled .room

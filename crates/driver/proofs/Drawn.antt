@@ -6,13 +6,14 @@ use mathlib.Core.Logic.{_↔_}
 use mathlib.Core.Bool.{Bool, true, false}
 use mathlib.Core.List.{List}
 use lib.ListN.{length, getD}
+use Rattle.lists.specs.Blanks.{trim}
 use Rattle.limits.specs.Limits.{scratchWords}
 use Rattle.bits.specs.Sets.{bit, and}
 use Rattle.xpath.specs.Syntax.{Op, Test, XPath, stay}
 use Rattle.xpath.specs.Meaning.{Less, Rel, Holds}
 use Rattle.xpath.specs.Tree.{Child}
 use Rattle.document_spec.specs.Library.{Node}
-use Rattle.document_spec.specs.Binary.{stringOf, treeOf}
+use Rattle.document_spec.specs.Binary.{comparedOf, treeOf}
 use Rattle.layout.specs.Part.{STAYS, HIT}
 use Rattle.layout.specs.Table.{COLUMNS, LEFT, RANK, PARENT, column}
 use Rattle.layout.proofs.Frames.{before-within}
@@ -53,10 +54,10 @@ module _ {s : List ℕ} {ns : List Node} {n : ℕ} {t t₁ t₂ t₃ : List ℕ}
     children = λ side v l. told (λ m x. Points (Child (treeOf ns) side v) x) (column side) v (column-low side .0) (column-low side .1) l (scene .linked .children side v (inside v l));
     parents = λ v l. told (λ m x. IsParent ns v x) PARENT v (omega arith) (omega arith) l (scene .linked .parents v (inside v l));
     small = λ v l. told (λ m x. x < m) RANK v (omega arith) (omega arith) l (scene .ranked .small v (inside v l));
-    ordered = λ v w l k. subst (λ x. (x < word p n RANK w) ↔ Less (stringOf ns v) (stringOf ns w)) (rank v l)
-        (subst (λ y. (word t (length ns) RANK v < y) ↔ Less (stringOf ns v) (stringOf ns w)) (rank w k) (scene .ranked .ordered v w (inside v l) (inside w k)));
-    same = λ v w l k. subst (λ x. (x ≡ word p n RANK w) ↔ (stringOf ns v ≡ stringOf ns w)) (rank v l)
-        (subst (λ y. (word t (length ns) RANK v ≡ y) ↔ (stringOf ns v ≡ stringOf ns w)) (rank w k) (scene .ranked .same v w (inside v l) (inside w k)));
+    ordered = λ v w l k. subst (λ x. (x < word p n RANK w) ↔ Less (comparedOf ns v) (comparedOf ns w)) (rank v l)
+        (subst (λ y. (word t (length ns) RANK v < y) ↔ Less (comparedOf ns v) (comparedOf ns w)) (rank w k) (scene .ranked .ordered v w (inside v l) (inside w k)));
+    same = λ v w l k. subst (λ x. (x ≡ word p n RANK w) ↔ (comparedOf ns v ≡ comparedOf ns w)) (rank v l)
+        (subst (λ y. (word t (length ns) RANK v ≡ y) ↔ (comparedOf ns v ≡ comparedOf ns w)) (rank w k) (scene .ranked .same v w (inside v l) (inside w k)));
     tests = λ v j l h. subst (λ x. (x ≡ true) ↔ ((T : Test) × IsStep P R j (stay T) × Holds (treeOf ns) T v))
         (sym (stays v j l h)) (tests v j l h);
   }
@@ -74,4 +75,4 @@ module _ {s : List ℕ} {ns : List Node} {n : ℕ} {t t₁ t₂ t₃ : List ℕ}
 pub judges : {ns : List Node} {n : ℕ} {t t′ : List ℕ} {o : Op} {c : List ℕ} (pos : 0 < n) (room : scratchWords n ≤ length t′)
     → Judged ns n o c t t′ → Judges o c (treeOf ns) n (part n t′ pos room)
 judges {ns} {n} {t} {t′} {o} {c} pos room j v l =
-    subst (λ x. (x ≡ 1) ↔ Rel o (stringOf ns v) c) (sym (part-word n t′ pos room HIT v (omega arith) l)) (j .done v l)
+    subst (λ x. (x ≡ 1) ↔ Rel o (comparedOf ns v) (trim c)) (sym (part-word n t′ pos room HIT v (omega arith) l)) (j .done v l)

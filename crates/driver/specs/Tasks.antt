@@ -18,6 +18,7 @@ use Rattle.rule_spec.specs.Verdict as Rule
 use Rattle.layout.specs.Table.{COLUMNS, TESTS}
 use Rattle.layout.specs.Words.{word, Frame}
 use Rattle.table.specs.Links.{Linked}
+use Rattle.value_notes.specs.Notes.{Annotated}
 use Rattle.ranks.specs.Ranks.{Ranked}
 use Rattle.rule_parts.specs.Standing.{TestAt, PathAt}
 use Rattle.rule_parts.specs.Kinds.{operator}
@@ -32,11 +33,12 @@ use Rattle.evaluators.specs.Evaluators.{Adds}
 use Rattle.evaluators.specs.declared.Evaluator.the-variants.{Plain, Snippets}
 
 -- ── What a test finds ──
--- the scratch holds the tree of the accepted document and the ranks of its values
+-- the scratch holds the tree of the accepted document, the notes of its values and their ranks
 pub record Scene (s : List ℕ) (ns : List Node) (n : ℕ) (t : List ℕ) : Type 0 where
   pub library : Document.Accepts s ns
   pub size : length ns ≡ n
   pub linked : Linked s ns t
+  pub annotated : Annotated s n t
   pub ranked : Ranked ns t
   pub room : scratchWords n ≤ length t
 

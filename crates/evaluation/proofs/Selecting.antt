@@ -89,8 +89,9 @@ module _ (t marks : List ℕ) {document rule : List ℕ} {ns : List Node} {T : T
 
       pub scene : Scene document ns n t₂
       scene =
-          let h = enough in let e = behind-table .long in
-          record { library = a .library; size = size; linked = ranked .linked; ranked = ranked .ranked; room = omega arith }
+          let h = a .room in let e = behind-table .long in
+          subst (λ m. Scene document ns m t₂) size
+          (record { library = a .library; size = refl; linked = ranked .linked; annotated = ranked .annotated; ranked = ranked .ranked; room = omega arith })
 
       module _ {e : Evaluator} {t₃ : List ℕ} {c : ℕ} (settle : (ms : List Node) (U : Test) → Scene document ms n t₂ → Rule.Accepts rule U → Evaluates e ms n U t₂ t₃ c) where
         settled : Settling ns n 0 T t₂ t₃

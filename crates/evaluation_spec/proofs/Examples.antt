@@ -8,6 +8,7 @@ use mathlib.Core.List.{List, [], _∷_, map}
 use lib.Dec.{T, eqb, ltb, ltb→lt}
 use Rattle.lists.specs.Lists.{Occurs}
 use Rattle.lists.specs.Text.{binaryDigits, digits, digitsBy}
+use Rattle.lists.specs.Blanks.{trim, trimEnd, trimStart}
 use Rattle.limits.specs.Limits.{scratchWords}
 use Rattle.refusals.specs.Refusals.{Refusal}
 use Rattle.xpath.specs.Syntax.{Test}
@@ -15,7 +16,7 @@ use Rattle.xpath.specs.Meaning.{Holds}
 use Rattle.xpath.specs.Order.{both, either}
 use Rattle.xpath.proofs.Decide.{holdsb, holds-iff, someBelow, some-iff, allb, each-by, neg, sideb, side-iff, T-both, T-either, T-neg, eqb-iff, ⊎-iff, trans}
 use Rattle.document_spec.specs.Library.{Node}
-use Rattle.document_spec.specs.Binary.{treeOf}
+use Rattle.document_spec.specs.Binary.{treeOf, comparedOf}
 use Rattle.document_spec.specs.Example.{X, textX}
 use Rattle.document_spec.specs.Verdict as Document
 use Rattle.document_spec.proofs.Binary.{tree-formed}
@@ -63,7 +64,7 @@ abbrev rightb : Case → Bool
 rightb c = rightly (answer ruleStart (c .rule)) (verdict (c .rule)) (c .marks)
 
 computed : T (allb rightb cases)
-unfolding verdict grounds earliest earlier unreadAt deepAt manyTestsAt manyStepsAt leastOf over move rest isLetter isNameByte isPrintable parts testParts pathParts stepParts Parts.tests spellTest spellPath spellStep
+unfolding verdict grounds earliest earlier unreadAt deepAt manyTestsAt manyStepsAt leastOf over move rest isLetter isNameByte isPrintable parts testParts pathParts stepParts Parts.tests spellTest spellPath spellStep comparedOf trim trimEnd trimStart
 computed = tt
 
 -- ── What it shows ──

@@ -1,5 +1,6 @@
 pub mod Words
 pub mod Table
+pub mod Values
 pub mod Ranking
 pub mod Part
 pub mod Groups

@@ -34,7 +34,7 @@ LAST = 6
 
 -- when the nodes are ranked: a bit for each test, in as many columns as the tests take
 abbrev pub TESTS : ℕ
-TESTS = 8
+TESTS = 12
 
 -- the children on a side
 abbrev pub column : Bool → ℕ

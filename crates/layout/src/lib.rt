@@ -27,7 +27,7 @@ impl Table {
     pub const LAST: usize = 6;
 
     // When the nodes are ranked: a bit for each test, in as many columns as the tests take.
-    pub const TESTS: usize = 8;
+    pub const TESTS: usize = 12;
 
     pub const COLUMNS: usize = Scratch::TREE_WORDS;
 
@@ -35,26 +35,37 @@ impl Table {
     pub const NONE: usize = Scratch::WORD_VALUES - 1;
 }
 
-// The columns of the table that the ranking uses, and nobody behind it.
+// The columns of the table that tell where the value of each node lies; they stay when the nodes are ranked.
+pub struct Values;
+
+impl Values {
+    // A note of a node's value: the offset of its bytes in two words, their number, and the blanks around them.
+    pub const LOW: usize = 6;
+
+    pub const HIGH: usize = 7;
+
+    pub const LENGTH: usize = 8;
+
+    pub const BLANKS: usize = 9;
+
+    // The next node behind a node that has text.
+    pub const NEXT: usize = 10;
+}
+
+// The columns of the table that the ranking uses, and nobody behind it: they get the bits of the tests.
 pub struct Ranking;
 
 impl Ranking {
     // The nodes so far, by rising value.
-    pub const ORDER: usize = 6;
+    pub const ORDER: usize = 12;
 
-    // The first and the last node with text under a node.
-    pub const FIRST_TEXT: usize = 7;
+    // A node with the same value.
+    pub const TWIN: usize = 13;
 
-    pub const LAST_TEXT: usize = 8;
+    // The first and the last node under a node with text that is not blank.
+    pub const FIRST_TEXT: usize = 14;
 
-    // A note of a node's value: the node where it begins, and the offset of its bytes and their number, where one span has them all.
-    pub const FIRST: usize = 9;
-
-    pub const LOW: usize = 10;
-
-    pub const HIGH: usize = 11;
-
-    pub const LENGTH: usize = 12;
+    pub const LAST_TEXT: usize = 15;
 }
 
 // The columns of a comparison's part; the links and the rank stand in the same columns as in the table.

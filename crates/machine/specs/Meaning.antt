@@ -5,6 +5,7 @@ use mathlib.Core.Logic.{_⊎_, _↔_}
 use mathlib.Core.Bool.{Bool, true}
 use mathlib.Core.List.{List, _++_}
 use lib.ListN.{length, getD}
+use Rattle.lists.specs.Blanks.{trim}
 use Rattle.limits.specs.Limits.{documentNodes, positions, comparisonSteps}
 use Rattle.bits.specs.Sets.{bit}
 use Rattle.xpath.specs.Syntax.{Op, Test, XPath, Step, toLeft, toRight, fromLeft, fromRight, stay, steps, size}
@@ -48,4 +49,4 @@ pub record Drawn (P R : XPath) (t : Tree) (n : ℕ) (p : List ℕ) : Type 0 wher
 
 -- where the value is in the relation to the constant
 abbrev pub Judges : Op → List ℕ → Tree → ℕ → List ℕ → Type 0
-Judges o c t n p = (v : ℕ) → v < n → (word p n HIT v ≡ 1) ↔ Rel o (t .value v) c
+Judges o c t n p = (v : ℕ) → v < n → (word p n HIT v ≡ 1) ↔ Rel o (t .value v) (trim c)

@@ -8,7 +8,7 @@ use native.Mathlib.Decide.{ℕ-discrete}
 use Rattle.xpath.specs.Meaning.{Less}
 use Rattle.xpath.proofs.Order.{less-irreflexive, less-distinct, less-trichotomous}
 use Rattle.document_spec.specs.Library.{Node}
-use Rattle.document_spec.specs.Binary.{before, stringOf}
+use Rattle.document_spec.specs.Binary.{before, comparedOf}
 use Rattle.bits.specs.Sets.{one}
 use Rattle.value_order.specs.Less.{isSmaller}
 use Rattle.ranks.specs.Sorting.{Le, dense}
@@ -17,7 +17,7 @@ use Rattle.value_order.proofs.Less.{one-le, one-less, one-not}
 -- ── The numbers, from one entry to the next ──
 module _ (ns : List Node) (e : ℕ → ℕ) where
   abbrev val : ℕ → List ℕ
-  val i = stringOf ns (e i)
+  val i = comparedOf ns (e i)
 
   pub dense-zero : dense ns e 0 ≡ 0
   unfolding dense

@@ -9,20 +9,19 @@ use native.Mathlib.Decide.{decLt}
 use Rattle.xpath.specs.Meaning.{Less}
 use Rattle.xpath.proofs.Order.{less-irreflexive, less-trichotomous}
 use Rattle.document_spec.specs.Library.{Node}
-use Rattle.document_spec.specs.Binary.{stringOf}
+use Rattle.document_spec.specs.Binary.{comparedOf}
 use Rattle.document_spec.specs.Verdict.{Accepts}
 use Rattle.layout.specs.Table.{RANK}
 use Rattle.layout.specs.Words.{word}
-use Rattle.layout.proofs.Frames.{within-then}
+use Rattle.layout.proofs.Frames.{within-then, within-more}
 use Rattle.table.specs.Links.{Linked}
-use Rattle.table.specs.Tabled.{Tabled}
+use Rattle.table.specs.Tabled.{Tabled, Worked}
 use Rattle.table.proofs.Trees.{tree-size}
 use Rattle.table.proofs.Worked.{worked-linked, worked-kept}
-use Rattle.value_notes.specs.Notes.{Noted}
-use Rattle.value_notes.proofs.Marking.{noted-worked}
+use Rattle.value_notes.specs.Notes.{Annotated, Noted}
+use Rattle.value_notes.proofs.Annotated.{annotated-ranks}
 use Rattle.ranks.specs.Ranks.{Ranked, Written}
 use Rattle.ranks.specs.Sorting.{entry, Sorted, dense, Sorting, Numbered}
-use Rattle.ranks.proofs.Arranged.{arranged-worked}
 use Rattle.ranks.proofs.Dense.{dense-small, dense-lt, dense-same}
 
 -- ── From one direction to both: values and numbers are each in one of three orders ──
@@ -50,7 +49,7 @@ module _ (ns : List Node) (n : ℕ) (t t′ : List ℕ) (size : length ns ≡ n)
   number v = word t′ n RANK v
 
   abbrev val : ℕ → List ℕ
-  val i = stringOf ns (entry t n i)
+  val i = comparedOf ns (entry t n i)
 
   rises : (i j : ℕ) → i < n → j < n → Less (val i) (val j) → number (entry t n i) < number (entry t n j)
   rises i j a b h = go (decLt i j) (decLt j i)
@@ -71,38 +70,48 @@ module _ (ns : List Node) (n : ℕ) (t t′ : List ℕ) (size : length ns ≡ n)
 
   small : (v : ℕ) → v < n → number v < n
   small v l =
-      let (i, r, e) = g .every v l in
+      let (i, r, e) = g .every v (omega arith) l in
       let x = done i r in let y = dense-small ns (λ k. entry t n k) i in let z = ap (λ (k : ℕ). number k) e in
       omega arith
 
-  up : (v w : ℕ) → v < n → w < n → Less (stringOf ns v) (stringOf ns w) → number v < number w
+  up : (v w : ℕ) → v < n → w < n → Less (comparedOf ns v) (comparedOf ns w) → number v < number w
   up v w l r =
-      let (i, a, e) = g .every v l in let (j, b, f) = g .every w r in
-      subst₂ (λ x y. Less (stringOf ns x) (stringOf ns y) → number x < number y) e f (rises i j a b)
+      let (i, a, e) = g .every v (omega arith) l in let (j, b, f) = g .every w (omega arith) r in
+      subst₂ (λ x y. Less (comparedOf ns x) (comparedOf ns y) → number x < number y) e f (rises i j a b)
 
-  same : (v w : ℕ) → v < n → w < n → stringOf ns v ≡ stringOf ns w → number v ≡ number w
+  same : (v w : ℕ) → v < n → w < n → comparedOf ns v ≡ comparedOf ns w → number v ≡ number w
   same v w l r =
-      let (i, a, e) = g .every v l in let (j, b, f) = g .every w r in
-      subst₂ (λ x y. stringOf ns x ≡ stringOf ns y → number x ≡ number y) e f (agrees i j a b)
+      let (i, a, e) = g .every v (omega arith) l in let (j, b, f) = g .every w (omega arith) r in
+      subst₂ (λ x y. comparedOf ns x ≡ comparedOf ns y → number x ≡ number y) e f (agrees i j a b)
 
   pub ranked : Ranked ns t′
   ranked =
       record {
         small = λ v l. subst (λ m. word t′ m RANK v < m) (sym size) (small v (omega arith));
-        ordered = λ v w l r. subst (λ m. (word t′ m RANK v < word t′ m RANK w) ↔ Less (stringOf ns v) (stringOf ns w)) (sym size)
+        ordered = λ v w l r. subst (λ m. (word t′ m RANK v < word t′ m RANK w) ↔ Less (comparedOf ns v) (comparedOf ns w)) (sym size)
             (both-less (up v w (omega arith) (omega arith)) (same v w (omega arith) (omega arith)) (up w v (omega arith) (omega arith)));
-        same = λ v w l r. subst (λ m. (word t′ m RANK v ≡ word t′ m RANK w) ↔ (stringOf ns v ≡ stringOf ns w)) (sym size)
+        same = λ v w l r. subst (λ m. (word t′ m RANK v ≡ word t′ m RANK w) ↔ (comparedOf ns v ≡ comparedOf ns w)) (sym size)
             (both-same (up v w (omega arith) (omega arith)) (same v w (omega arith) (omega arith)) (up w v (omega arith) (omega arith)));
       }
 
 -- marked, then sorted, and then numbered
 pub written : {s : List ℕ} {n : ℕ} {t t₁ t₂ t₃ : List ℕ} → Tabled s n t → Noted n t t₁ → Sorting s n n t₁ t₂ → Numbered s n t₂ t₃
     → (ns : List Node) → Accepts s ns → Linked s ns t → Written s ns t t₃
-written {n} {t₂} {t₃} h o p q ns a k =
-    let all = within-then (noted-worked o) (arranged-worked (within-then (p .arranged) (q .arranged))) in
-    let g = p .sorted ns a in
+written {s} {n} {t} {t₁} {t₂} {t₃} h o p q ns a k =
     record {
-      ranked = ranked ns n t₂ t₃ (tree-size h ns a) g (q .done ns a g);
+      ranked = ranked ns n t₂ t₃ size g (q .done ns a g);
       linked = worked-linked h all ns a k;
+      annotated = subst (λ m. Annotated s m t₃) (sym size) (annotated-ranks (p .prepared .annotated) (q .within));
       kept = worked-kept h all ns a;
     }
+  where
+    size : length ns ≡ n
+    size = tree-size h ns a
+
+    g : Sorted ns n n t₂
+    g = p .sorted ns a
+
+    all : Worked n t t₃
+    all =
+        within-then (within-more (omega arith) (omega arith) o)
+        (within-then (within-more (omega arith) (omega arith) (p .arranged)) (within-more (omega arith) (omega arith) (q .within)))

@@ -1,4 +1,4 @@
-// Ranks of the nodes of an accepted document: numbers that are in the order of the string values.
+// Ranks of the nodes of an accepted document: numbers that are in the order of the compared values.
 mod number;
 mod sort;
 

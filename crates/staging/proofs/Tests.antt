@@ -54,7 +54,7 @@ Gathers t n brackets numbers v x = (j : ℕ) → j < 16 → bit x j ≡ stays t 
 -- the tests are told by columns before this one
 held-same : (n k v : ℕ) (t t′ : List ℕ) → k < 64 → v < n → ((i : ℕ) → i < (COLUMNS + STAYS) * n → getD t′ i 0 ≡ getD t i 0) → held t′ n k v ≡ held t n k v
 held-same n k v t t′ h r same =
-    let b : (TESTS + k / 16) * n ≤ 11 * n = mul-le-mul-right n (omega arith) in
+    let b : (TESTS + k / 16) * n ≤ (TESTS + 3) * n = mul-le-mul-right n (omega arith) in
     ap (λ (w : ℕ). bit w (k % 16)) (same (cell n (TESTS + k / 16) v) (omega arith))
 
 pub gathers-same : (n brackets : ℕ) (numbers t t′ : List ℕ) (v x : ℕ) {F : ℕ → ℕ → Type 0} {m i : ℕ} → ((j : ℕ) → j < 16 → getD numbers j 0 < 64) → v < n

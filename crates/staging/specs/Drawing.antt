@@ -5,11 +5,12 @@ use mathlib.Core.Logic.{_↔_}
 use mathlib.Core.List.{List}
 use lib.ListN.{getD}
 use Rattle.limits.specs.Limits.{positions}
+use Rattle.lists.specs.Blanks.{trim}
 use Rattle.bits.specs.Sets.{bit, and}
 use Rattle.xpath.specs.Syntax.{Op}
 use Rattle.xpath.specs.Meaning.{Rel}
 use Rattle.document_spec.specs.Library.{Node}
-use Rattle.document_spec.specs.Binary.{stringOf}
+use Rattle.document_spec.specs.Binary.{comparedOf}
 use Rattle.layout.specs.Part.{STAYS, HIT}
 use Rattle.layout.specs.Table.{COLUMNS, LEFT, RANK}
 use Rattle.layout.specs.Words.{word, Within}
@@ -28,4 +29,4 @@ pub record Stayed (n brackets : ℕ) (numbers : List ℕ) (t t′ : List ℕ) : 
 -- where the value is in the relation o to the constant c
 pub record Judged (ns : List Node) (n : ℕ) (o : Op) (c : List ℕ) (t t′ : List ℕ) : Type 0 where
   pub within : Within n (COLUMNS + HIT) (COLUMNS + HIT + 1) t t′
-  pub done : (v : ℕ) → v < n → (word t′ n (COLUMNS + HIT) v ≡ 1) ↔ Rel o (stringOf ns v) c
+  pub done : (v : ℕ) → v < n → (word t′ n (COLUMNS + HIT) v ≡ 1) ↔ Rel o (comparedOf ns v) (trim c)

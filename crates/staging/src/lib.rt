@@ -3,9 +3,11 @@ mod relations;
 
 use bits::has;
 use bits::insert;
+use blanks::trim;
 use constants::Place;
 use constants::compare_rank;
 use constants::find_place;
+use document_lines::entries::Span;
 use layout::Part;
 use layout::Table;
 use limits::Rule;
@@ -23,11 +25,11 @@ ghost use Rattle.bits.specs.Sets.{bit, and};
 ghost use Rattle.xpath.specs.Syntax.{Op};
 ghost use Rattle.xpath.specs.Meaning.{Rel};
 ghost use Rattle.document_spec.specs.Library as Library;
-ghost use Rattle.document_spec.specs.Binary.{stringOf};
+ghost use Rattle.document_spec.specs.Binary.{comparedOf};
 ghost use Rattle.document_spec.specs.Verdict.{Accepts};
 ghost use Rattle.layout.specs.Part.{HIT};
 ghost use Rattle.layout.specs.Table.{Room, COLUMNS};
-ghost use Rattle.table.specs.Tabled.{Tabled};
+ghost use Rattle.value_notes.specs.Notes.{Annotated};
 ghost use Rattle.ranks.specs.Ranks.{Ranked};
 ghost use Rattle.rule_parts.specs.Kinds.{operator};
 ghost use Rattle.test_bits.specs.Columns.{held};
@@ -93,13 +95,13 @@ pub fn draw_tests(t: &mut [u16], n: usize, brackets: u16, numbers: [usize; Rule:
 // 1 if the value of node `v` is in the relation to the constant that has this place.
 fn hit(t: &[u16], n: usize, v: usize, p: Place, o: Operator) -> u16
     requires { ⌜ Room n (now t) × (v < n) ⌝ }
-    ensures { λ r. ⌜ ((ns : List Library.Node) (q : Op) (c : List ℕ) → Placed ns n c (now (t .entry)) p → o ≡ operator q → (r ≡ 1) ↔ Rel q (stringOf ns v) c) ⌝ }
+    ensures { λ r. ⌜ ((ns : List Library.Node) (q : Op) (c : List ℕ) → Placed ns n c (now (t .entry)) p → o ≡ operator q → (r ≡ 1) ↔ Rel q (comparedOf ns v) c) ⌝ }
 {
     let c = compare_rank(t, n, v, p);
     if fits(c, o) { 1 } else { 0 }
 }
 
-// Where the value is in the relation to the constant that stands in the rule from one offset up to another.
+// Where the value is in the relation to the constant that stands in the rule from one offset up to another; blanks at its ends do not count.
 pub fn draw_hits(
     s: &[u8],
     rule: &[u8],
@@ -109,10 +111,11 @@ pub fn draw_hits(
     to: usize,
     o: Operator,
 )
-    requires { ⌜ Tabled (now s) n (now t) × ((COLUMNS + HIT + 1) * n ≤ length (now t)) × (from ≤ to) × (to ≤ length (now rule)) ⌝ }
+    requires { ⌜ Annotated (now s) n (now t) × ((COLUMNS + HIT + 1) * n ≤ length (now t)) × (from ≤ to) × (to ≤ length (now rule)) ⌝ }
     ensures { λ _. ⌜ ((ns : List Library.Node) (q : Op) → Accepts (now (s .entry)) ns → Ranked ns (now (t .entry)) → o ≡ operator q → Judged ns n q (slice from to (now (rule .entry))) (now (t .entry)) (now (t .exit))) ⌝ }
 {
-    let p = find_place(s, rule, t, n, from, to);
+    let c = trim(rule, Span { from, to });
+    let p = find_place(s, rule, t, n, c.from, c.to);
     let column = HIT * n;
     let mut v = 0;
     while v < n {

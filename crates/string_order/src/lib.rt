@@ -1,15 +1,13 @@
 // The order of two strings that are read where they stand: by unsigned bytes, a proper prefix being smaller.
-use values::reading::Byte;
-use values::reading::Reading;
-use values::reading::advance;
-ghost use mathlib.Core.List.{List, []};
-ghost use Prim.Native.Nat.{ℕ, _≤_};
+mod blocks;
+
+use blocks::BLOCK;
+use blocks::same_blocks;
+ghost use mathlib.Core.List.{List, _∷_};
+ghost use mathlib.Core.Logic.{_≢_};
+ghost use Prim.Native.Nat.{ℕ, _+_, _≤_};
 ghost use lib.ListN.{length};
-ghost use lib.Seq.{slice};
-ghost use Rattle.document_spec.specs.Library as Library;
-ghost use Rattle.values.specs.declared.reading.Reading.{Reading as Cursor};
-ghost use Rattle.values.specs.Comes.{Comes, Readable, Advanced};
-ghost use Rattle.string_order.specs.Ordered.{Ordered};
+ghost use Rattle.string_order.specs.Ordered.{Ordered, Begins, Agrees};
 
 // How the first of two strings compares with the second.
 pub enum Order {
@@ -18,66 +16,33 @@ pub enum Order {
     Greater,
 }
 
-// Nothing against the string that goes on with this byte, or has ended too.
-fn ended(b: Byte) -> Order
-    ensures { λ r. ⌜ ((s : List ℕ) (ns : List Library.Node) (c : Cursor) (cs : List ℕ) → Advanced s ns c cs b → Ordered [] cs r) ⌝ }
+// How many of `most` bytes are the same, where the first `from` are known to be.
+fn agree_from(x: &[u8], i: usize, y: &[u8], j: usize, most: usize, from: usize) -> usize
+    requires { ⌜ (i + most ≤ length (now x)) × (j + most ≤ length (now y)) × Begins (now x) i (now y) j most from ⌝ }
+    ensures { λ r. ⌜ Agrees (now (x .entry)) i (now (y .entry)) j most r ⌝ }
 {
-    match b {
-        Byte::Next(_, _) => Order::Less,
-        Byte::End => Order::Same,
+    let mut k = from;
+    while k < most && x[i + k] == y[j + k] {
+        k += 1;
     }
+    k
 }
 
-// The values that two cursors have to come.
-pub fn compare(s: &[u8], v: Reading, w: Reading) -> Order
-    requires { ⌜ ((ns : List Library.Node) × (bs cs : List ℕ) × Comes (now s) ns v bs × Comes (now s) ns w cs) ⌝ }
-    ensures { λ r. ⌜ ((ns : List Library.Node) (bs cs : List ℕ) → Comes (now (s .entry)) ns v bs → Comes (now (s .entry)) ns w cs → Ordered bs cs r) ⌝ }
+// How many of `most` bytes are the same in `x` from `i` on and in `y` from `j` on. Strings of a block or less would lose by blocks.
+pub fn agree(x: &[u8], i: usize, y: &[u8], j: usize, most: usize) -> usize
+    requires { ⌜ (i + most ≤ length (now x)) × (j + most ≤ length (now y)) ⌝ }
+    ensures { λ r. ⌜ Agrees (now (x .entry)) i (now (y .entry)) j most r ⌝ }
 {
-    let mut i = v;
-    let mut j = w;
-    loop {
-        let a = advance(s, i);
-        let b = advance(s, j);
-        let Byte::Next(p, k) = a else {
-            return ended(b);
-        };
-        let Byte::Next(q, l) = b else {
-            return Order::Greater;
-        };
-        if p < q {
-            return Order::Less;
-        }
-        if q < p {
-            return Order::Greater;
-        }
-        i = k;
-        j = l;
+    if most <= BLOCK {
+        return agree_from(x, i, y, j, most, 0);
     }
+    let k = same_blocks(x, i, y, j, most);
+    agree_from(x, i, y, j, most, k)
 }
 
-// A value and the bytes of a constant from one offset up to another.
-pub fn compare_constant(s: &[u8], v: Reading, c: &[u8], from: usize, to: usize) -> Order
-    requires { ⌜ Readable (now s) v × (from ≤ to) × (to ≤ length (now c)) ⌝ }
-    ensures { λ r. ⌜ ((ns : List Library.Node) (bs : List ℕ) → Comes (now (s .entry)) ns v bs → Ordered bs (slice from to (now (c .entry))) r) ⌝ }
+// Two strings that differ in their first bytes.
+pub fn by_bytes(a: u8, b: u8) -> Order
+    ensures { λ r. ⌜ ((bs cs : List ℕ) → a ≢ b → Ordered (a ∷ bs) (b ∷ cs) r) ⌝ }
 {
-    let mut i = v;
-    let mut j = from;
-    loop {
-        let a = advance(s, i);
-        let Byte::Next(p, k) = a else {
-            return if j < to { Order::Less } else { Order::Same };
-        };
-        if j == to {
-            return Order::Greater;
-        }
-        let b = c[j];
-        if p < b {
-            return Order::Less;
-        }
-        if b < p {
-            return Order::Greater;
-        }
-        i = k;
-        j += 1;
-    }
+    if a < b { Order::Less } else { Order::Greater }
 }

@@ -1,2 +1,4 @@
+pub mod Nodes
 pub mod Bounds
+pub mod Joined
 pub mod Told

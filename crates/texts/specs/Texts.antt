@@ -1,9 +1,10 @@
--- Where the text under each node begins and ends: a column for the first node with text and one for the last.
+-- Where the text under each node begins and ends, blanks at both ends left out: a column for the first node with text that is not blank and one for the last.
 use Prim.Native.Nat.{ℕ, suc, _≤_, _<_}
 use mathlib.Core.Path.{_≡_}
 use mathlib.Core.Logic.{_⊎_}
 use mathlib.Core.List.{List, []}
 use lib.ListN.{length}
+use Rattle.lists.specs.Blanks.{trim}
 use Rattle.document_spec.specs.Library.{Node, at}
 use Rattle.document_spec.specs.Binary.{textOf}
 use Rattle.document_spec.specs.Intervals.{End}
@@ -11,21 +12,21 @@ use Rattle.layout.specs.Words.{NONE, word}
 use Rattle.layout.specs.Ranking.{FIRST-TEXT, LAST-TEXT}
 
 -- ── The nodes from a up to b ──
--- none of them has text
+-- none of them has text, but for blanks
 abbrev pub Silent : List Node → ℕ → ℕ → Type 0
-Silent ns a b = (u : ℕ) → a ≤ u → u < b → textOf (at ns u) ≡ []
+Silent ns a b = (u : ℕ) → a ≤ u → u < b → trim (textOf (at ns u)) ≡ []
 
--- f is the first of them that has text and l the last
+-- f is the first of them that has text that is not blank, and l the last
 pub record Spoken (ns : List Node) (a b f l : ℕ) : Type 0 where
   pub after : a ≤ f
   pub order : f ≤ l
   pub within : l < b
-  pub begins : 0 < length (textOf (at ns f))
-  pub ends : 0 < length (textOf (at ns l))
+  pub begins : 0 < length (trim (textOf (at ns f)))
+  pub ends : 0 < length (trim (textOf (at ns l)))
   pub front : Silent ns a f
   pub behind : Silent ns (suc l) b
 
--- the same, or both are no node where none has text
+-- the same, or both are no node where none has such text
 abbrev pub Bounds : List Node → ℕ → ℕ → ℕ → ℕ → Type 0
 Bounds ns a b f l = Spoken ns a b f l ⊎ ((f ≡ NONE) × (l ≡ NONE) × Silent ns a b)
 

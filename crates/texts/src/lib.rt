@@ -1,6 +1,7 @@
-// The first and the last node that has text: of one node, of nodes one behind the other, and of those under a node of the binary tree, for which two columns tell them.
-// All text under a node stands between the two, so nodes with the same two have the same text.
+// The first and the last node that has text that is not blank: of one node, of nodes one behind the other, and of those under a node of the binary tree, for which two columns tell them.
+// All text under a node but for blanks stands between the two, so nodes with the same two have the same value.
 use document_lines::entries::Entry;
+use document_lines::entries::Span;
 use document_lines::rules::Kind;
 use layout::Ranking;
 use layout::Table;
@@ -13,10 +14,11 @@ ghost use lib.ListN.{length};
 ghost use Rattle.document_spec.specs.Library as Library;
 ghost use Rattle.document_lines.specs.Entries.{IsEntry};
 ghost use Rattle.layout.specs.Table.{Room};
+ghost use Rattle.blanks.specs.Trimmed.{Trimmed};
 ghost use Rattle.layout.specs.Words.{NONE};
 ghost use Rattle.texts.specs.Texts.{Bounds, Extent, Told};
 
-// The first and the last of some nodes that have text, or no node twice if none has.
+// The first and the last of some nodes that have text that is not blank, or no node twice if none has.
 pub struct Texts {
     pub first: usize,
     pub last: usize,
@@ -32,17 +34,16 @@ fn silence() -> Texts
     }
 }
 
-// The text of node `v` itself.
-pub fn own(e: Entry, v: usize) -> Texts
-    ensures { λ r. ⌜ ((s : List ℕ) (ns : List Library.Node) → IsEntry s ns v e → Bounds ns v (suc v) (r .first) (r .last)) ⌝ }
+// The text of node `v` itself, whose value without the blanks at its ends is the span `q`.
+pub fn own(e: Entry, q: Span, v: usize) -> Texts
+    ensures { λ r. ⌜ ((s : List ℕ) (ns : List Library.Node) → IsEntry s ns v e → Trimmed s (e .value) q → Bounds ns v (suc v) (r .first) (r .last)) ⌝ }
 {
     let k = e.kind;
-    let p = e.value;
     match k {
         Kind::Element => silence(),
         Kind::Attribute => silence(),
         Kind::Text => {
-            if p.from < p.to {
+            if q.from < q.to {
                 Texts { first: v, last: v }
             } else {
                 silence()

@@ -1,6 +1,6 @@
 -- What is under a node of the binary tree: the node itself, what lies inside it in the document, and what is under its next sibling.
 use Prim.Native.Nat.{ℕ, suc, _≤_, _<_}
-use mathlib.Core.Path.{_≡_, refl, ap}
+use mathlib.Core.Path.{_≡_, refl, sym, ap, subst}
 use mathlib.Core.Logic.{inl, inr}
 use mathlib.Core.Bool.{true, false}
 use mathlib.Core.List.{List}
@@ -10,11 +10,18 @@ use native.Mathlib.Decide.{ℕ-discrete, decLt}
 use Rattle.xpath.specs.Tree.{Child}
 use Rattle.document_spec.specs.Library.{Node, Legal}
 use Rattle.document_spec.specs.Binary.{treeOf}
+use Rattle.document_spec.specs.Verdict.{Accepts}
 use Rattle.document_spec.specs.Intervals.{deep, End}
 use Rattle.document_spec.proofs.Binary.{left-child, right-child}
 use Rattle.document_spec.proofs.Intervals.{end-of}
 use Rattle.table.specs.Links.{Points}
+use Rattle.table.specs.Tabled.{Tabled}
+use Rattle.table.proofs.Trees.{tree-size}
 use Rattle.texts.specs.Texts.{Extent, Content}
+
+-- a node of the table is one of the document
+pub node-in : {s : List ℕ} {n v : ℕ} {t : List ℕ} → Tabled s n t → (ns : List Node) → Accepts s ns → v < n → v < length ns
+node-in {v = v} g ns a l = subst (λ (m : ℕ). v < m) (sym (tree-size g ns a)) l
 
 module _ {ns : List Node} (ok : Legal ns) {v : ℕ} (l : v < length ns) where
   -- what lies inside v is under its left child

@@ -33,10 +33,3 @@ module _ (bs cs : List ℕ) where
       go : (b : Bool) → ¬ T b → 0 ≡ one b
       go true k = absurd (k tt)
       go false k = refl
-
-  pub less-one : ¬ (one (isLess bs cs) ≡ 0) → Less bs cs
-  less-one h = less-iff bs cs .0 (go (isLess bs cs) h)
-    where
-      go : (b : Bool) → ¬ (one b ≡ 0) → T b
-      go true k = tt
-      go false k = absurd (k refl)

@@ -1,3 +1,4 @@
 pub mod Less
-pub mod Values
-pub mod Opening
+pub mod Moving
+pub mod SameTexts
+pub mod Ends

@@ -4,7 +4,7 @@ use mathlib.Core.Bool.{Bool}
 use mathlib.Core.List.{List}
 use Rattle.xpath.specs.Order.{lessb}
 use Rattle.document_spec.specs.Library.{Node}
-use Rattle.document_spec.specs.Binary.{stringOf}
+use Rattle.document_spec.specs.Binary.{comparedOf}
 
 -- bs is smaller than cs
 unfoldable pub isLess : List ℕ → List ℕ → Bool
@@ -12,4 +12,4 @@ isLess bs cs = lessb bs cs
 
 -- node w has a smaller value than node v
 abbrev pub isSmaller : List Node → ℕ → ℕ → Bool
-isSmaller ns v w = isLess (stringOf ns w) (stringOf ns v)
+isSmaller ns v w = isLess (comparedOf ns w) (comparedOf ns v)

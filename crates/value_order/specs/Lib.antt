@@ -1,2 +1,3 @@
 pub mod Less
-pub mod Values
+pub mod Twins
+pub mod Along

@@ -1,3 +1,6 @@
-// The order of the string values of two nodes, and the value of a node opened for reading.
+// The order of the compared values of two nodes, and of a node's value and a constant.
 pub mod comparison;
-pub mod nodes;
+pub mod constant;
+mod cursors;
+mod passing;
+mod stretches;

@@ -1,140 +1,190 @@
--- How a cursor moves over the bytes of a string value.
+-- How a cursor moves over the bytes of a compared value.
 use Prim.Native.Nat.{ℕ, suc, _+_, _-_, _≤_, _<_}
-use mathlib.Core.Path.{_≡_, refl, sym, ap, _∙_}
-use mathlib.Core.List.{List, [], _∷_, _++_, append-nil}
-use lib.ListN.{length, getD, take, drop, length-take, drop-of-length-le}
-use lib.Seq.{slice, slice-cons, length-slice}
+use mathlib.Core.Path.{_≡_, refl, sym, ap, _∙_, subst, subst₂}
+use mathlib.Core.Logic.{_⊎_, inl, inr}
+use mathlib.Core.List.{List, [], _++_, append-assoc}
+use lib.ListN.{length}
+use lib.Seq.{slice}
 use native.Mathlib.Omega.{arith}
-use native.Mathlib.Numerals.{add-one}
-use Rattle.limits.specs.Limits.{valueBytes}
-use Rattle.document_spec.specs.Library as Library
-use Rattle.document_spec.specs.Library.{element, attribute, text, at, Legal, Value}
-use Rattle.document_spec.specs.Binary.{textOf, joined, stringOf}
+use native.Mathlib.Nat.{mul-suc, mul-le-mul-left}
+use Rattle.lists.specs.Blanks.{trimEnd}
+use Rattle.document_spec.specs.Library.{Node, at}
+use Rattle.document_spec.specs.Binary.{textOf}
+use Rattle.document_spec.specs.Intervals.{texts}
 use Rattle.document_spec.specs.Verdict.{Accepts}
-use Rattle.document_spec.proofs.Intervals.{joined-in, joined-out, element-value}
-use Rattle.document_lines.specs.declared.entries.Entry.{Entry}
-use Rattle.document_lines.specs.declared.entries.Span.{Span}
-use Rattle.document_lines.specs.declared.rules.Kind.{Kind}
-use Rattle.document_lines.specs.Nodes.{kindOf}
-use Rattle.document_lines.specs.Entries.{Stands, IsEntry}
-use Rattle.values.specs.declared.reading.Reading.{Reading}
-use Rattle.values.specs.Comes.{Lies, Comes, weight, Filled, Split}
+use Rattle.layout.specs.Words.{NONE, word}
+use Rattle.layout.specs.Values.{NEXT}
+use Rattle.texts.proofs.Nodes.{not-blank}
+use Rattle.texts.proofs.Joined.{texts-none, texts-first}
+use Rattle.table.proofs.Trees.{tree-size}
+use Rattle.value_notes.specs.declared.notes.Note.{Note}
+use Rattle.value_notes.specs.Notes.{noteAt, start, span, padded, inFront, Held, Valued, Annotated}
+use Rattle.value_notes.specs.Values.{upTo, Speaks, Several, FirstText, Next}
+use Rattle.values.specs.declared.Reading.{Reading}
+use Rattle.values.specs.Comes.{atHand, Goes, Comes, Opens, weight, Further, Filled}
+use Rattle.values.proofs.Texts.{used-up, next-until, upto-next, padding, text-here, text-long, bytes-some, text-start, text-end}
 
--- ── Spans ──
-pub used-up : (s : List ℕ) (f t : ℕ) → t ≤ f → slice f t s ≡ []
-used-up s f t h = drop-of-length-le (take t s) {i = f} (omega (arith, length-take t s))
+-- ── The beginning of a value ──
+module _ {s : List ℕ} {ns : List Node} {n : ℕ} {t : List ℕ} (a : Annotated s n t) (k : Accepts s ns) where
+  -- what is read of the note of a node
+  pub note-here : {v : ℕ} {x : Note} → v < n → x ≡ noteAt t n v → Valued s ns v x
+  note-here {v} l e = subst (λ y. Valued s ns v y) (sym e) (a .valued ns k v l)
 
-pub first-of : (s : List ℕ) (f t : ℕ) → f < t → t ≤ length s → slice f t s ≡ getD s f 0 ∷ slice (f + 1) t s
-first-of s f t h k = slice-cons f t s 0 h k ∙ ap (λ (n : ℕ). getD s f 0 ∷ slice n t s) (sym (add-one f))
+  -- the first of several texts is one of the table
+  pub note-first : {v f l : ℕ} → Several ns v f l → f < n
+  note-first m = let o = m .order in let i = m .within in let z = tree-size (a .tabled) ns k in omega arith
 
--- ── What a node gives ──
-pub element-text : (n : Library.Node) → n .kind ≡ element → textOf n ≡ []
-element-text n k = rw (k, textOf)
-
-pub attribute-text : (n : Library.Node) → n .kind ≡ attribute → textOf n ≡ []
-attribute-text n k = rw (k, textOf)
-
-pub text-text : (n : Library.Node) → n .kind ≡ text → textOf n ≡ n .value
-text-text n k = rw (k, textOf)
-
-module _ (ns : List Library.Node) (v : ℕ) where
-  pub attribute-value : at ns v .kind ≡ attribute → stringOf ns v ≡ at ns v .value
-  attribute-value k = rw (k, stringOf)
-
-  pub text-value : at ns v .kind ≡ text → stringOf ns v ≡ at ns v .value
-  text-value k = rw (k, stringOf)
-
-  text-short : Legal ns → v < length ns → length (textOf (at ns v)) ≤ valueBytes
-  unfolding Value
-  text-short l i = go (at ns v .kind) refl
+module _ {s : List ℕ} {ns : List Node} {v : ℕ} {x : Note} (h : Valued s ns v x) where
+  -- one span
+  pub opens-alone : ¬ (x .length ≡ NONE) → Opens s ns v (record { from = span x .from; to = span x .to; node = NONE; last = NONE })
+  opens-alone z = go (h .held)
     where
-      go : (k : Library.Kind) → at ns v .kind ≡ k → length (textOf (at ns v)) ≤ valueBytes
-      go element e = let f = ap length (element-text (at ns v) e) in omega arith
-      go attribute e = let f = ap length (attribute-text (at ns v) e) in omega arith
-      go text e = let f = ap length (text-text (at ns v) e) in omega (arith, l .values v i .1)
-
-module _ {s : List ℕ} {ns : List Library.Node} where
-  pub kind-is : {v : ℕ} {e : Entry} {k : Kind} → IsEntry s ns v e → e .kind ≡ k → at ns v .kind ≡ kindOf k
-  kind-is h f = sym (h .kind) ∙ ap kindOf f
-
-  -- the value of an entry lies in the document
-  pub value-lies : {v : ℕ} {e : Entry} {bs : List ℕ} → IsEntry s ns v e → at ns v .value ≡ bs → Lies s (e .value) bs
-  value-lies h e = record { within = omega (arith, h .ends, h .behind .inside); bytes = h .value ∙ e }
-
-  -- ── The beginning of a value ──
-  pub alone-comes : (p : Span) {bs : List ℕ} → Accepts s ns → Lies s p bs → Comes s ns (record { from = p .from; to = p .to; next = 0; left = 0; depth = 0 }) bs
-  alone-comes p a h = record {
-    accepts = a;
-    within = h .within;
-    node = length ns;
-    behind = omega arith;
-    start = λ z. absurd (omega arith);
-    whole = ap (λ (l : List ℕ). slice (p .from) (p .to) s ++ l) (joined-out ns 0 (length ns) (λ z. absurd (omega arith))) ∙ append-nil (slice (p .from) (p .to) s) ∙ h .bytes;
-  }
-
-  pub element-comes : {v i : ℕ} (e : Entry) (left : ℕ) → Stands s ns v i → IsEntry s ns v e → at ns v .kind ≡ element → suc (v + left) ≡ length ns
-      → Comes s ns (record { from = 0; to = 0; next = e .next; left = left; depth = e .depth }) (stringOf ns v)
-  element-comes {v} e left a h k b = record {
-    accepts = a .accepts;
-    within = omega arith;
-    node = suc v;
-    behind = omega arith;
-    start = λ z. h .behind;
-    whole = ap (λ (d : ℕ). joined d (drop (suc v) ns)) (h .depth) ∙ sym (element-value ns v k);
-  }
-
-  -- ── Onward ──
-  module _ {c : Reading} {bs : List ℕ} (h : Comes s ns c bs) where
-    pub stands : 0 < c .left → Stands s ns (h .node) (c .next)
-    stands z = record { accepts = h .accepts; node = let b = h .behind in omega arith; start = h .start z }
-
-    behind-span : c .to ≤ c .from → joined (c .depth) (drop (h .node) ns) ≡ bs
-    behind-span z = ap (λ (l : List ℕ). l ++ joined (c .depth) (drop (h .node) ns)) (sym (used-up s (c .from) (c .to) z)) ∙ h .whole
-
-    -- no node is left
-    pub nothing-left : c .to ≤ c .from → c .left ≡ 0 → bs ≡ []
-    nothing-left z e = sym (behind-span z) ∙ joined-out ns (c .depth) (h .node) (λ l. let b = h .behind in absurd (omega arith))
-
-    module _ (e : Entry) (used : c .to ≤ c .from) (more : 0 < c .left) (ie : IsEntry s ns (h .node) e) where
-      -- the next node is not deeper
-      pub onward-out : e .depth ≤ c .depth → Comes s ns (record { from = 0; to = 0; next = 0; left = 0; depth = 0 }) bs
-      onward-out z = alone-comes (record { from = 0; to = 0 }) (h .accepts) (record { within = omega arith; bytes = nothing })
-        where
-          nothing : [] ≡ bs
-          nothing = sym (joined-out ns (c .depth) (h .node) (λ l. let d = ie .depth in omega arith)) ∙ behind-span used
-
-      module _ (t : Span) (deeper : c .depth < e .depth) (l : Lies s t (textOf (at ns (h .node)))) where
-        -- the next node is deeper: its text is at hand
-        abbrev next-node : Reading
-        next-node = record { from = t .from; to = t .to; next = e .next; left = c .left - 1; depth = c .depth }
-
-        pub onward-in : Comes s ns next-node bs
-        onward-in = record {
-          accepts = h .accepts;
-          within = l .within;
-          node = suc (h .node);
-          behind = let b = h .behind in omega arith;
-          start = λ z. ie .behind;
-          whole =
-              ap (λ (x : List ℕ). x ++ joined (c .depth) (drop (suc (h .node)) ns)) (l .bytes)
-              ∙ sym (joined-in ns (c .depth) (h .node) (stands more .node) (let d = ie .depth in omega arith))
-              ∙ behind-span used;
-        }
-
-        pub onward-lighter : weight next-node < weight c
-        onward-lighter =
-            let f = length-slice (t .from) (t .to) s (l .within) in let g = ap length (l .bytes) in
-            let k = text-short ns (h .node) (h .accepts .legal) (stands more .node) in
-            omega arith
-
-  -- ── A byte ──
-  pub split : {c r : Reading} {bs : List ℕ} → Filled s ns c bs r → r .from < r .to
-      → Split s ns c bs (getD s (r .from) 0) (record { from = r .from + 1; to = r .to; next = r .next; left = r .left; depth = r .depth })
-  split {c} {r} {bs} f z =
-      let h = f .comes in let later = joined (r .depth) (drop (h .node) ns) in
-      record {
-        rest = slice (r .from + 1) (r .to) s ++ later;
-        first = sym (h .whole) ∙ ap (λ (x : List ℕ). x ++ later) (first-of s (r .from) (r .to) z (h .within));
-        comes = record { accepts = h .accepts; within = h .within; node = h .node; behind = h .behind; start = h .start; whole = refl };
-        lighter = let g = f .lighter in omega arith;
+      go : Held s ns v x → Opens s ns v (record { from = span x .from; to = span x .to; node = NONE; last = NONE })
+      go (inl (p, q)) = record {
+        comes = record { within = q .within; rest = inl (refl, q .bytes) };
+        order = omega arith;
+        alone = λ r. refl;
+        several = λ r. absurd (omega arith);
       }
+      go (inr (p, q)) = absurd (z p)
+
+  -- several texts
+  pub note-several : x .length ≡ NONE → Several ns v (x .low) (x .high)
+  note-several z = go (h .held)
+    where
+      go : Held s ns v x → Several ns v (x .low) (x .high)
+      go (inl (p, q)) = absurd (omega arith)
+      go (inr (p, q)) = q
+
+-- the first of them is at hand, without the blanks in front
+pub opens-several : {s : List ℕ} {ns : List Node} {v f l : ℕ} {x : Note} → Several ns v f l → Valued s ns f x
+    → Opens s ns v (record { from = start x; to = padded x .to; node = f; last = l })
+opens-several {ns} {f} {l} {x} m h =
+    let o = m .order in let t = not-blank (textOf (at ns f)) (m .begins) in
+    record {
+      comes = record {
+        within = padding h t .lies .within;
+        rest = inr (record { order = o; inside = m .within; ends = m .ends; whole = ap (λ bs. bs ++ upTo ns f l) (text-start h t (m .begins)) ∙ sym (m .whole) });
+      };
+      order = omega arith;
+      alone = λ r. absurd (omega arith);
+      several = λ r. m;
+    }
+
+-- ── The next text ──
+module _ {s : List ℕ} {ns : List Node} {c : Reading} {bs : List ℕ} (h : Comes s ns c bs) where
+  goes : c .node < c .last → Goes s ns c bs
+  goes more = go (h .rest)
+    where
+      go : ((c .node ≡ c .last) × (atHand s c ≡ bs)) ⊎ Goes s ns c bs → Goes s ns c bs
+      go (inl (e, b)) = absurd (omega arith)
+      go (inr g) = g
+
+  -- nothing is left
+  pub nothing-left : c .to ≤ c .from → c .last ≤ c .node → bs ≡ []
+  nothing-left used none = go (h .rest)
+    where
+      go : ((c .node ≡ c .last) × (atHand s c ≡ bs)) ⊎ Goes s ns c bs → bs ≡ []
+      go (inl (e, b)) = sym b ∙ used-up s (c .from) (c .to) used
+      go (inr g) = let o = g .order in absurd (omega arith)
+
+  module _ {n : ℕ} {t : List ℕ} {u : ℕ} (a : Annotated s n t) (k : Accepts s ns) (more : c .node < c .last) (e : u ≡ word t n NEXT (c .node)) where
+    -- the node is one of the table, and so is the next one with text
+    pub node-inside : c .node < n
+    node-inside = let i = goes more .inside in let z = tree-size (a .tabled) ns k in omega arith
+
+    pub next : FirstText ns (suc (c .node)) u × (u ≤ c .last)
+    next =
+        let g = goes more in
+        next-until ns (omega arith) (g .inside) (g .ends) (subst (λ y. Next ns (suc (c .node)) y) (sym e) (a .next ns k (c .node) node-inside))
+
+    pub next-inside : u < n
+    next-inside = let i = next .0 .within in let z = tree-size (a .tabled) ns k in omega arith
+
+    -- the measure falls, whatever of the next text is at hand
+    pub next-lighter : (i j : ℕ) → j ≤ length s → weight s (record { from = i; to = j; node = u; last = c .last }) < weight s c
+    next-lighter i j w =
+        let o = next .0 .after in let r = next .1 in
+        let m = mul-le-mul-left {m = suc (c .last - u)} {n = c .last - c .node} (length s + 1) (omega arith) in
+        let l = mul-suc (length s + 1) (c .last - u) in
+        omega arith
+
+    -- ── What is still to come, where the bytes at hand are used up ──
+    module _ (used : c .to ≤ c .from) where
+      from-next : texts (slice u (c .last) ns) ++ trimEnd (textOf (at ns (c .last))) ≡ bs
+      from-next =
+          let g = goes more in
+          ap (λ y. y ++ trimEnd (textOf (at ns (c .last)))) (sym (upto-next ns (next .0) (next .1) (g .inside)))
+          ∙ ap (λ (y : List ℕ). y ++ upTo ns (c .node) (c .last)) (sym (used-up s (c .from) (c .to) used))
+          ∙ g .whole
+
+      -- it begins with the next text, if another one is behind that
+      next-whole : u < c .last → textOf (at ns u) ++ upTo ns u (c .last) ≡ bs
+      next-whole o =
+          let i = goes more .inside in let end = trimEnd (textOf (at ns (c .last))) in
+          sym (append-assoc (textOf (at ns u)) (texts (slice (suc u) (c .last) ns)) end)
+          ∙ ap (λ y. y ++ end) (sym (texts-first ns o (omega arith)))
+          ∙ from-next
+
+      pub goes-on : u < c .last → {i j : ℕ} {bs′ : List ℕ} → slice i j s ++ upTo ns u (c .last) ≡ bs′ → Goes s ns (record { from = i; to = j; node = u; last = c .last }) bs′
+      goes-on o w = let g = goes more in record { order = o; inside = g .inside; ends = g .ends; whole = w }
+
+      last-whole : u ≡ c .last → trimEnd (textOf (at ns u)) ≡ bs
+      last-whole d =
+          let end = trimEnd (textOf (at ns (c .last))) in
+          ap (λ (y : ℕ). trimEnd (textOf (at ns y))) d
+          ∙ ap (λ y. y ++ end) (sym (texts-none ns (c .last)))
+          ∙ ap (λ (y : ℕ). texts (slice y (c .last) ns) ++ end) (sym d)
+          ∙ from-next
+
+      -- the next text is passed
+      pub next-passed : ¬ (u ≡ c .last) → (bs ≡ textOf (at ns u) ++ upTo ns u (c .last)) × Comes s ns (record { from = 0; to = 0; node = u; last = c .last }) (upTo ns u (c .last))
+      next-passed d =
+          let r = next .1 in let o : u < c .last = omega arith in
+          (sym (next-whole o), record { within = omega arith; rest = inr (goes-on o refl) })
+
+      -- ── Onward ──
+      module _ {x : Note} (f : x ≡ noteAt t n u) where
+        right : Valued s ns u x
+        right = note-here a k next-inside f
+
+        -- the blanks in front of the text do not reach before the document
+        pub next-room : inFront x ≤ start x
+        next-room = padding right (next .0 .text) .room
+
+        abbrev Reached : ℕ → ℕ → Type 0
+        Reached i j = Further s ns c bs (record { from = i; to = j; node = u; last = c .last })
+
+        -- another text is behind it: with all its blanks
+        inner : ¬ (u ≡ c .last) → Reached (padded x .from) (padded x .to)
+        inner d =
+            let r = next .1 in let t = next .0 .text in let w = padding right t .lies .within in let o : u < c .last = omega arith in
+            record {
+              comes = record { within = w; rest = inr (goes-on o (ap (λ y. y ++ upTo ns u (c .last)) (text-here right t) ∙ next-whole o)) };
+              some = text-long right t;
+              lighter = next-lighter (padded x .from) (padded x .to) w;
+            }
+
+        -- it is the last one: without the blanks at its end
+        last : u ≡ c .last → Reached (padded x .from) (span x .to)
+        last d =
+            let t = next .0 .text in let l = subst (λ y. Speaks ns y) (sym d) (goes more .ends) in
+            let p = padding right t in let w = p .lies .within in let r = p .trimmed .ends in let o = p .trimmed .starts in let b = bytes-some right t l in
+            record {
+              comes = record { within = omega arith; rest = inl (d, text-end right t l ∙ last-whole d) };
+              some = omega arith;
+              lighter = next-lighter (padded x .from) (span x .to) (omega arith);
+            }
+
+        pub onward-inner : {i j : ℕ} → i ≡ padded x .from → j ≡ padded x .to → ¬ (u ≡ c .last) → Further s ns c bs (record { from = i; to = j; node = u; last = c .last })
+        onward-inner p q d = subst₂ Reached (sym p) (sym q) (inner d)
+
+        pub onward-last : {i j : ℕ} → i ≡ padded x .from → j ≡ span x .to → u ≡ c .last → Further s ns c bs (record { from = i; to = j; node = u; last = c .last })
+        onward-last p q d = subst₂ Reached (sym p) (sym q) (last d)
+
+-- ── A byte at hand ──
+pub filled-now : {s : List ℕ} {ns : List Node} {c : Reading} {bs : List ℕ} → Comes s ns c bs → (c .to ≤ c .from → c .last ≤ c .node) → Filled s ns c bs c
+filled-now h z = record { comes = h; lighter = omega arith; empty = λ u. nothing-left h u (z u) }
+
+pub filled-further : {s : List ℕ} {ns : List Node} {c r : Reading} {bs : List ℕ} → Further s ns c bs r → Filled s ns c bs r
+filled-further h = let i = h .some in let l = h .lighter in record { comes = h .comes; lighter = omega arith; empty = λ u. absurd (omega arith) }

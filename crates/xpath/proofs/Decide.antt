@@ -8,6 +8,7 @@ use native.Mathlib.Omega.{arith}
 use native.Mathlib.Decide.{ℕ-discrete}
 use lib.Dec.{T, ltb, eqb, ltb→lt, lt→ltb, eqb→eq, eqb-refl}
 use Rattle.lists.specs.Lists.{Occurs}
+use Rattle.lists.specs.Blanks.{trim}
 use Rattle.xpath.specs.Syntax.{Op, eq, ne, lt, le, gt, ge, Test, named, not, and, or, compare, compareTo, XPath, empty, one, seq, union, star, Step, toLeft, toRight, fromLeft, fromRight, stay}
 use Rattle.xpath.specs.Tree.{Tree, Child, WellFormed}
 use Rattle.xpath.specs.Meaning.{Less, Rel, Many, none, more, Holds, Reaches, Moves}
@@ -229,7 +230,7 @@ abbrev mutual
   holdsb t (or U W) v = either (holdsb t U v) (holdsb t W v)
   holdsb t (compare o P Q) v =
       someBelow (t .size) (λ w. both (reachb t P v w) (someBelow (t .size) (λ u. both (reachb t Q v u) (relb o (t .value w) (t .value u)))))
-  holdsb t (compareTo o P c) v = someBelow (t .size) (λ w. both (reachb t P v w) (relb o (t .value w) c))
+  holdsb t (compareTo o P c) v = someBelow (t .size) (λ w. both (reachb t P v w) (relb o (t .value w) (trim c)))
 
   pub reachb : Tree → XPath → ℕ → ℕ → Bool
   reachb t empty v w = eqb v w
@@ -302,8 +303,8 @@ module _ (t : Tree) (wf : WellFormed t) where
         (λ w u. rel-iff o (t .value w) (t .value u))
     holds-iff (compareTo o P c) v r =
         trans
-        (some-node (λ w. both (reachb t P v w) (relb o (t .value w) c)) (λ w. Reaches t P v w × Rel o (t .value w) c)
-        (λ w x. trans (T-both (reachb t P v w) (relb o (t .value w) c)) (×-iff (reach-iff P v w r x) (rel-iff o (t .value w) c)))
+        (some-node (λ w. both (reachb t P v w) (relb o (t .value w) (trim c))) (λ w. Reaches t P v w × Rel o (t .value w) (trim c))
+        (λ w x. trans (T-both (reachb t P v w) (relb o (t .value w) (trim c))) (×-iff (reach-iff P v w r x) (rel-iff o (t .value w) (trim c))))
         (λ w h. reaches-inside P v w r (h .0)))
         flat
 

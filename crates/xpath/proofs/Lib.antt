@@ -1,3 +1,4 @@
 pub mod Decide
 pub mod Trees
 pub mod Order
+pub mod Constants

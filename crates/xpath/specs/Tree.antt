@@ -9,7 +9,7 @@ pub record Tree : Type 0 where
   pub parent : ℕ → ℕ
   pub isLeft : ℕ → Bool
   pub label : ℕ → List ℕ
-  -- the string value, which is what comparisons compare
+  -- what comparisons compare: the string value without the blanks at its ends
   pub value : ℕ → List ℕ
 
 -- w is v's left child (side true) or right child (side false)

@@ -1,4 +1,4 @@
-//! `yurzhoad explain`: a rule in words, as it is written.
+//! `yurzhoad explain`: a rule in words, part by part as it is written.
 
 use std::io::{self, Write};
 
@@ -110,11 +110,22 @@ fn comparison_words(sign: &str, constant: Option<&str>) -> String {
             "{name}: some node reached by the first path {to_node} \
              some node reached by the second{note}"
         ),
-        Some(constant) => {
-            let empty = if constant.is_empty() { " (empty)" } else { "" };
-            format!(
-                "{name}: some node reached by the path {to_constant} \"{constant}\"{empty}{note}"
-            )
-        }
+        Some(constant) => format!(
+            "{name}: some node reached by the path {to_constant} {}{note}",
+            constant_words(constant)
+        ),
     }
+}
+
+/// A constant as it is compared. Whoever wrote blanks at its ends would look
+/// for them in the values, and so is told that they do not count.
+fn constant_words(constant: &str) -> String {
+    let compared = constant.trim_matches(' ');
+    let aside = match (compared.is_empty(), compared == constant) {
+        (false, true) => "",
+        (true, true) => " (empty)",
+        (false, false) => " (blanks at the ends do not count)",
+        (true, false) => " (empty: blanks at the ends do not count)",
+    };
+    format!("\"{compared}\"{aside}")
 }

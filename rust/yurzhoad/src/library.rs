@@ -10,7 +10,8 @@ use crate::table::Table;
 /// A checked library document.
 ///
 /// It borrows the bytes that were checked, so that they cannot change behind
-/// it. It is as cheap to copy as the slice.
+/// it. It is as cheap to copy as the slice. Its values are shown as they stand
+/// in the document; a rule compares them without the blanks at their ends.
 ///
 /// ```
 /// use yurzhoad::{Kind, Library};
@@ -134,8 +135,8 @@ pub struct Entry<'a> {
     pub kind: Kind,
     /// The label of the node.
     pub label: &'a str,
-    /// What stands behind `value=`. That of an element is empty; its string
-    /// value is [`Table::value`].
+    /// What stands behind `value=`, with the blanks at its ends. That of an
+    /// element is empty; its string value is [`Table::value`].
     pub value: &'a str,
 }
 

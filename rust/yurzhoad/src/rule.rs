@@ -6,7 +6,8 @@ use crate::refusal::Refusal;
 /// A checked rule: one test by which nodes are selected.
 ///
 /// It borrows the bytes that were checked, so that they cannot change behind
-/// it.
+/// it. They are kept as they are written, though a constant is compared without
+/// the blanks at its ends.
 ///
 /// ```
 /// use yurzhoad::Rule;

@@ -21,6 +21,9 @@ pub enum Method {
 /// The buffers grow to what the largest library so far needs, and are used
 /// again by each call.
 ///
+/// Values and constants are compared without the blanks at both their ends:
+/// [`Table::value`](crate::Table::value) has an example.
+///
 /// ```
 /// use yurzhoad::{Library, Method, Rule, Selector};
 ///

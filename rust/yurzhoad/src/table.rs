@@ -9,6 +9,8 @@ use crate::library::{Entries, Entry, Kind};
 /// All entries of a library, with their parents, paths and string values; see
 /// [`Library::table`](crate::Library::table).
 ///
+/// It shows the text of the document, from which nothing is cut.
+///
 /// ```
 /// use yurzhoad::Library;
 ///
@@ -109,6 +111,23 @@ impl<'a> Table<'a> {
 
     /// The string value of a node: of a text or an attribute its value, of an
     /// element the values of all texts inside it, joined in order.
+    ///
+    /// Blanks at its ends are shown, though no comparison counts them. So a
+    /// name that is padded is selected by the bare name:
+    ///
+    /// ```
+    /// use yurzhoad::{Library, Method, Rule, Selector};
+    ///
+    /// let document = "nodes=2\ndepth=0\nkind=e\nlabel=drug\nvalue=\n\
+    ///                 depth=1\nkind=a\nlabel=name\nvalue=  heparin \n";
+    /// let library = Library::check(document)?;
+    /// let rule = Rule::check("(e=\"heparin\")")?;
+    /// let mut selector = Selector::new(Method::Snippets);
+    /// let selection = selector.select(&library, &rule);
+    /// assert_eq!(selection.nodes().collect::<Vec<_>>(), [1]);
+    /// assert_eq!(library.table().value(1), "  heparin ");
+    /// # Ok::<(), yurzhoad::Refusal>(())
+    /// ```
     ///
     /// # Panics
     ///

@@ -38,24 +38,25 @@ type Proved = fn(&[u8], &[u8], &mut [u16], &mut [u8]) -> Evaluation;
 type Rust = fn(&[u8], &[u8], &mut [u8]) -> Answer;
 
 /// An evaluation in the archive, and in straightforward Rust.
-struct Versions {
+pub struct Versions {
     name: &'static str,
     proved: Proved,
     rust: Rust,
 }
 
-const EVALUATIONS: [Versions; 2] = [
-    Versions {
-        name: "plain",
-        proved: evaluate_plain,
-        rust: plain::evaluate,
-    },
-    Versions {
-        name: "snippets",
-        proved: evaluate_snippets,
-        rust: snippets::evaluate,
-    },
-];
+const PLAIN: Versions = Versions {
+    name: "plain",
+    proved: evaluate_plain,
+    rust: plain::evaluate,
+};
+
+pub const BY_SNIPPETS: Versions = Versions {
+    name: "snippets",
+    proved: evaluate_snippets,
+    rust: snippets::evaluate,
+};
+
+const EVALUATIONS: [Versions; 2] = [PLAIN, BY_SNIPPETS];
 
 pub fn print() {
     for shape in LIBRARY_SHAPES {
@@ -98,7 +99,7 @@ fn compare(shape: &LibraryShape, documents: &[Vec<u8>; 3], name: &str, rule: &[u
 }
 
 /// Both evaluations mark the same nodes; returns how many, and the snippets.
-fn assert_same_answers(document: &[u8], rule: &[u8], nodes: usize) -> Answer {
+pub fn assert_same_answers(document: &[u8], rule: &[u8], nodes: usize) -> Answer {
     let evaluated = |versions| assert_same_versions(versions, document, rule, nodes);
     let [(_, plain), (answer, marks)] = EVALUATIONS.each_ref().map(evaluated);
     let differing = (0..nodes).find(|v| plain[*v] != marks[*v]);
@@ -135,7 +136,7 @@ fn assert_same_versions(
 }
 
 /// A call of the proved function, with buffers that were lent before.
-fn proved<'a>(
+pub fn proved<'a>(
     versions: &'a Versions,
     document: &'a [u8],
     rule: &'a [u8],

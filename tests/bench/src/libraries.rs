@@ -1,5 +1,6 @@
 //! The libraries on which evaluations are timed.
 
+use crate::straightforward::cut;
 use evaluator::document::{Library, Node};
 use evaluator::random::{self, Random};
 use evaluator::samples::libraries::{element, formulary, text};
@@ -26,9 +27,14 @@ pub const LIBRARY_SHAPES: [LibraryShape; 3] = [
 ];
 
 /// Not deep, with many values. The same seed draws the same nodes first, so
-/// that a larger tree begins as a smaller one does.
+/// that a larger tree begins as a smaller one does. No value has blanks at its
+/// ends: what they cost is timed by itself.
 fn random_tree(nodes: usize) -> Library {
-    random::library(&mut Random::new(30), nodes)
+    let mut library = random::library(&mut Random::new(30), nodes);
+    for node in &mut library.nodes {
+        node.value = cut(&node.value).to_vec();
+    }
+    library
 }
 
 /// Each node inside the one before it, the last a text.

@@ -8,8 +8,8 @@
 //! cargo run --release --offline -p bench
 //! ```
 //!
-//! With `documents`, `rules`, `evaluations` or `wrapper` behind `--` only these are
-//! timed.
+//! With `documents`, `rules`, `evaluations`, `values` or `wrapper` behind `--` only
+//! these are timed.
 //!
 //! The workspace's release profile has overflow checks and debug assertions;
 //! it switches them off for this package, whose scans and whose evaluation are
@@ -27,14 +27,17 @@ mod rules;
 mod scan;
 mod shapes;
 mod straightforward;
+mod texts;
 mod timing;
+mod values;
 mod wrapper;
 
 /// What can be timed, by name.
-const PARTS: [(&str, fn()); 4] = [
+const PARTS: [(&str, fn()); 5] = [
     ("documents", documents::print),
     ("rules", rules::print),
     ("evaluations", evaluations::print),
+    ("values", values::print),
     ("wrapper", wrapper::print),
 ];
 

@@ -12,7 +12,7 @@ use std::collections::BTreeMap;
 
 use crate::meaning::compare;
 use crate::rule::{Operand, Path, Sign, Test};
-use crate::tree::Tree;
+use crate::tree::{trimmed, Tree};
 
 /// Nodes, rising and each once.
 type Nodes = Vec<usize>;
@@ -23,7 +23,8 @@ pub fn holds(tree: &Tree, test: &Test) -> Vec<bool> {
 }
 
 /// The nodes in groups of equal value, the groups in the order of their
-/// values; so values compare as the numbers of their groups do.
+/// values; so values compare as the numbers of their groups do. Values are cut
+/// (02, b).
 struct Groups<'a> {
     tree: &'a Tree,
     groups: Vec<Nodes>,
@@ -34,8 +35,8 @@ struct Groups<'a> {
 impl Groups<'_> {
     fn of(tree: &Tree) -> Groups<'_> {
         let mut nodes_of: BTreeMap<&[u8], Nodes> = BTreeMap::new();
-        for (node, value) in tree.values.iter().enumerate() {
-            nodes_of.entry(value).or_default().push(node);
+        for node in 0..tree.size() {
+            nodes_of.entry(tree.compared(node)).or_default().push(node);
         }
         let groups: Vec<Nodes> = nodes_of.into_values().collect();
         let mut numbers = vec![0; tree.size()];
@@ -67,8 +68,7 @@ impl Groups<'_> {
             Test::And(a, b) => both(a, b, |a, b| a && b),
             Test::Or(a, b) => both(a, b, |a, b| a || b),
             Test::Compare(p, sign, Operand::Constant(c)) => {
-                let value = |w: usize| self.tree.values[w].as_slice();
-                let ends = self.nodes(|w| compare(*sign, value(w), c));
+                let ends = self.nodes(|w| compare(*sign, self.tree.compared(w), trimmed(c)));
                 self.marked(self.track(p).sources(self.tree, &ends))
             }
             Test::Compare(p, sign, Operand::Path(r)) => self.between_paths(p, *sign, r),

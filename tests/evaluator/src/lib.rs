@@ -1,6 +1,6 @@
-//! An evaluator of document 01 with request (d) of document 02, written from
-//! their sentences and not from the proved code. No code is shared. The archive
-//! is compared with it.
+//! An evaluator of document 01 with the requests (b) and (d) of document 02,
+//! written from their sentences and not from the proved code. No code is shared.
+//! The archive is compared with it.
 //!
 //! By the definitions, over plain sets and tables, are
 //! - the checks: `document`, and `grammar` with `rule_check`;
@@ -9,6 +9,9 @@
 //! - the counts: `positions`, `chains` and `snippets`, where each skeleton is
 //!   made from every two nodes of a value, and all first snippets and halves
 //!   are written out and kept in one set.
+//!
+//! What is compared is cut by `tree::trimmed` and nowhere else, values by
+//! `Tree::compared` and constants where they stand.
 //!
 //! The checks have no bound; marks and counts are meant for libraries of up to
 //! a few hundred nodes. In five places something is found in a quicker way than
@@ -46,6 +49,7 @@ pub mod samples;
 pub mod shrink;
 pub mod snippets;
 pub mod tree;
+pub mod uncut;
 
 /// What a refused check hands back: a number and a place of document 01's table,
 /// or of a request of document 02.

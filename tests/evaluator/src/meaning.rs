@@ -3,7 +3,7 @@
 
 use crate::relation::Relation;
 use crate::rule::{Operand, Path, Sign, Test};
-use crate::tree::Tree;
+use crate::tree::{trimmed, Tree};
 
 /// For each node whether the test holds there.
 pub fn holds(tree: &Tree, test: &Test) -> Vec<bool> {
@@ -30,11 +30,12 @@ pub fn holds(tree: &Tree, test: &Test) -> Vec<bool> {
         }
         // "A comparison holds at v if some node reached by the first path and
         // some node reached by the second (or c) have values in that relation."
+        // Both are cut (02, b).
         Test::Compare(p, sign, operand) => {
             let first = reached_values(tree, p);
             let second = match operand {
                 Operand::Path(r) => reached_values(tree, r),
-                Operand::Constant(c) => vec![vec![c.as_slice()]; tree.size()],
+                Operand::Constant(c) => vec![vec![trimmed(c)]; tree.size()],
             };
             let related = |a: &[u8], v: usize| second[v].iter().any(|b| compare(*sign, a, *b));
             at_each(&|v| first[v].iter().any(|a| related(a, v)))
@@ -42,12 +43,12 @@ pub fn holds(tree: &Tree, test: &Test) -> Vec<bool> {
     }
 }
 
-/// For each node the values of all nodes that a path reaches from it.
+/// For each node what is compared of all nodes that a path reaches from it.
 fn reached_values<'a>(tree: &'a Tree, path: &Path) -> Vec<Vec<&'a [u8]>> {
     let reached = reaches(tree, path);
-    let value = |w: usize| tree.values[w].as_slice();
+    let compared = |w: usize| tree.compared(w);
     (0..tree.size())
-        .map(|v| reached.from(v).into_iter().map(value).collect())
+        .map(|v| reached.from(v).into_iter().map(compared).collect())
         .collect()
 }
 

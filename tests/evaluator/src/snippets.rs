@@ -39,7 +39,9 @@ pub fn settle(tree: &Tree, p: &Path, r: &Path) -> Settlement {
     let chains = Chains::of(tree, Positions::of(p, r));
     let stretches = Stretches { tree, chains };
     let mut snippets = BTreeSet::new();
-    for value in tree.values.iter().collect::<BTreeSet<_>>() {
+    // "Skeletons group by the shortened value" (02, b).
+    let values: BTreeSet<&[u8]> = (0..tree.size()).map(|v| tree.compared(v)).collect();
+    for value in values {
         for first in stretches.first_snippets(value) {
             for snippet in stretches.yielded_by_first(first) {
                 stretches.add_with_halves(snippet, &mut snippets);
@@ -84,7 +86,7 @@ impl Stretches<'_> {
     /// The first snippets of one value.
     fn first_snippets(&self, value: &[u8]) -> Vec<First> {
         let d: BTreeSet<usize> = (0..self.tree.size())
-            .filter(|v| self.tree.values[*v] == value)
+            .filter(|v| self.tree.compared(*v) == value)
             .collect();
         let skeleton = skeleton(self.tree, &d);
         let mut found = Vec::new();

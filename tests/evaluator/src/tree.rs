@@ -8,7 +8,7 @@ pub struct Tree {
     pub left: Vec<Option<usize>>,
     pub right: Vec<Option<usize>>,
     pub labels: Vec<Vec<u8>>,
-    /// The string value of each node.
+    /// The string value of each node, as the document has it.
     pub values: Vec<Vec<u8>>,
     /// The parent of each node; the first node alone has none.
     parents: Vec<Option<usize>>,
@@ -38,6 +38,12 @@ impl Tree {
         self.labels.len()
     }
 
+    /// What is compared of a node: its string value, cut. An element's text is
+    /// joined already.
+    pub fn compared(&self, node: usize) -> &[u8] {
+        trimmed(&self.values[node])
+    }
+
     /// The node itself, its parent, that one's parent, and so on to the root.
     /// "Parent, ancestor and below are meant in this binary tree".
     pub fn upward(&self, node: usize) -> impl Iterator<Item = usize> + '_ {
@@ -53,6 +59,19 @@ impl Tree {
     pub fn parent_of_right(&self, node: usize) -> Option<usize> {
         self.parents[node].filter(|parent| self.right[*parent] == Some(node))
     }
+}
+
+/// The one byte that counts as a blank.
+pub const BLANK: u8 = 0x20;
+
+/// What is compared of a string value or of a constant: "Comparisons of values
+/// and constants now ignore 0x20 bytes at both ends, after an element's text has
+/// been joined. Blanks alone make the empty value." (02, b)
+pub fn trimmed(text: &[u8]) -> &[u8] {
+    let blanks = text.iter().take_while(|byte| **byte == BLANK);
+    let behind = &text[blanks.count()..];
+    let blanks = behind.iter().rev().take_while(|byte| **byte == BLANK);
+    &behind[..behind.len() - blanks.count()]
 }
 
 /// The nodes inside an element in the document: those directly behind it as
@@ -79,8 +98,10 @@ fn string_value(library: &Library, node: usize) -> Vec<u8> {
     if library.nodes[node].kind != Kind::Element {
         return library.nodes[node].value.clone();
     }
-    inside(library, node)
-        .filter(|w| library.nodes[*w].kind == Kind::Text)
-        .flat_map(|w| library.nodes[w].value.clone())
-        .collect()
+    let texts: Vec<&[u8]> = inside(library, node)
+        .map(|w| &library.nodes[w])
+        .filter(|inner| inner.kind == Kind::Text)
+        .map(|text| text.value.as_slice())
+        .collect();
+    texts.concat()
 }

@@ -5,7 +5,7 @@ use mathlib.Core.List.{List}
 use lib.Seq.{slice}
 use native.Mathlib.Omega.{arith}
 use Rattle.document_spec.specs.Library.{Node}
-use Rattle.document_spec.specs.Binary.{stringOf}
+use Rattle.document_spec.specs.Binary.{comparedOf}
 use Rattle.document_spec.specs.Verdict.{Accepts}
 use Rattle.string_order.specs.Ordered.{Ordered}
 use Rattle.ranks.specs.Ranks.{Ranked}
@@ -27,7 +27,7 @@ inside : (c : tie.Else1 Inv-loop μ-loop) → c .before .nearest .result < c .be
 inside c = let w = c .before .nearest .ensures .within in let l = c .if1 .left in omega arith
 
 loop-holds : tie.Need-loop-holds Inv-loop μ-loop
-loop-holds c = let x = c .before .before .before in (omega arith, λ ns a r. around-all (slice (x .args .from) (x .args .to) (x .args .rule .now)) (valued (tree-size (x .pre .0) ns a) r))
+loop-holds c = let x = c .before .before .before in (omega arith, λ ns a r. around-all (slice (x .args .from) (x .args .to) (x .args .rule .now)) (valued (tree-size (x .pre .0 .tabled) ns a) r))
 
 -- ── The node nearest to the middle ──
 sub-mid : tie.Need-sub-mid Inv-loop μ-loop
@@ -37,7 +37,7 @@ add-mid : tie.Need-add-mid Inv-loop μ-loop
 add-mid c = let l = c .loop-test .taken in let h = c .before .loop .inv .0 in omega arith
 
 nearest-requires : tie.Need-nearest-requires Inv-loop μ-loop
-nearest-requires c κs = c .before .before .before .before .before .pre .0 .room
+nearest-requires c κs = c .before .before .before .before .before .pre .0 .tabled .room
 
 loop-less : tie.Need-loop-less Inv-loop μ-loop
 loop-less c = let l = c .before .before .loop-test .taken in omega arith
@@ -46,7 +46,7 @@ loop-again : tie.Need-loop-again Inv-loop μ-loop
 loop-again c = let i = c .before .before .before .loop in let l = c .before .before .loop-test .taken in let h = i .inv .0 in (omega arith, λ ns a r. around-none (i .inv .1 ns a r) (c .before .nearest .ensures) (c .if1 .taken))
 
 get-requires : tie.Need-get-requires Inv-loop μ-loop
-get-requires c κs = (omega arith, inside c, c .before .before .before .before .before .before .before .pre .0 .room)
+get-requires c κs = (omega arith, inside c, c .before .before .before .before .before .before .before .pre .0 .tabled .room)
 
 compare-value-requires : tie.Need-compare-value-requires Inv-loop μ-loop
 compare-value-requires c κs = let p = c .before .before .before .before .before .before .before .before .pre in (p .0, inside (c .before), p .1, p .2)
@@ -64,7 +64,7 @@ loop-less-2 c = let l = c .before .before .before .before .before .before .loop-
 loop-again-2 : tie.Need-loop-again-2 Inv-loop μ-loop
 loop-again-2 c =
     let i = c .before .before .before .before .before .before .before .loop in let x = c .before .before .before .before .before .before .before .before .before .before .before in let v = c .before .before .before .before .before .nearest .result in let k = slice (x .args .from) (x .args .to) (x .args .rule .now) in
-    (i .inv .0, λ ns a r. around-smaller k (valued (tree-size (x .pre .0) ns a) r) (inside (c .before .before .before .before)) (c .before .before .before .get .ensures .0) (i .inv .1 ns a r) (subst (λ o. Ordered (stringOf ns v) k o) (c .enum-told .given .1) (c .before .before .compare-value .ensures ns a)))
+    (i .inv .0, λ ns a r. around-smaller k (valued (tree-size (x .pre .0 .tabled) ns a) r) (inside (c .before .before .before .before)) (c .before .before .before .get .ensures .0) (i .inv .1 ns a r) (subst (λ o. Ordered (comparedOf ns v) k o) (c .enum-told .given .1) (c .before .before .compare-value .ensures ns a)))
 
 enum-told-2 : tie.Need-enum-told-2 Inv-loop μ-loop
 enum-told-2 c = search needs
@@ -75,7 +75,7 @@ add-t16 c = let l = c .before .before .before .get .ensures .1 in omega arith
 returns : tie.Need-returns Inv-loop μ-loop
 returns c =
     let x = c .before .before .before .before .before .before .before .before .before .before .before in let v = c .before .before .before .before .before .nearest .result in let k = slice (x .args .from) (x .args .to) (x .args .rule .now) in
-    λ ns a r. placed-same k (valued (tree-size (x .pre .0) ns a) r) (inside (c .before .before .before .before)) (c .before .before .before .get .ensures .0) (subst (λ o. Ordered (stringOf ns v) k o) (c .enum-told2 .given .1) (c .before .before .compare-value .ensures ns a))
+    λ ns a r. placed-same k (valued (tree-size (x .pre .0 .tabled) ns a) r) (inside (c .before .before .before .before)) (c .before .before .before .get .ensures .0) (subst (λ o. Ordered (comparedOf ns v) k o) (c .enum-told2 .given .1) (c .before .before .compare-value .ensures ns a))
 
 enum-told-3 : tie.Need-enum-told-3 Inv-loop μ-loop
 enum-told-3 c = search needs
@@ -86,7 +86,7 @@ loop-less-3 c = let l = c .before .before .before .before .before .before .loop-
 loop-again-3 : tie.Need-loop-again-3 Inv-loop μ-loop
 loop-again-3 c =
     let i = c .before .before .before .before .before .before .before .loop in let x = c .before .before .before .before .before .before .before .before .before .before .before in let v = c .before .before .before .before .before .nearest .result in let k = slice (x .args .from) (x .args .to) (x .args .rule .now) in let l = c .before .before .before .before .before .before .loop-test .taken in let h = i .inv .0 in
-    (omega arith, λ ns a r. around-greater k (valued (tree-size (x .pre .0) ns a) r) (inside (c .before .before .before .before)) (c .before .before .before .get .ensures .0) (i .inv .1 ns a r) (c .before .before .before .before .before .nearest .ensures) (subst (λ o. Ordered (stringOf ns v) k o) (c .enum-told3 .given .1) (c .before .before .compare-value .ensures ns a)))
+    (omega arith, λ ns a r. around-greater k (valued (tree-size (x .pre .0 .tabled) ns a) r) (inside (c .before .before .before .before)) (c .before .before .before .get .ensures .0) (i .inv .1 ns a r) (c .before .before .before .before .before .nearest .ensures) (subst (λ o. Ordered (comparedOf ns v) k o) (c .enum-told3 .given .1) (c .before .before .compare-value .ensures ns a)))
 
 -- ── What is returned behind the loop ──
 returns-2 : tie.Need-returns-2 Inv-loop μ-loop

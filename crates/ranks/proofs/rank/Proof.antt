@@ -1,5 +1,5 @@
 -- `ranks::rank` meets its contract.
-use Rattle.ranks.proofs.Arranged.{arranged-marked}
+use Rattle.value_notes.proofs.Annotated.{annotated}
 use Rattle.ranks.proofs.Ranked.{written}
 use borrow.Author.Needs.{needs}
 use Rattle.ranks.proofs.rank.Statement.{statement}
@@ -9,10 +9,10 @@ mark-all-requires : tie.Need-mark-all-requires
 mark-all-requires c κs = search needs
 
 sort-requires : tie.Need-sort-requires
-sort-requires c κs = search needs
+sort-requires c κs = annotated (c .before .before .before .mark-all .ensures .0)
 
 number-requires : tie.Need-number-requires
-number-requires c κs = let g = c .before .before .before .sort .ensures in (arranged-marked (c .before .before .before .before .before .before .before .mark-all .ensures .0) (g .arranged), g .entries)
+number-requires c κs = search needs
 
 same-length : tie.Need-same-length
 same-length c = search needs

@@ -158,6 +158,66 @@ fn every_sign_before_a_path_and_before_a_constant() {
     }
 }
 
+/// A constant as it is written, and how it is told.
+const PADDED: [(&str, &str); 7] = [
+    ("  heparin", "\"heparin\" (blanks at the ends do not count)"),
+    ("heparin ", "\"heparin\" (blanks at the ends do not count)"),
+    (" 5  mg  ", "\"5  mg\" (blanks at the ends do not count)"),
+    ("   ", "\"\" (empty: blanks at the ends do not count)"),
+    (" ", "\"\" (empty: blanks at the ends do not count)"),
+    ("5  mg", "\"5  mg\""),
+    ("", "\"\" (empty)"),
+];
+
+#[test]
+fn a_constant_is_told_without_the_blanks_at_its_ends() {
+    for (constant, told) in PADDED {
+        assert_explained(
+            &format!("(e=\"{constant}\")"),
+            &[
+                "A node is selected if",
+                &format!("0  equality: some node reached by the path has the value {told}"),
+                "1    path: stay at the node",
+                "",
+                "1 test of 64, nesting 2 of 32, 0 steps of 14",
+            ],
+        );
+    }
+}
+
+/// The offsets are those of the rule as it is written.
+#[test]
+fn blanks_count_where_a_part_begins() {
+    assert_explained(
+        "|(e!=\"  a \"):b",
+        &[
+            "A node is selected if",
+            " 0  at least one of these holds:",
+            " 1    inequality: some node reached by the path has another value than \"a\" \
+             (blanks at the ends do not count)",
+            " 2      path: stay at the node",
+            "12    the label is `b`",
+            "",
+            "3 tests of 64, nesting 3 of 32, 0 steps of 14",
+        ],
+    );
+}
+
+#[test]
+fn blanks_at_the_ends_are_told_before_the_order() {
+    assert_explained(
+        "(l<\" 10 \")",
+        &[
+            "A node is selected if",
+            "0  less: some node reached by the path has a value less than \"10\" (blanks at the \
+             ends do not count), compared as text: 10 is less than 9",
+            "1    path: to the first node inside, attributes included",
+            "",
+            "1 test of 64, nesting 2 of 32, 1 step of 14",
+        ],
+    );
+}
+
 /// A constant may hold what looks like a rule.
 #[test]
 fn a_constant_is_no_part() {

@@ -95,8 +95,11 @@ fn assert_line(line: &str, width: usize, part: &Part<'_>, roles: &[(*const Path,
     assert!(line.starts_with(&due), "{line}\n{due}");
     match part.piece {
         Piece::Test(Test::Compare(_, _, Operand::Constant(text))) => {
-            let constant = format!(" \"{}\"", String::from_utf8_lossy(text));
-            assert!(line.contains(&constant), "{line}");
+            let text = String::from_utf8_lossy(text);
+            let compared = text.trim_matches(' ');
+            assert!(line.contains(&format!(" \"{compared}\"")), "{line}");
+            let told = line.contains("blanks at the ends do not count)");
+            assert_eq!(told, compared != text, "{line}");
         }
         Piece::Test(Test::Compare(..)) => {
             assert!(line.contains(" some node reached by the second"), "{line}");

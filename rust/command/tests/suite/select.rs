@@ -106,6 +106,38 @@ fn paths_and_values_of_every_kind() {
     assert_eq!(desk.run(["select", "(e=e)", "lib.txt"]), accepted(due));
 }
 
+/// Selected by the bare name, and shown as they stand in the library.
+#[test]
+fn padded_values_are_selected_and_shown_with_their_blanks() {
+    let library = document(&[
+        ('e', 0, "lib", ""),
+        ('a', 1, "name", "  heparin "),
+        ('a', 1, "note", "   "),
+        ('t', 1, "text", " 5 "),
+        ('t', 1, "text", "mg "),
+    ]);
+    let desk = Desk::with("lib.txt", &library);
+    let name = "1\t/lib/@name\tname\t  heparin \n";
+    let selected = [
+        ("(e=\"heparin\")", name),
+        ("(e=\" heparin  \")", name),
+        ("(e=\"\")", "2\t/lib/@note\tnote\t   \n"),
+        ("(e=\"5\")", "3\t/lib/text()[1]\ttext\t 5 \n"),
+        ("(e=\"5 mg\")", "0\t/lib\tlib\t 5 mg \n"),
+        ("(e=\"5mg\")", ""),
+    ];
+    for (rule, line) in selected {
+        let both = desk.run(["select", "--both", rule, "lib.txt"]);
+        assert_eq!(both, agreed(line, line.lines().count(), "5 nodes"));
+    }
+    let object = "{\"accepted\":true,\"selected\":1,\"snippets\":0,\"nodes\":[{\"node\":1,\
+                  \"path\":\"/lib/@name\",\"label\":\"name\",\"value\":\"  heparin \"}]}\n";
+    let json = desk.run(["select", "--json", "(e=\"heparin\")", "lib.txt"]);
+    assert_eq!(json, accepted(object));
+    let kept = std::fs::read(desk.path("lib.txt")).expect("a file");
+    assert_eq!(kept, library);
+}
+
 #[test]
 fn refusals_name_the_library_or_the_rule() {
     let desk = Desk::with("x.txt", X);

@@ -10,6 +10,7 @@ use evaluator::random::{branching_library, rule, rule_about, wandering_rule, Ran
 use evaluator::rule::{equalities, Path, Test};
 use evaluator::snippets::skeleton;
 use evaluator::tree::Tree;
+use evaluator::uncut::marks_differ;
 
 const SMALLEST: usize = 40;
 const LARGEST: usize = 120;
@@ -70,8 +71,8 @@ impl Branching {
 
 fn nodes_by_value(tree: &Tree) -> Vec<BTreeSet<usize>> {
     let mut nodes: BTreeMap<&[u8], BTreeSet<usize>> = BTreeMap::new();
-    for (node, value) in tree.values.iter().enumerate() {
-        nodes.entry(value).or_default().insert(node);
+    for node in 0..tree.size() {
+        nodes.entry(tree.compared(node)).or_default().insert(node);
     }
     nodes.into_values().collect()
 }
@@ -238,6 +239,7 @@ fn branching_trees_are_counted_as_by_the_definition() {
         let outcome = assert_agreement(origin, &document, &spelled, buffers);
         assert_eq!(outcome.number, 0, "seed {seed}");
         exercise.add(nodes, &branching, &rule, &outcome);
+        exercise.count("marks differ by cutting", marks_differ(&library, &rule));
     }
     exercise.assert_not_idle();
 }

@@ -1,5 +1,6 @@
 //! The proved functions in the archive against the evaluator, which is written
-//! from document 01 and request (d) of document 02 and not from their code.
+//! from document 01 and the requests (b) and (d) of document 02 and not from
+//! their code.
 //!
 //! The proof holds of the source; these tests run what was compiled from it,
 //! through the calling convention that other languages use.
@@ -19,6 +20,8 @@ mod fixed_rules;
 mod large_documents;
 mod large_evaluations;
 mod many_attributes;
+mod padded_large;
+mod padded_values;
 mod plain_beside_snippets;
 mod program_runs;
 mod random_documents;

@@ -7,7 +7,7 @@ use evaluator::document::{spell, Library, NODE_LIMIT};
 use evaluator::evaluate::{most_snippets, Evaluation, Outcome};
 use evaluator::random::{library, rule_about, Random};
 use evaluator::reader;
-use evaluator::samples::libraries::{catalogue, chain, formulary, ladder, level};
+use evaluator::samples::libraries::SHAPES;
 use evaluator::samples::selections::SESSION;
 use evaluator::tree::Tree;
 use yurzhoad::limits::needed_words;
@@ -49,16 +49,6 @@ fn assert_beside(origin: &str, library: &Library, rule: &[u8]) -> Outcome {
     assert_eq!((plain.number, plain.snippets), (0, 0), "{origin}: {shown}");
     snippets
 }
-
-type Shape = (&'static str, fn(usize) -> Library);
-
-const SHAPES: [Shape; 5] = [
-    ("chain", chain),
-    ("ladder", ladder),
-    ("level", level),
-    ("catalogue", catalogue),
-    ("formulary", formulary),
-];
 
 /// Near and far, nested, denied, and every sign.
 const RULES: [&str; 7] = [

@@ -9,7 +9,7 @@ use evaluator::document::{spell, DocumentRecord};
 use evaluator::program::{program, INPUT_LIMIT};
 use evaluator::random::{damage_document, library, rule, Random};
 use evaluator::samples::selections::{CASES_ON_X, SESSION};
-use evaluator::samples::{document, documents, flat, X};
+use evaluator::samples::{counts, document, documents, flat, selections, X};
 
 fn binary() -> PathBuf {
     let path = Path::new(env!("CARGO_MANIFEST_DIR")).join("../../target/bin/select");
@@ -81,6 +81,29 @@ fn the_cases_on_x_and_their_refusals_print_alike() {
     }
     assert_printed("no rule", &joined("", X.as_bytes()));
     assert_printed("a long rule", &joined(&"!".repeat(1_025), X.as_bytes()));
+}
+
+#[test]
+fn every_fixed_selection_and_count_prints_alike() {
+    for (name, cases) in selections::GROUPS {
+        for case in cases() {
+            let origin = format!("{name}: {}", case.rule);
+            let text = assert_printed(&origin, &joined(case.rule, &case.document));
+            let node = |v: &usize| format!("node={v}\n");
+            let nodes: String = case.marked.iter().map(node).collect();
+            let (_, listed) = text.split_once("snippets=").expect("four lines");
+            let (_, listed) = listed.split_once('\n').expect("a line");
+            assert_eq!(listed, nodes, "{origin}");
+        }
+    }
+    for (name, cases) in counts::GROUPS {
+        for case in cases() {
+            let origin = format!("{name}: {}", case.rule);
+            let text = assert_printed(&origin, &joined(case.rule, &case.document));
+            let due = format!("\nsnippets={}\n", case.snippets);
+            assert!(text.contains(&due), "{origin}");
+        }
+    }
 }
 
 #[test]

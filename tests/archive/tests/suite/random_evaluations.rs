@@ -9,12 +9,17 @@ use evaluator::document::{spell, Kind, Library};
 use evaluator::evaluate::{needed_words, Outcome};
 use evaluator::random::{any_library, library, rule, rule_about, Random};
 use evaluator::rule::{equalities, parts, Operand, Path, Piece, Test};
-use evaluator::tree::Tree;
+use evaluator::tree::{trimmed, Tree};
+use evaluator::uncut::{counts_differ, marks_differ};
 
 /// So many pairs of a document and a rule.
 const CASES: u64 = 36_000;
 /// At least so many of them accepted, the others refused by 10 or 11.
 const ACCEPTED: usize = 30_000;
+/// On at least so many of these the marks, and the counts, are others than they
+/// would be if nothing were cut.
+const OTHER_MARKS: usize = 2_000;
+const OTHER_COUNTS: usize = 3_500;
 
 /// A pair with the tree of its document, to look into.
 struct Pair {
@@ -109,6 +114,7 @@ impl Exercise {
             self.add_snippets(pair, outcome.snippets);
             self.add_tree(pair);
             self.add_rule(pair);
+            self.add_cuts(pair);
         }
     }
 
@@ -141,13 +147,14 @@ impl Exercise {
         };
         self.count("deep", most(&pair.tree.left));
         self.count("wide", most(&pair.tree.right));
-        let values = pair.tree.values.iter().collect::<BTreeSet<_>>().len();
+        let values: BTreeSet<&[u8]> = (0..nodes).map(|v| pair.tree.compared(v)).collect();
+        let values = values.len();
         self.count("values repeated often", nodes >= 8 && 4 * values <= nodes);
         self.count(
             "values repeated seldom",
             nodes >= 8 && 4 * values >= 3 * nodes,
         );
-        let joined = |v: &usize| pair.tree.left[*v].is_some() && pair.tree.values[*v].len() > 255;
+        let joined = |v: &usize| pair.tree.left[*v].is_some() && pair.tree.compared(*v).len() > 255;
         self.count(
             "a value joined to many bytes",
             (0..nodes).any(|v| joined(&v)),
@@ -161,7 +168,8 @@ impl Exercise {
             if let Piece::Test(Test::Compare(_, _, operand)) = part.piece {
                 comparisons += 1;
                 if let Operand::Constant(text) = operand {
-                    let occurs = pair.tree.values.contains(text);
+                    let mut nodes = 0..pair.tree.size();
+                    let occurs = nodes.any(|v| pair.tree.compared(v) == trimmed(text));
                     known |= occurs;
                     unknown |= !occurs;
                 }
@@ -176,6 +184,21 @@ impl Exercise {
         self.count("brackets three deep", brackets >= 3);
     }
 
+    /// Whether it matters that values and constants are cut, and where.
+    fn add_cuts(&mut self, pair: &Pair) {
+        let is_cut = |v: &usize| pair.tree.compared(*v) != pair.tree.values[*v];
+        let (elements, others): (Vec<usize>, Vec<usize>) = (0..pair.tree.size())
+            .filter(is_cut)
+            .partition(|v| pair.library.nodes[*v].kind == Kind::Element);
+        self.count("an element is cut", !elements.is_empty());
+        self.count("a text or an attribute is cut", !others.is_empty());
+        self.count("a constant is cut", has_cut_constant(&pair.rule));
+        let marks = marks_differ(&pair.library, &pair.rule);
+        self.count("marks differ by cutting", marks);
+        let counts = !equalities(&pair.rule).is_empty() && counts_differ(&pair.library, &pair.rule);
+        self.count("counts differ by cutting", counts);
+    }
+
     fn assert_not_idle(&self) {
         println!("{:?}", self.cases);
         assert!(self.cases["accepted"] >= ACCEPTED, "{:?}", self.cases);
@@ -184,6 +207,11 @@ impl Exercise {
             "{:?}",
             self.cases
         );
+        let (marks, counts) = (
+            self.cases["marks differ by cutting"],
+            self.cases["counts differ by cutting"],
+        );
+        assert!(marks >= OTHER_MARKS && counts >= OTHER_COUNTS);
         assert!(
             self.cases.values().all(|cases| *cases >= 200),
             "{:?}",
@@ -202,6 +230,13 @@ impl Exercise {
         assert_eq!(self.rules.steps.len(), 15, "{:?}", self.rules.steps);
         assert!(self.rules.tests.iter().any(|tests| *tests >= 48));
     }
+}
+
+fn has_cut_constant(rule: &Test) -> bool {
+    parts(rule).iter().any(|part| match part.piece {
+        Piece::Test(Test::Compare(_, _, Operand::Constant(text))) => trimmed(text) != text,
+        _ => false,
+    })
 }
 
 /// How deep brackets stand inside one another, each with a comparison around.

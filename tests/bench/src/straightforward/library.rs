@@ -1,4 +1,5 @@
-//! The tree of a document, with labels, string values and their ranks.
+//! The tree of a document, with labels, values as they are compared, and their
+//! ranks.
 
 /// Stands for no node.
 pub const NONE: u16 = u16::MAX;
@@ -87,19 +88,31 @@ fn numeral(digits: &[u8]) -> usize {
         .fold(0, |number, digit| 10 * number + usize::from(digit - b'0'))
 }
 
-/// The value of an element is joined from the texts inside it.
+/// The value of an element is joined from the texts inside it, and cut then.
 fn values(entries: &[Entry]) -> Vec<Vec<u8>> {
     let value = |(node, entry): (usize, &Entry)| {
         if entry.kind != b'e' {
-            return entry.value.to_vec();
+            return cut(entry.value).to_vec();
         }
         let inside = entries[node + 1..]
             .iter()
             .take_while(|inner| inner.depth > entry.depth);
         let texts = inside.filter(|inner| inner.kind == b't');
-        texts.flat_map(|text| text.value).copied().collect()
+        let joined: Vec<u8> = texts.flat_map(|text| text.value).copied().collect();
+        cut(&joined).to_vec()
     };
     entries.iter().enumerate().map(value).collect()
+}
+
+/// A value or a constant as it is compared: without the blanks at both ends.
+pub fn cut(value: &[u8]) -> &[u8] {
+    let is_other = |byte: &u8| *byte != b' ';
+    let first = value.iter().position(is_other);
+    let last = value.iter().rposition(is_other);
+    match (first, last) {
+        (Some(first), Some(last)) => &value[first..=last],
+        _ => &[],
+    }
 }
 
 fn ranks(values: &[Vec<u8>]) -> Vec<u16> {

@@ -15,6 +15,7 @@ use automaton::Automaton;
 use evaluator::meaning::compare;
 use evaluator::reader;
 use evaluator::rule::{Operand, Path, Sign, Test};
+pub use library::cut;
 use library::Library;
 
 /// The counts that an evaluation returns.
@@ -57,7 +58,7 @@ fn holds(library: &Library, test: &Test, comparing: &dyn Comparing) -> Vec<bool>
             comparing.paths(library, &automaton(p, r), *sign)
         }
         Test::Compare(p, sign, Operand::Constant(c)) => {
-            let hit = |value: &Vec<u8>| compare(*sign, value.as_slice(), c);
+            let hit = |value: &Vec<u8>| compare(*sign, value.as_slice(), cut(c));
             let hits: Vec<bool> = library.values.iter().map(hit).collect();
             comparing.hits(library, &automaton(p, &Path::Empty), &hits)
         }
@@ -83,12 +84,12 @@ fn in_relation(sign: Sign, first: Option<Range>, second: Option<Range>) -> bool 
 #[cfg(test)]
 mod tests {
     use super::{plain, snippets, Answer};
-    use evaluator::document::{spell, Library};
+    use evaluator::document::{spell, Kind, Library, Node};
     use evaluator::evaluate::{evaluate, needed_words, Evaluation};
     use evaluator::random::{branching_library, library, rule_about, Random};
     use evaluator::samples::selections::GROUPS;
     use evaluator::tree::Tree;
-    use evaluator::{document, meaning};
+    use evaluator::{document, meaning, rule_check, samples};
 
     /// Both versions, with the numbers of the marked nodes.
     fn both(document: &[u8], rule: &[u8]) -> [(Answer, Vec<usize>); 2] {
@@ -109,6 +110,65 @@ mod tests {
                 for (_, marked) in both(&case.document, case.rule.as_bytes()) {
                     assert_eq!(marked, case.marked, "{name}: {}", case.rule);
                 }
+            }
+        }
+    }
+
+    /// The values of all attributes with blanks at both ends, where three more
+    /// bytes fit. No element's text is joined from them.
+    fn with_padded_attributes(document: &[u8]) -> Vec<u8> {
+        let mut library = document::read(document).expect("a legal document");
+        let has_room = |node: &&mut Node| {
+            node.kind == Kind::Attribute && node.value.len() + 3 <= document::VALUE_LIMIT
+        };
+        for node in library.nodes.iter_mut().filter(has_room) {
+            node.value = [&b"  "[..], &node.value, b" "].concat();
+        }
+        spell(&library)
+    }
+
+    /// A rule with blanks at both ends of its constants, or as it is where they
+    /// would be too long.
+    fn with_padded_constants(rule: &str) -> String {
+        let padded = rule.replace("=\"", "=\" ").replace("\")", "  \")");
+        match rule_check::read(padded.as_bytes()) {
+            Ok(_) => padded,
+            Err(_) => rule.to_string(),
+        }
+    }
+
+    /// Constants and values alike: blanks at the ends change no mark and no
+    /// count.
+    #[test]
+    fn blanks_at_the_ends_do_not_count() {
+        for (name, cases) in GROUPS {
+            for case in cases() {
+                let padded = with_padded_attributes(&case.document);
+                let rule = with_padded_constants(&case.rule);
+                let due = both(&case.document, case.rule.as_bytes());
+                assert_eq!(both(&padded, rule.as_bytes()), due, "{name}: {rule}");
+            }
+        }
+    }
+
+    #[test]
+    fn values_are_cut_after_they_are_joined() {
+        let document = samples::document(&[
+            ('e', 0, "lib", ""),
+            ('a', 1, "note", "   "),
+            ('t', 1, "text", " 5 "),
+            ('t', 1, "text", "mg "),
+        ]);
+        let marked: [(&str, &[usize]); 5] = [
+            ("(e=\"5 mg\")", &[0]),
+            ("(e=\" 5 mg  \")", &[0]),
+            ("(e=\"5mg\")", &[]),
+            ("(e=\"mg\")", &[3]),
+            ("(e=\" \")", &[1]),
+        ];
+        for (rule, due) in marked {
+            for (_, marked) in both(&document, rule.as_bytes()) {
+                assert_eq!(marked, due, "{rule}");
             }
         }
     }

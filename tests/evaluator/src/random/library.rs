@@ -1,6 +1,6 @@
 //! Random legal libraries of many shapes.
 
-use super::{printable, printable_of, Random, NAMES, VALUES};
+use super::{padded, printable, printable_of, Random, NAMES, VALUES};
 use crate::document::{Kind, Library, Node, LABEL_LIMIT, VALUE_LIMIT};
 
 /// How the nodes of a library are drawn.
@@ -12,9 +12,15 @@ struct Shape {
     /// The labels of elements and attributes, and the values, to draw from.
     labels: Vec<Vec<u8>>,
     values: Vec<Vec<u8>>,
+    /// How often a value is padded, in cases of a hundred. So nodes of one value
+    /// have it in several spellings.
+    padded: usize,
     /// Whether an element may have two attributes of one label.
     repeats: bool,
 }
+
+/// About every third value is padded, in some libraries none and in others most.
+const PADDED: [usize; 3] = [0, 30, 70];
 
 /// A legal library of so many nodes, deep or wide, with many or few
 /// attributes, its values repeated often or seldom.
@@ -25,6 +31,7 @@ pub fn library(random: &mut Random, nodes: usize) -> Library {
         texts: *random.pick(&[5, 30, 60]),
         labels: NAMES.map(|name| name.as_bytes().to_vec()).into(),
         values: draw_values(random),
+        padded: *random.pick(&PADDED),
         repeats: false,
     };
     grow(random, &shape, nodes)
@@ -42,6 +49,7 @@ pub fn any_library(random: &mut Random, nodes: usize) -> Library {
         texts: *random.pick(&[0, 5, 30, 97]),
         labels: (0..pool).map(|_| any_label(random)).collect(),
         values: (0..pool).map(|_| any_value(random)).collect(),
+        padded: *random.pick(&PADDED),
         repeats: false,
     };
     grow(random, &shape, nodes)
@@ -57,6 +65,7 @@ pub fn repeating_library(random: &mut Random, nodes: usize) -> Library {
         texts: *random.pick(&[5, 30]),
         labels: alike_labels(random, pool),
         values: VALUES.map(|value| value.as_bytes().to_vec()).into(),
+        padded: *random.pick(&PADDED),
         repeats: true,
     };
     grow(random, &shape, nodes)
@@ -100,13 +109,21 @@ fn fill_node(
     };
     let value = match kind {
         Kind::Element => Vec::new(),
-        _ => random.pick(&shape.values).clone(),
+        _ => draw_value(random, shape),
     };
     Node {
         depth,
         kind,
         label,
         value,
+    }
+}
+
+fn draw_value(random: &mut Random, shape: &Shape) -> Vec<u8> {
+    let value = random.pick(&shape.values);
+    match random.percent(shape.padded) {
+        true => padded(random, value, VALUE_LIMIT),
+        false => value.clone(),
     }
 }
 
@@ -151,6 +168,7 @@ pub fn branching_library(random: &mut Random, nodes: usize) -> Library {
         texts: *random.pick(&[20, 30, 40]),
         labels: NAMES.map(|name| name.as_bytes().to_vec()).into(),
         values: (0..count).map(|number| few_value(random, number)).collect(),
+        padded: *random.pick(&PADDED),
         repeats: false,
     };
     let mut branching = Branching {

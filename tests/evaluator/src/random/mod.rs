@@ -1,10 +1,12 @@
 //! Random libraries, rules and damage, all drawn from one printed seed.
 
+mod blanks;
 mod damage;
 mod library;
 mod line_damage;
 mod rule;
 
+pub use blanks::{padded, padded_ends};
 pub use damage::{damage_document, damage_rule};
 pub use library::{any_library, branching_library, library, repeating_library};
 pub use line_damage::damage_one_line;
@@ -73,7 +75,7 @@ impl Random {
 
 /// Names and values that libraries and rules share, so that rules hit.
 const NAMES: [&str; 5] = ["lib", "drug", "name", "text", "max-dose-rate-16"];
-const VALUES: [&str; 6] = ["", "a", "heparin", "ab", "b", "~ !"];
+const VALUES: [&str; 7] = ["", "a", "heparin", "ab", "b", "~ !", "a b"];
 
 /// Up to so many bytes from 0x20 to 0x7E.
 fn printable(random: &mut Random, longest: usize) -> Vec<u8> {

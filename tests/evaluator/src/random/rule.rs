@@ -1,7 +1,7 @@
 //! Random legal rules of all constructs, and rules beyond the limits.
 
 use super::library::any_label;
-use super::{printable, printable_of, Random, NAMES, VALUES};
+use super::{padded, printable, printable_of, Random, NAMES, VALUES};
 use crate::document::LABEL_LIMIT;
 use crate::grammar::CONSTANT_LIMIT;
 use crate::rule::{parts, Operand, Path, Sign, Test};
@@ -192,7 +192,16 @@ impl<'a> Drawing<'a> {
         cases > 0 && self.random.percent(cases)
     }
 
+    /// One in three is padded.
     fn constant(&mut self) -> Vec<u8> {
+        let text = self.bare_constant();
+        match self.random.percent(33) {
+            true => padded(self.random, &text, CONSTANT_LIMIT),
+            false => text,
+        }
+    }
+
+    fn bare_constant(&mut self) -> Vec<u8> {
         match self.words {
             Words::Any => return any_constant(self.random),
             Words::About(values) if self.random.percent(85) => {

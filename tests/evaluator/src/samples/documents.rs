@@ -1,7 +1,7 @@
 //! Fixed documents with what their check must hand back: every row of the
 //! table for numbers 1 to 4, number 14, and which of two comes first.
 
-use super::{attributes, document, flat, X};
+use super::{attributes, blanks, document, flat, X};
 use crate::document::DocumentRecord;
 
 pub struct DocumentCase {
@@ -13,7 +13,7 @@ pub struct DocumentCase {
 pub type Group = (&'static str, fn() -> Vec<DocumentCase>);
 
 /// All fixed cases.
-pub const GROUPS: [Group; 20] = [
+pub const GROUPS: [Group; 21] = [
     ("accepted documents give their number of nodes", accepted),
     ("depth may rise to its last digit", deepest),
     ("a document above 1,048,576 bytes is 1", byte_limit),
@@ -37,6 +37,7 @@ pub const GROUPS: [Group; 20] = [
     ("around 25 attributes", attributes::around_25),
     ("an element of 4,095 attributes", attributes::most),
     ("behind many attributes", attributes::behind_many),
+    ("blanks are part of a document", blanks::documents),
 ];
 
 /// A case: the document, and what its check hands back.

@@ -3,6 +3,15 @@
 use super::name;
 use crate::document::{Kind, Library, Node, NODE_LIMIT};
 
+/// The shapes by name; each takes a number of nodes.
+pub const SHAPES: [(&str, fn(usize) -> Library); 5] = [
+    ("chain", chain),
+    ("ladder", ladder),
+    ("level", level),
+    ("catalogue", catalogue),
+    ("formulary", formulary),
+];
+
 pub fn node(kind: Kind, depth: usize, label: &str, value: impl Into<String>) -> Node {
     Node {
         depth,

@@ -2,6 +2,7 @@
 //! other packages.
 
 pub mod attributes;
+pub mod blanks;
 pub mod counts;
 pub mod documents;
 pub mod libraries;

@@ -1,7 +1,7 @@
 //! Fixed rules with what their check must hand back: every row of the table
 //! for numbers 5 to 9, and which of two comes first.
 
-use super::{balanced, steps};
+use super::{balanced, blanks, steps};
 use crate::Refusal;
 
 pub struct RuleCase {
@@ -13,7 +13,7 @@ pub struct RuleCase {
 pub type Group = (&'static str, fn() -> Vec<RuleCase>);
 
 /// All fixed cases.
-pub const GROUPS: [Group; 15] = [
+pub const GROUPS: [Group; 16] = [
     ("the examples of document 01", examples),
     ("every construct is accepted", constructs),
     ("a rule above 1,024 bytes is 5", byte_limit),
@@ -29,21 +29,22 @@ pub const GROUPS: [Group; 15] = [
     ("a bracket is one step", brackets),
     ("of several refusals the order decides", first_of_several),
     ("of each two in both orders of place", competing_pairs),
+    ("blanks are part of a constant", blanks::rules),
 ];
 
-fn case(rule: impl Into<Vec<u8>>, number: u32, place: usize) -> RuleCase {
+pub(super) fn case(rule: impl Into<Vec<u8>>, number: u32, place: usize) -> RuleCase {
     RuleCase {
         rule: rule.into(),
         due: Refusal { number, place },
     }
 }
 
-fn accepted(rule: impl Into<Vec<u8>>) -> RuleCase {
+pub(super) fn accepted(rule: impl Into<Vec<u8>>) -> RuleCase {
     case(rule, 0, 0)
 }
 
 /// 6 at the length of the longest prefix that begins some rule.
-fn unread<const COUNT: usize>(cases: [(&str, usize); COUNT]) -> Vec<RuleCase> {
+pub(super) fn unread<const COUNT: usize>(cases: [(&str, usize); COUNT]) -> Vec<RuleCase> {
     cases.map(|(rule, place)| case(rule, 6, place)).into()
 }
 

@@ -1,7 +1,8 @@
 //! Fixed documents and rules with the nodes that must be marked: document 01's
-//! cases on X, where a reading of it slips, and what each construct means.
+//! cases on X, where a reading of it slips, what each construct means, and
+//! blanks at the ends of values.
 
-use super::{document, X};
+use super::{blanks, document, X};
 
 pub struct SelectionCase {
     pub document: Vec<u8>,
@@ -14,7 +15,7 @@ pub struct SelectionCase {
 pub type Group = (&'static str, fn() -> Vec<SelectionCase>);
 
 /// All fixed cases.
-pub const GROUPS: [Group; 12] = [
+pub const GROUPS: [Group; 23] = [
     ("the ten cases on X mark what is written", cases_on_x),
     ("= and != both fail at node 3 of X", both_fail),
     ("= and != may both hold, or one, or neither", both_hold),
@@ -27,6 +28,20 @@ pub const GROUPS: [Group; 12] = [
     ("a prefix is smaller", prefixes),
     ("connectives mean what is written", connectives),
     ("every comparison of a rule is settled", several),
+    ("blanks at the ends of a value are cut", blanks::at_the_ends),
+    ("blanks inside a value are kept", blanks::inside),
+    ("blanks alone make the empty value", blanks::alone),
+    ("constants are cut too", blanks::constants),
+    ("cut values are ordered", blanks::order),
+    ("no other byte is a blank", blanks::other_bytes),
+    ("texts are joined before they are cut", blanks::joined_texts),
+    (
+        "texts of blanks are cut where they end",
+        blanks::blank_texts,
+    ),
+    ("joined texts are compared cut", blanks::drugs_compared),
+    ("the longest values are cut", blanks::longest),
+    ("X with padded names marks the same", blanks::on_padded_x),
 ];
 
 /// The session of document 01.
@@ -46,7 +61,7 @@ pub const CASES_ON_X: [(&str, &[usize]); 10] = [
     (SESSION, &[1]),
 ];
 
-type Marked = (&'static str, &'static [usize]);
+pub(super) type Marked = (&'static str, &'static [usize]);
 
 fn on_x(cases: &[Marked]) -> Vec<SelectionCase> {
     on(X.as_bytes(), cases)
@@ -67,7 +82,7 @@ fn on_mixed(cases: &[Marked]) -> Vec<SelectionCase> {
     on(&mixed, cases)
 }
 
-fn on(document: &[u8], cases: &[Marked]) -> Vec<SelectionCase> {
+pub(super) fn on(document: &[u8], cases: &[Marked]) -> Vec<SelectionCase> {
     let case = |&(rule, marked): &Marked| SelectionCase {
         document: document.to_vec(),
         rule,

@@ -1,7 +1,7 @@
 -- `driver::comparisons::with_constant` meets its contract.
 use native.Mathlib.Omega.{arith}
 use mathlib.Core.Path.{refl, _∙_}
-use Rattle.driver.proofs.Frames.{scratch-room, scene-tabled}
+use Rattle.driver.proofs.Frames.{scratch-room}
 use Rattle.driver.proofs.Answers.{some-nodes}
 use Rattle.driver.proofs.Arms.{number-small}
 use Rattle.driver.proofs.Asked.{one-path, one-numbered, has-brackets-alone}
@@ -36,7 +36,7 @@ draw-tests-requires c κs = let h = c .before .before .before .before .before .b
 draw-hits-requires : tie.Need-draw-hits-requires
 draw-hits-requires c κs =
     let h = c .before .before .before .before .before .before .before .before .before .before .before .before .before .before .pre .2 in let p = c .before .before .before .before .before .before .before .draw .ensures in let q = c .before .before .before .draw-tests .ensures in
-    (scene-tabled (drawn-scene (h .task) p q) (some-nodes (h .task)), draw-room (h .task) (c .before .before .before .draw-tests .last .0) (q .within .long ∙ p .within .long), h .ordered, h .inside)
+    (drawn-scene (h .task) p q .annotated, draw-room (h .task) (c .before .before .before .draw-tests .last .0) (q .within .long ∙ p .within .long), h .ordered, h .inside)
 
 -- ── Lending the part to the evaluator ──
 needed-requires : tie.Need-needed-requires

@@ -1,5 +1,5 @@
 -- `value_notes::notes::get_note` meets its contract.
-use Rattle.value_notes.proofs.Noting.{note-of}
+use Rattle.value_notes.proofs.Columns.{note-of}
 use borrow.Author.Needs.{needs}
 use Rattle.value_notes.proofs.notes.get_note.Statement.{statement}
 use Rattle.value_notes.proofs.notes.get_note.Tie as tie

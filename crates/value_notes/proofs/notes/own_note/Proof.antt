@@ -1,17 +1,26 @@
 -- `value_notes::notes::own_note` meets its contract.
-use Rattle.value_notes.proofs.Noting.{own-some, own-none}
+use Rattle.value_notes.proofs.Noting.{own-valued}
 use borrow.Author.Needs.{needs}
 use Rattle.value_notes.proofs.notes.own_note.Statement.{statement}
 use Rattle.value_notes.proofs.notes.own_note.Tie as tie
 
-sub-length : tie.Need-sub-length
-sub-length c = search needs
+sub-t5 : tie.Need-sub-t5
+sub-t5 c = search needs
+
+sub-t6 : tie.Need-sub-t6
+sub-t6 c = search needs
+
+sub-t7 : tie.Need-sub-t7
+sub-t7 c = search needs
+
+mul-t8 : tie.Need-mul-t8
+mul-t8 c = search needs
+
+add-t9 : tie.Need-add-t9
+add-t9 c = search needs
 
 returns : tie.Need-returns
-returns c = λ s ns a l h o. own-some a l h o (c .before .before .before .if1 .taken)
-
-returns-2 : tie.Need-returns-2
-returns-2 c = λ s ns a l h o. own-none a l h o (c .if1 .left)
+returns c = λ s ns v h. own-valued h
 
 pub own-note-spec : {M : Type 1} → statement M
-own-note-spec = tie.close (tie.spec sub-length returns returns-2)
+own-note-spec = tie.close (tie.spec sub-t5 sub-t6 sub-t7 mul-t8 add-t9 returns)

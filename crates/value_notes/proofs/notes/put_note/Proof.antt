@@ -1,5 +1,5 @@
 -- `value_notes::notes::put_note` meets its contract.
-use Rattle.value_notes.proofs.Noting.{noted-wrote}
+use Rattle.value_notes.proofs.Columns.{noted-wrote}
 use borrow.Author.Needs.{needs}
 use Rattle.value_notes.proofs.notes.put_note.Statement.{statement}
 use Rattle.value_notes.proofs.notes.put_note.Tie as tie
