@@ -41,6 +41,14 @@
  * Values and constants are compared without the blanks, bytes 0x20, at both
  * their ends; document and rule are only read, and none of it is changed.
  *
+ * In a rule = and != compare values as text, byte by byte. The order signs
+ * < <= > >= compare amounts. A numeral is an optional minus, 1 to 9 digits, and
+ * optionally a point with 1 to 4 digits; leading zeros are allowed. An order
+ * sign holds between two values exactly if both are numerals and their exact
+ * amounts are so ordered: 9 is less than 10, and <= and >= hold between 1.5 and
+ * 1.50, and between -0 and 0, though = does not. Where a value or a constant is
+ * no numeral, all four fail, <= between two equal texts too.
+ *
  * WHAT A CALL ASKS OF ITS BUFFERS
  *
  * A buffer is a pointer and a length. The length counts bytes, and words of
@@ -145,6 +153,13 @@ extern "C" {
 
 /* The bytes of a constant in a rule. */
 #define YURZHOAD_MAX_CONSTANT 32
+
+/*
+ * The digits of a numeral, before its point and behind it. What has more is not
+ * refused: it is no numeral, and no order sign holds with it.
+ */
+#define YURZHOAD_MAX_NUMERAL_DIGITS 9
+#define YURZHOAD_MAX_NUMERAL_DECIMALS 4
 
 /* ------------------------------------------------------------------------
  * Numbers. Each call hands back one of them, in the field number, with a place

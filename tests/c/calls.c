@@ -1,7 +1,7 @@
 /*
  * The archive through include/yurzhoad.h: records, the ten cases M on document X, blanks at the ends of
- * values, a refusal of each number, lengths of the buffers, misuse, and a document of the most nodes. It
- * compiles as C99 and as C++11. Prints each check that failed with its line, and at the end how many were
+ * values, the order of amounts, a refusal of each number, lengths of the buffers, misuse, and a document
+ * of the most nodes. It compiles as C99 and as C++11. Prints each check that failed with its line, and at the end how many were
  * made.
  */
 #include "yurzhoad.h"
@@ -200,7 +200,7 @@ static const selection cases[] = {
     {"(e=e)", "11111", 4},
     {"(e!=e)", "00000", 0},
     {"(l=\"heparin\")", "01010", 0},
-    {"(e<\"a\")", "11010", 0},
+    {"(e<\"a\")", "00000", 0},
     {"(*l=\"heparin\")", "11111", 0},
     {"(.R*R=\"\")", "00010", 0},
     {"(r=e)", "01000", SIZE_MAX},
@@ -286,14 +286,19 @@ static const selection padded_cases[] = {
     /* Blanks alone are the empty value, and the empty constant. */
     {"(e=\"\")", "000000010", 0},
     {"(e=\"  \")", "000000010", 0},
-    {"(e<\"5\")", "000000010", 0},
+    /* None of it is a numeral, the first text apart. */
+    {"(e<=\" 5.0 \")", "000100000", 0},
+    {"(e<=e)", "000100000", 0},
     {"(.l[:name]=..r*rl)", "010000000", SIZE_MAX},
 };
 
+/* More bytes than a document has that is lent so. */
+#define LENT 1024
+
 /* The document lies where it could be written, and is as before afterwards. */
-static void select_padded(const selection *s, const char *document, size_t nodes)
+static void select_lent(const selection *s, const char *document, size_t nodes)
 {
-    static char lent[sizeof padded];
+    static char lent[LENT];
     size_t length = strlen(document);
     call c = on_x(s->rule);
     int evaluation;
@@ -308,17 +313,71 @@ static void select_padded(const selection *s, const char *document, size_t nodes
     }
 }
 
-MUST(padded_x_fits, sizeof padded_x <= sizeof padded);
+MUST(padded_x_fits, sizeof padded_x <= LENT);
+MUST(padded_fits, sizeof padded <= LENT);
 
 /* On X the padding of its names changes no mark and no count. */
 static void test_padded(void)
 {
     size_t i;
     for (i = 0; i < sizeof cases / sizeof cases[0]; i++) {
-        select_padded(&cases[i], padded_x, X_NODES);
+        select_lent(&cases[i], padded_x, X_NODES);
     }
     for (i = 0; i < sizeof padded_cases / sizeof padded_cases[0]; i++) {
-        select_padded(&padded_cases[i], padded, PADDED_NODES);
+        select_lent(&padded_cases[i], padded, PADDED_NODES);
+    }
+}
+
+/* ---- the order of amounts ---- */
+
+/* 1 and 4 have 10.50, joined of two texts; 7, 10 and 11 have 10.5; 0 has 10.50 10.5, which is no numeral. */
+static const char limits[] =
+    "nodes=12\n"
+    "depth=0\nkind=e\nlabel=lib\nvalue=\n"
+    "depth=1\nkind=e\nlabel=drug\nvalue=\n"
+    "depth=2\nkind=a\nlabel=low\nvalue=9\n"
+    "depth=2\nkind=a\nlabel=high\nvalue=10\n"
+    "depth=2\nkind=e\nlabel=limit\nvalue=\n"
+    "depth=3\nkind=t\nlabel=text\nvalue=1\n"
+    "depth=3\nkind=t\nlabel=text\nvalue=0.50\n"
+    "depth=1\nkind=e\nlabel=drug\nvalue=\n"
+    "depth=2\nkind=a\nlabel=low\nvalue=-0\n"
+    "depth=2\nkind=a\nlabel=high\nvalue=none\n"
+    "depth=2\nkind=e\nlabel=limit\nvalue=\n"
+    "depth=3\nkind=t\nlabel=text\nvalue= 10.5 \n";
+
+#define LIMITS_NODES 12
+
+MUST(limits_fits, sizeof limits <= LENT);
+
+static const selection limits_cases[] = {
+    {"(e<\"10\")", "001001101000", 0},
+    {"(e>\"9\")", "010110010011", 0},
+    {"(e>=\"10.50\")", "010010010011", 0},
+    {"(e<=\"-0\")", "000000001000", 0},
+    /* A value is a numeral if <= holds between it and itself. */
+    {"(e<=e)", "011111111011", 0},
+    {"!(e<=e)", "100000000100", 0},
+    /* Texts are equal or not. */
+    {"(e=\"10.5\")", "000000010011", 0},
+    {"(e!=\"10.5\")", "111111101100", 0},
+    {"(e=\"0\")", "000000000000", 0},
+    /* A constant that is no numeral. */
+    {"(e<\"none\")", "000000000000", 0},
+    {"(e>=\"none\")", "000000000000", 0},
+    {"(e<=\"1234567890\")", "000000000000", 0},
+    /* Two paths. */
+    {"(e<r)", "001100000000", 0},
+    {"(e<=r)", "011100000000", 0},
+    {"(e>=r)", "010001000000", 0},
+    {"(.l*r<\"10\")", "010010010000", 0},
+};
+
+static void test_limits(void)
+{
+    size_t i;
+    for (i = 0; i < sizeof limits_cases / sizeof limits_cases[0]; i++) {
+        select_lent(&limits_cases[i], limits, LIMITS_NODES);
     }
 }
 
@@ -852,6 +911,7 @@ int main(void)
 {
     test_cases();
     test_padded();
+    test_limits();
     test_documents();
     test_duplicates();
     test_rules();

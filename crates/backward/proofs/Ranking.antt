@@ -10,27 +10,27 @@ use lib.ListN.{getD}
 use Rattle.xpath.specs.Syntax.{Op, eq}
 use Rattle.layout.specs.Groups.{FIRST, NEXT, MARKED}
 use Rattle.layout.specs.Sweeps.{LEAST, ABOVE}
-use Rattle.layout.specs.Table.{RANK, SmallRanks}
+use Rattle.layout.specs.Table.{RANK}
 use Rattle.layout.specs.Words.{cell, word, Within}
 use Rattle.layout.proofs.Frames.{within-frame, frame-same, same-wider}
 use Rattle.rule_parts.specs.Kinds.{operator}
 use Rattle.rule_parts.specs.declared.kinds.Operator.{Operator}
 use Rattle.machine.specs.declared.Machine.{Machine}
-use Rattle.machine.specs.Walks.{Stops, Meets}
+use Rattle.machine.specs.Walks.{Meets}
 use Rattle.buckets.specs.Buckets.{Buckets}
 use Rattle.buckets.proofs.Least.{buckets-kept}
 use Rattle.rank_sets.specs.declared.ranges.Range.{Range}
 use Rattle.rank_sets.specs.Ends.{Held}
 use Rattle.rank_sets.specs.Ranges.{Ranged, Across}
 use Rattle.rank_sets.proofs.Ranged.{across-some}
-use Rattle.rank_sets.proofs.Steady.{held-then, held-word, held-small}
+use Rattle.rank_sets.proofs.Steady.{held-then, held-word}
 use Rattle.plain.specs.Plain.{Answered}
 use Rattle.plain.proofs.Walks.{stops-same, meets-same}
 use Rattle.reach.specs.Work.{Work, Spared}
 use Rattle.reach.proofs.Adding.{spared-front, spared-aside}
 use Rattle.retracing.specs.Backward.{LinkedBothWays}
 use Rattle.retracing.specs.Notes.{Seeded}
-use Rattle.backward.specs.Sweeps.{rangeOf, Extreme, Blank, Blanked, Risen, Fallen, Ranges}
+use Rattle.backward.specs.Sweeps.{rangeOf, Extreme, Blank, Blanked, StopsRanked, Risen, Fallen, Ranges}
 use Rattle.retracing.proofs.Linked.{linked-same}
 use Rattle.backward.proofs.Sweeping.{extreme-as, Sweeping, sweeping-none, sweeping-step, sweeping-all}
 
@@ -56,33 +56,33 @@ rising-step {m} {n} {r} {p₀ = p₀} {p = p} small empty s g =
     both : (w : ℕ) → w < n → ((word p₀ n RANK w < r) ⊎ (word p n RANK w ≡ r)) ↔ (word p₀ n RANK w < r + 1)
     both w l = (⊎-elim (λ k. omega arith) (λ e. let z = rank w l in omega arith), λ h. part w l h (decLt (word p₀ n RANK w) r))
 
-pub rising-all : {m : Machine} {n r len : ℕ} {p₀ p : List ℕ} → SmallRanks n p₀ → Rising m n r len p₀ p → n ≤ r → Risen m n p₀ p
-rising-all small s l = sweeping-all s (λ w h. let k = small w h in omega arith)
+pub rising-all : {m : Machine} {n r len : ℕ} {p₀ p : List ℕ} → r ≡ n → Rising m n r len p₀ p → Risen m n p₀ p
+rising-all e s = sweeping-all s (λ w h. (λ d. omega arith, λ k. omega arith))
 
--- ── By falling rank: those from r on are done ──
+-- ── By falling rank: those of the ranks from r on are done ──
 abbrev pub Falling : Machine → ℕ → ℕ → ℕ → List ℕ → List ℕ → Type 0
-Falling m n r len p₀ p = Sweeping (λ a b. b ≤ a) 0 (λ w. suc (word p₀ n RANK w)) m n ABOVE (λ w. r ≤ word p₀ n RANK w) len p₀ p
+Falling m n r len p₀ p = Sweeping (λ a b. b ≤ a) 0 (λ w. suc (word p₀ n RANK w)) m n ABOVE (λ w. (r ≤ word p₀ n RANK w) × (word p₀ n RANK w < n)) len p₀ p
 
-pub falling-none : {m : Machine} {n : ℕ} {p : List ℕ} → SmallRanks n p → Blank n ABOVE 0 p → LinkedBothWays n p → Falling m n n 0 p p
-falling-none small b linked = sweeping-none b linked (λ w l d. let k = small w l in absurd (omega arith))
+pub falling-none : {m : Machine} {n : ℕ} {p : List ℕ} → Blank n ABOVE 0 p → LinkedBothWays n p → Falling m n n 0 p p
+falling-none b linked = sweeping-none b linked (λ w l (d, k). absurd (omega arith))
 
-pub falling-step : {m : Machine} {n r len len′ : ℕ} {p₀ p p′ : List ℕ} → m .second < 16 → Work n 0 p₀ → Falling m n r len p₀ p → 0 < r → Seeded m n (λ u. word p n RANK u ≡ r - 1) ABOVE r len len′ p p′
+pub falling-step : {m : Machine} {n r len len′ : ℕ} {p₀ p p′ : List ℕ} → m .second < 16 → Work n 0 p₀ → Falling m n r len p₀ p → 0 < r → r ≤ n → Seeded m n (λ u. word p n RANK u ≡ r - 1) ABOVE r len len′ p p′
     → Falling m n (r - 1) len′ p₀ p′
-falling-step {m} {n} {r} {p₀ = p₀} {p = p} small empty s some g =
-    sweeping-step small empty s g (λ w l e. let z = rank w l in omega arith) (omega arith) (λ w u l h d e. let z = rank u h in omega arith) both
+falling-step {m} {n} {r} {p₀ = p₀} {p = p} small empty s some below g =
+    sweeping-step small empty s g (λ w l e. let z = rank w l in omega arith) (omega arith) (λ w u l h (d, k) e. let z = rank u h in omega arith) both
   where
     rank : (w : ℕ) → w < n → word p n RANK w ≡ word p₀ n RANK w
     rank w l = spared-front (s .added .spared) (cell n RANK w) (omega arith)
 
-    part : (w : ℕ) → w < n → r - 1 ≤ word p₀ n RANK w → Dec (word p₀ n RANK w < r) → (r ≤ word p₀ n RANK w) ⊎ (word p n RANK w ≡ r - 1)
-    part w l h (yes k) = let z = rank w l in inr (omega arith)
-    part w l h (no k) = inl (omega arith)
+    part : (w : ℕ) → w < n → r - 1 ≤ word p₀ n RANK w → word p₀ n RANK w < n → Dec (word p₀ n RANK w < r) → ((r ≤ word p₀ n RANK w) × (word p₀ n RANK w < n)) ⊎ (word p n RANK w ≡ r - 1)
+    part w l h i (yes k) = let z = rank w l in inr (omega arith)
+    part w l h i (no k) = inl (omega arith, i)
 
-    both : (w : ℕ) → w < n → ((r ≤ word p₀ n RANK w) ⊎ (word p n RANK w ≡ r - 1)) ↔ (r - 1 ≤ word p₀ n RANK w)
-    both w l = (⊎-elim (λ k. omega arith) (λ e. let z = rank w l in omega arith), λ h. part w l h (decLt (word p₀ n RANK w) r))
+    both : (w : ℕ) → w < n → (((r ≤ word p₀ n RANK w) × (word p₀ n RANK w < n)) ⊎ (word p n RANK w ≡ r - 1)) ↔ ((r - 1 ≤ word p₀ n RANK w) × (word p₀ n RANK w < n))
+    both w l = (⊎-elim (λ (k, i). (omega arith, i)) (λ e. let z = rank w l in (omega arith, omega arith)), λ (h, i). part w l h i (decLt (word p₀ n RANK w) r))
 
 pub falling-all : {m : Machine} {n r len : ℕ} {p₀ p : List ℕ} → Falling m n r len p₀ p → r ≤ 0 → Fallen m n p₀ p
-falling-all s l = sweeping-all s (λ w h. omega arith)
+falling-all s l = sweeping-all s (λ w h. (λ (d, k). k, λ k. (omega arith, k)))
 
 -- ── What the sweeps leave ──
 spared-held : {n c : ℕ} {p q : List ℕ} → Spared n c p q → Held n p q
@@ -95,10 +95,10 @@ spared-buckets {n} c l s =
 
 -- what a sweep asks of the words before its columns
 abbrev pub Ready : ℕ → List ℕ → Type 0
-Ready n p = LinkedBothWays n p × Buckets n p × SmallRanks n p
+Ready n p = LinkedBothWays n p × Buckets n p
 
 pub spared-ready : {n : ℕ} (c : ℕ) {p q : List ℕ} → LEAST ≤ c → Spared n c p q → Ready n p → Ready n q
-spared-ready c l s (linked, buckets, small) = (linked-same (λ k l h. spared-front s k h) linked, spared-buckets c l s buckets, held-small (spared-held s) small)
+spared-ready c l s (linked, buckets) = (linked-same (λ k l h. spared-front s k h) linked, spared-buckets c l s buckets)
 
 -- ── The ranges ──
 ranged-of : {n : ℕ} {E : ℕ → Type 0} {rank : ℕ → ℕ} (a : Range) → Extreme (λ x y. x ≤ y) 65_535 n rank E (a .least) → Extreme (λ x y. y ≤ x) 0 n (λ w. suc (rank w)) E (a .above) → Ranged n E rank a
@@ -114,6 +114,10 @@ ranged-of {n} {E} {rank} a f g =
 extreme-keys : (Order : ℕ → ℕ → Type 0) (blank n : ℕ) (key key′ : ℕ → ℕ) {D : ℕ → Type 0} (x : ℕ) → ((w : ℕ) → w < n → key′ w ≡ key w) → Extreme Order blank n key D x → Extreme Order blank n key′ D x
 extreme-keys Order blank n key key′ x same (inl e) = inl e
 extreme-keys Order blank n key key′ x same (inr ((w, l, d, e), first)) = inr ((w, l, d, same w l ∙ e), λ u h k. subst (λ y. Order x y) (sym (same u h)) (first u h k))
+
+-- the nodes that have a rank where a path ends stay
+stops-ranked : {m : Machine} {n i v : ℕ} {p q : List ℕ} → Held n p q → v < n → (w : ℕ) → w < n → StopsRanked m n q i v w ↔ StopsRanked m n p i v w
+stops-ranked held l w r = let e = held-word held RANK w (omega arith) (omega arith) r in (λ (s, k). (stops-same held l .1 s, omega arith), λ (s, k). (stops-same held l .0 s, omega arith))
 
 module _ {m : Machine} {n : ℕ} {p p₁ p₂ p₃ : List ℕ} (a : Blanked n LEAST 65_535 p p₁) (b : Risen m n p₁ p₂) (c : Blanked n ABOVE 0 p₂ p₃) where
   -- what the second sweep asks
@@ -132,16 +136,16 @@ module _ {m : Machine} {n : ℕ} {p p₁ p₂ p₃ p₄ : List ℕ} (a : Blanked
   kept k l h = spared-aside (d .spared) k (omega arith) h ∙ spared-aside (c .spared) k (omega arith) h
 
   module _ (i v : ℕ) (l : v < n) where
-    least : (x y : ℕ) → y ≡ x → Extreme (λ a b. a ≤ b) 65_535 n (word p₁ n RANK) (λ w. Stops m n p₁ i v w) x → Extreme (λ a b. a ≤ b) 65_535 n (word p n RANK) (λ w. Stops m n p i v w) y
+    least : (x y : ℕ) → y ≡ x → Extreme (λ a b. a ≤ b) 65_535 n (word p₁ n RANK) (StopsRanked m n p₁ i v) x → Extreme (λ a b. a ≤ b) 65_535 n (word p n RANK) (StopsRanked m n p i v) y
     least x y e f =
-        subst (λ z. Extreme (λ a b. a ≤ b) 65_535 n (word p n RANK) (λ w. Stops m n p i v w) z) (sym e)
+        subst (λ z. Extreme (λ a b. a ≤ b) 65_535 n (word p n RANK) (StopsRanked m n p i v) z) (sym e)
         (extreme-keys (λ a b. a ≤ b) 65_535 n (word p₁ n RANK) (word p n RANK) x (λ w r. sym (held-word held₁ RANK w (omega arith) (omega arith) r))
-        (extreme-as (λ a b. a ≤ b) 65_535 n (word p₁ n RANK) x (λ w r. Iff·symm (stops-same held₁ l)) f))
+        (extreme-as (λ a b. a ≤ b) 65_535 n (word p₁ n RANK) x (stops-ranked held₁ l) f))
 
-    above : (x : ℕ) → Extreme (λ a b. b ≤ a) 0 n (λ w. suc (word p₃ n RANK w)) (λ w. Stops m n p₃ i v w) x → Extreme (λ a b. b ≤ a) 0 n (λ w. suc (word p n RANK w)) (λ w. Stops m n p i v w) x
+    above : (x : ℕ) → Extreme (λ a b. b ≤ a) 0 n (λ w. suc (word p₃ n RANK w)) (StopsRanked m n p₃ i v) x → Extreme (λ a b. b ≤ a) 0 n (λ w. suc (word p n RANK w)) (StopsRanked m n p i v) x
     above x f =
         extreme-keys (λ a b. b ≤ a) 0 n (λ w. suc (word p₃ n RANK w)) (λ w. suc (word p n RANK w)) x (λ w r. ap suc (sym (held-word held₃ RANK w (omega arith) (omega arith) r)))
-        (extreme-as (λ a b. b ≤ a) 0 n (λ w. suc (word p₃ n RANK w)) x (λ w r. Iff·symm (stops-same held₃ l)) f)
+        (extreme-as (λ a b. b ≤ a) 0 n (λ w. suc (word p₃ n RANK w)) x (stops-ranked held₃ l) f)
 
   pub ranges-all : Ranges m n p p₄
   ranges-all =
@@ -157,9 +161,9 @@ pub bucketed-held : {n : ℕ} {p q : List ℕ} → Within n FIRST MARKED p q →
 bucketed-held w = record { middle = frame-same (λ k h. inl (omega arith)) (within-frame w) }
 
 -- p₁ is the part with the buckets, and p₂ the part with the ranges
-pub order-answered : {m : Machine} {n : ℕ} {o : Operator} {p p₁ p₂ p₃ : List ℕ} → n ≤ 4096 → SmallRanks n p → Within n FIRST MARKED p p₁ → Ranges m n p₁ p₂
+pub order-answered : {m : Machine} {n : ℕ} {o : Operator} {p p₁ p₂ p₃ : List ℕ} → n ≤ 4096 → Within n FIRST MARKED p p₁ → Ranges m n p₁ p₂
     → Answered n (λ v. Across o (rangeOf p₂ n 0 v) (rangeOf p₂ n 1 v)) p₂ p₃ → (q : Op) → q ≢ eq → o ≡ operator q → Answered n (Meets m n p q) p p₃
-order-answered {m} {n} {o} {p} {p₁} {p₂} {p₃} few small w g a q d e =
+order-answered {m} {n} {o} {p} {p₁} {p₂} {p₃} few w g a q d e =
     record {
       long = a .long ∙ g .held .middle .long ∙ w .long;
       answers = λ v l. ⊎-elim (λ (s, z). inl (tells v l .0 s, z)) (λ (s, z). inr (λ h. s (tells v l .1 h), z)) (a .answers v l);
@@ -171,4 +175,4 @@ order-answered {m} {n} {o} {p} {p₁} {p₂} {p₃} few small w g a q d e =
     tells : (v : ℕ) → v < n → Across o (rangeOf p₂ n 0 v) (rangeOf p₂ n 1 v) ↔ Meets m n p q v
     tells v l =
         subst (λ x. Across x (rangeOf p₂ n 0 v) (rangeOf p₂ n 1 v) ↔ Meets m n p q v) (sym e)
-        (Iff·trans (across-some few (held-small held small) (g .first v l) (g .second v l) q d) (Iff·symm (meets-same held q v l)))
+        (Iff·trans (across-some few (g .first v l) (g .second v l) q d) (Iff·symm (meets-same held q v l)))

@@ -4,6 +4,7 @@ use mathlib.Core.Path.{_≡_, sym, _∙_, subst}
 use mathlib.Core.Logic.{_⊎_, inl, inr, ⊎-elim, _↔_}
 use mathlib.Core.List.{List}
 use native.Mathlib.Omega.{arith}
+use Rattle.layout.specs.Table.{RANK}
 use Rattle.layout.specs.Words.{word}
 use Rattle.machine.specs.declared.Machine.{Machine}
 use Rattle.machine.specs.Walks.{Stops}
@@ -12,7 +13,7 @@ use Rattle.reach.proofs.Adding.{spared-front, added-same}
 use Rattle.reach.proofs.Walks.{walk-same}
 use Rattle.retracing.specs.Backward.{LinkedBothWays, New, Closed, Ends}
 use Rattle.retracing.specs.Notes.{Noted, Seeded}
-use Rattle.backward.specs.Sweeps.{Extreme, Blank, Swept}
+use Rattle.backward.specs.Sweeps.{Extreme, Blank, StopsRanked, Swept}
 use Rattle.retracing.proofs.Spreading.{added-linked}
 use Rattle.retracing.proofs.Ending.{unseen, closed-none, ends-closed, ends-as, ends-then}
 
@@ -115,10 +116,14 @@ module _ {Order : ℕ → ℕ → Type 0} {blank : ℕ} {key : ℕ → ℕ} {m :
       also : (v i w : ℕ) → w < n → ((D w ⊎ E w) × Stops m n p₀ i v w) ↔ (F w × Stops m n p₀ i v w)
       also v i w r = (λ (d, t). (both w r .0 d, t), λ (d, t). (both w r .1 d, t))
 
-  pub sweeping-all : {len : ℕ} {p₀ p : List ℕ} → Sweeping Order blank key m n c D len p₀ p → ((w : ℕ) → w < n → D w) → Swept Order blank key m n c p₀ p
+  -- all nodes that have a rank are done
+  pub sweeping-all : {len : ℕ} {p₀ p : List ℕ} → Sweeping Order blank key m n c D len p₀ p → ((w : ℕ) → w < n → D w ↔ (word p₀ n RANK w < n)) → Swept Order blank key m n c p₀ p
   sweeping-all {p₀ = p₀} {p = p} s all =
       record {
         spared = s .added .spared;
-        first = λ v l. extreme-as Order blank n key (word p n c v) (λ w r. (λ (d, t). t, λ t. (all w r, t))) (s .first v l);
-        second = λ v l. extreme-as Order blank n key (word p n (c + 1) v) (λ w r. (λ (d, t). t, λ t. (all w r, t))) (s .second v l);
+        first = λ v l. extreme-as Order blank n key (word p n c v) (also v 0) (s .first v l);
+        second = λ v l. extreme-as Order blank n key (word p n (c + 1) v) (also v (m .second)) (s .second v l);
       }
+    where
+      also : (v i w : ℕ) → w < n → (D w × Stops m n p₀ i v w) ↔ StopsRanked m n p₀ i v w
+      also v i w r = (λ (d, t). (t, all w r .0 d), λ (t, k). (all w r .1 k, t))

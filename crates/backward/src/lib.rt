@@ -20,7 +20,6 @@ ghost use Rattle.xpath.specs.Syntax.{Op, eq};
 ghost use Rattle.rule_parts.specs.Kinds.{operator};
 ghost use Rattle.layout.specs.Part.{Space};
 ghost use Rattle.machine.specs.Walks.{Meets, Hits};
-ghost use Rattle.layout.specs.Table.{SmallRanks};
 ghost use Rattle.plain.specs.Plain.{Answered};
 ghost use Rattle.retracing.specs.Backward.{LinkedBothWays};
 
@@ -34,9 +33,9 @@ pub fn compare_constant(p: &mut [u16], n: usize, m: Machine)
     answer_seen(p, n);
 }
 
-// The two paths of a comparison by a sign other than =, which only asks for the least and the greatest rank where each path ends.
+// The two paths of a comparison by a sign other than =, which only asks for the least and the greatest of the ranks that nodes have where each path ends.
 pub fn compare_order(p: &mut [u16], n: usize, m: Machine, o: Operator)
-    requires { ⌜ Space n (now p) × SmallRanks n (now p) × (m .second < positions) × LinkedBothWays n (now p) ⌝ }
+    requires { ⌜ Space n (now p) × (m .second < positions) × LinkedBothWays n (now p) ⌝ }
     ensures { λ _. ⌜ ((q : Op) → q ≢ eq → o ≡ operator q → Answered n (Meets m n (now (p .entry)) q) (now (p .entry)) (now (p .exit))) ⌝ }
 {
     buckets(p, n);

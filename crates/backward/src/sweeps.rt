@@ -1,4 +1,4 @@
-// All nodes by rank. What is seen first from a node of some rank walks to no node of a rank before: so by rising rank the least is found for each start at each node, and by falling rank the greatest.
+// All nodes that have a rank, by rank. What is seen first from a node of some rank walks to no node of a rank before: so by rising rank the least is found for each start at each node, and by falling rank the greatest.
 use layout::Part;
 use layout::Sweeps;
 use layout::Table;
@@ -10,7 +10,6 @@ ghost use Rattle.limits.specs.Limits.{positions, wordValues};
 ghost use Rattle.layout.specs.Part.{Space};
 ghost use Rattle.layout.specs.Sweeps.{LEAST, ABOVE};
 ghost use Rattle.layout.specs.Words.{NONE};
-ghost use Rattle.layout.specs.Table.{SmallRanks};
 ghost use Rattle.retracing.specs.Backward.{LinkedBothWays};
 ghost use Rattle.buckets.specs.Buckets.{Buckets};
 ghost use Rattle.retracing.specs.Notes.{Paired};
@@ -28,7 +27,7 @@ fn blank(p: &mut [u16], n: usize, c: usize, x: usize)
 
 // The ranks from the least on.
 fn rise(p: &mut [u16], n: usize, m: Machine)
-    requires { ⌜ Blank n LEAST NONE (now p) × LinkedBothWays n (now p) × Buckets n (now p) × SmallRanks n (now p) × (m .second < positions) ⌝ }
+    requires { ⌜ Blank n LEAST NONE (now p) × LinkedBothWays n (now p) × Buckets n (now p) × (m .second < positions) ⌝ }
     ensures { λ _. ⌜ Risen m n (now (p .entry)) (now (p .exit)) ⌝ }
 {
     let mut len = 0;
@@ -41,7 +40,7 @@ fn rise(p: &mut [u16], n: usize, m: Machine)
 
 // The ranks from the greatest on. What is noted is one more than a rank.
 fn fall(p: &mut [u16], n: usize, m: Machine)
-    requires { ⌜ Blank n ABOVE 0 (now p) × LinkedBothWays n (now p) × Buckets n (now p) × SmallRanks n (now p) × (m .second < positions) ⌝ }
+    requires { ⌜ Blank n ABOVE 0 (now p) × LinkedBothWays n (now p) × Buckets n (now p) × (m .second < positions) ⌝ }
     ensures { λ _. ⌜ Fallen m n (now (p .entry)) (now (p .exit)) ⌝ }
 {
     let mut len = 0;
@@ -52,9 +51,9 @@ fn fall(p: &mut [u16], n: usize, m: Machine)
     }
 }
 
-// The ranges of the ranks where the two paths end.
+// The ranges of the ranks that nodes have where the two paths end.
 pub fn sweep(p: &mut [u16], n: usize, m: Machine)
-    requires { ⌜ Space n (now p) × LinkedBothWays n (now p) × Buckets n (now p) × SmallRanks n (now p) × (m .second < positions) ⌝ }
+    requires { ⌜ Space n (now p) × LinkedBothWays n (now p) × Buckets n (now p) × (m .second < positions) ⌝ }
     ensures { λ _. ⌜ Ranges m n (now (p .entry)) (now (p .exit)) ⌝ }
 {
     blank(p, n, Sweeps::LEAST, Table::NONE);

@@ -8,11 +8,11 @@ use native.Mathlib.Omega.{arith}
 use lib.ListN.{getD}
 use lib.Dec.{eqb}
 use Rattle.lists.specs.Lists.{All}
-use Rattle.lists.specs.Text.{bytes, Printable, NameByte, decimal}
+use Rattle.lists.specs.Text.{bytes, Printable, Digit, NameByte, decimal}
 use Rattle.limits.specs.Names.{Name}
 use Rattle.document_spec.specs.Library.{Kind, element, attribute, text, Value, nodesLine, depthLine, kindLine, labelLine, valueLine}
 use Rattle.lists.proofs.Lists.{all-imp}
-use Rattle.lists.proofs.Numerals.{Digit, decimal-injective, decimal-digits}
+use Rattle.lists.proofs.Numerals.{decimal-injective, decimal-digits}
 use Rattle.document_spec.proofs.Lines.{Plain, Line, end, line-from}
 
 -- ── Whole lines ──

@@ -2,7 +2,7 @@
 use Prim.Native.Nat.{ℕ, suc, _+_, _≤_, _<_}
 use native.Mathlib.Omega.{arith}
 use mathlib.Core.Path.{_≡_, refl, sym, _∙_, subst}
-use mathlib.Core.Logic.{_↔_, ⊎-elim}
+use mathlib.Core.Logic.{_↔_, _≢_, ⊎-elim}
 use mathlib.Core.Bool.{Bool, true, false}
 use mathlib.Core.List.{List, _++_}
 use lib.ListN.{length, getD}
@@ -12,18 +12,16 @@ use Rattle.xpath.specs.Syntax.{Test, XPath, stay}
 use Rattle.xpath.specs.Meaning.{Holds}
 use Rattle.document_spec.specs.Library.{Node}
 use Rattle.document_spec.specs.Binary.{treeOf}
-use Rattle.document_spec.proofs.Binary.{tree-formed}
 use Rattle.rule_spec.proofs.Bytes.{clash}
-use Rattle.layout.specs.Part.{HIT}
-use Rattle.layout.specs.Table.{COLUMNS}
+use Rattle.layout.specs.Part.{STAYS}
+use Rattle.layout.specs.Table.{COLUMNS, PARENT}
 use Rattle.layout.specs.Words.{word, Within}
 use Rattle.layout.proofs.Frames.{frame-then}
 use Rattle.test_bits.specs.Columns.{held}
 use Rattle.test_numbers.specs.Tests.{testsOf, pathTests, test}
 use Rattle.test_numbers.specs.Numbering.{Brackets}
 use Rattle.machine.specs.declared.Machine.{Machine}
-use Rattle.loops.specs.Loops.{Stage}
-use Rattle.machine.specs.Meaning.{IsStep, IsMachine}
+use Rattle.machine.specs.Meaning.{IsStep, IsMachine, Drawn}
 use Rattle.plain.specs.Plain.{Answered}
 use Rattle.staging.specs.Drawing.{Copied, Stayed}
 use Rattle.driver.specs.Tasks.{Task, Tells, Apart, Answers}
@@ -84,11 +82,8 @@ module _ {s rule : List ℕ} {ns : List Node} {T : Test} {n at k : ℕ} {t : Lis
     pub drawn-apart : Apart n t t₂
     drawn-apart = frame-then (within-apart some-nodes (omega arith) (omega arith) (copied .within)) (within-apart some-nodes (omega arith) (omega arith) (stayed .within))
 
-    -- the comparison stands in its part, also where the hits of a constant are drawn behind it
-    pub drawn-stage : {t₃ : List ℕ} (room : scratchWords n ≤ length t₃) → Within n (COLUMNS + HIT) (COLUMNS + HIT + 1) t₂ t₃ → Stage P R (treeOf ns) m n (part n t₃ some-nodes room)
-    drawn-stage room within = record {
-      formed = tree-formed (task .scene .library .legal);
-      machine = machine;
-      drawn = drawn (task .scene) some-nodes room copied stayed within P R
-          (brackets-hold {ns = ns} {k = k} T P R (task .inner) among (within-apart some-nodes (omega arith) (omega arith) (copied .within)) machine brackets);
-    }
+    -- the comparison stands in its part, also where one more column is drawn: the ranks, or the hits of a constant
+    pub drawn-part : (d : ℕ) {t₃ : List ℕ} (room : scratchWords n ≤ length t₃) → PARENT < d → STAYS ≢ d → Within n (COLUMNS + d) (COLUMNS + d + 1) t₂ t₃ → Drawn P R (treeOf ns) n (part n t₃ some-nodes room)
+    drawn-part d room late other within =
+        drawn (task .scene) some-nodes room copied stayed late other within P R
+        (brackets-hold {ns = ns} {k = k} T P R (task .inner) among (within-apart some-nodes (omega arith) (omega arith) (copied .within)) machine brackets)

@@ -2,22 +2,21 @@
 use Prim.Native.Nat.{ℕ, zero, suc, _+_, _-_, _*_, _/_, _%_, _^_, _≤_, _<_}
 use native.Mathlib.Nat.{mul-le-mul-right, mul-le-mul, mul-comm}
 use native.Mathlib.Omega.{arith}
-use mathlib.Core.Path.{_≡_, sym, ap, subst}
-use mathlib.Core.Logic.{_↔_}
+use mathlib.Core.Path.{_≡_, ap}
 use mathlib.Core.List.{List}
 use lib.ListN.{length, getD}
 use Rattle.lists.specs.Text.{binaryDigits}
 use Rattle.lists.proofs.Numerals.{binary-above}
 use Rattle.limits.specs.Limits.{scratchWords}
 use Rattle.bits.specs.Sets.{bit}
-use Rattle.xpath.specs.Meaning.{Less}
 use Rattle.document_spec.specs.Library.{Node}
-use Rattle.document_spec.specs.Binary.{comparedOf}
-use Rattle.layout.specs.Table.{COLUMNS, RANK, TESTS}
+use Rattle.layout.specs.Table.{AMOUNT, COLUMNS, RANK, TESTS}
 use Rattle.layout.specs.Words.{word, Within}
 use Rattle.layout.proofs.Frames.{frame-wider, within-frame}
 use Rattle.table.proofs.Linked.{linked-same}
 use Rattle.value_notes.proofs.Annotated.{annotated-same}
+use Rattle.ranks.proofs.Kept.{ranked-same}
+use Rattle.amounts.proofs.Kept.{weighed-same}
 use Rattle.test_bits.specs.Columns.{held}
 use Rattle.driver.specs.Tasks.{Scene, Apart}
 
@@ -47,24 +46,17 @@ word-apart {n} a c v h l = let k : c * n ≤ 15 * n = mul-le-mul-right n (omega 
 pub held-apart : {n : ℕ} {t t′ : List ℕ} → Apart n t t′ → (k v : ℕ) → k < 64 → v < n → held t′ n k v ≡ held t n k v
 held-apart a k v h l = ap (λ w. bit w (k % 16)) (word-apart a (TESTS + k / 16) v (omega arith) l)
 
--- the tree, the notes of the values and the ranks are told by the columns before those of the tests
+-- the tree, the notes of the values and the ranks of both kinds are told by the columns before those of the tests
 pub scene-same : {s : List ℕ} {ns : List Node} {n : ℕ} {t t′ : List ℕ} → Scene s ns n t → length t′ ≡ length t
     → ((i : ℕ) → i < TESTS * n → getD t′ i 0 ≡ getD t i 0) → Scene s ns n t′
 scene-same {s} {ns} {n} {t} {t′} c long same =
     let e = c .size in let room = c .room in
-    let rank : (v : ℕ) → v < length ns → word t′ (length ns) RANK v ≡ word t (length ns) RANK v = λ v l. same (RANK * length ns + v) (omega arith) in
-    let r = c .ranked in
     record {
       library = c .library;
       size = e;
       linked = linked-same (c .linked) (λ k l. same k (omega arith));
-      annotated = annotated-same (c .annotated) long (λ k v h d l. let m : k * n ≤ (TESTS - 1) * n = mul-le-mul-right n (omega arith) in same (k * n + v) (omega arith));
-      ranked = record {
-        small = λ v l. subst (λ x. x < length ns) (sym (rank v l)) (r .small v l);
-        ordered = λ v w l m. subst (λ x. (x < word t′ (length ns) RANK w) ↔ Less (comparedOf ns v) (comparedOf ns w)) (sym (rank v l))
-            (subst (λ y. (word t (length ns) RANK v < y) ↔ Less (comparedOf ns v) (comparedOf ns w)) (sym (rank w m)) (r .ordered v w l m));
-        same = λ v w l m. subst (λ x. (x ≡ word t′ (length ns) RANK w) ↔ (comparedOf ns v ≡ comparedOf ns w)) (sym (rank v l))
-            (subst (λ y. (word t (length ns) RANK v ≡ y) ↔ (comparedOf ns v ≡ comparedOf ns w)) (sym (rank w m)) (r .same v w l m));
-      };
+      annotated = annotated-same (c .annotated) long (λ k v h d l. let m : k * n ≤ (AMOUNT - 1) * n = mul-le-mul-right n (omega arith) in same (k * n + v) (omega arith));
+      ranked = ranked-same (λ v l. same (RANK * length ns + v) (omega arith)) (c .ranked);
+      weighed = weighed-same (λ v l. same (AMOUNT * length ns + v) (omega arith)) (c .weighed);
       room = omega arith;
     }

@@ -13,25 +13,27 @@ use Rattle.xpath.specs.Tree.{Tree}
 use Rattle.xpath.specs.Meaning.{Holds}
 use Rattle.document_spec.specs.Library.{Node}
 use Rattle.document_spec.specs.Binary.{treeOf}
-use Rattle.layout.specs.Table.{COLUMNS}
+use Rattle.document_spec.proofs.Binary.{tree-formed}
+use Rattle.layout.specs.Part.{HIT}
+use Rattle.layout.specs.Table.{COLUMNS, RANK}
 use Rattle.rule_parts.specs.Kinds.{operator}
 use Rattle.rule_parts.specs.declared.kinds.Operator.{Operator}
 use Rattle.test_numbers.specs.Tests.{testsOf, test}
 use Rattle.test_numbers.specs.Numbering.{NumbersTwo, NumbersOne}
 use Rattle.compiler.specs.Machines.{Machined, MachinedAlone}
 use Rattle.machine.specs.declared.Machine.{Machine}
-use Rattle.machine.specs.Meaning.{Judges}
-use Rattle.loops.specs.Loops.{Stage}
 use Rattle.plain.specs.Plain.{Answered}
-use Rattle.evaluators.specs.Evaluators.{PartRoom, Staged, Adds, Compared, Hit}
+use Rattle.evaluators.specs.Evaluators.{PartRoom, Posed, PosedTo, Staged, StagedTo, Adds, Compared, Hit}
 use Rattle.evaluators.specs.declared.Evaluator.{Evaluator}
-use Rattle.staging.specs.Drawing.{Copied, Stayed, Judged}
+use Rattle.staging.specs.Signs.{ranksOf}
+use Rattle.staging.specs.Drawing.{Copied, RanksCopied, Stayed, Judged}
 use Rattle.driver.specs.Tasks.{Scene, Task, Paths, Constant, Apart, Answers, Compares}
-use Rattle.layout.proofs.Frames.{within-none, frame-then}
+use Rattle.layout.proofs.Frames.{frame-then}
 use Rattle.driver.proofs.Frames.{scratch-room, scene-same, within-apart}
 use Rattle.driver.proofs.Parts.{part, part-long}
-use Rattle.driver.proofs.Answers.{some-nodes, drawn-apart, drawn-stage, answered}
+use Rattle.driver.proofs.Answers.{some-nodes, drawn-apart, drawn-part, answered}
 use Rattle.driver.proofs.Drawn.{judges}
+use Rattle.driver.proofs.Ranks.{ranks-tell}
 use Rattle.driver.proofs.Asked.{is-machine, has-brackets, among, is-machine-alone, has-brackets-alone, among-alone}
 
 -- the words of a scratch of n nodes from behind the table up to b
@@ -64,36 +66,42 @@ module _ {s rule : List ℕ} {ns : List Node} {T : Test} {n at k : ℕ} {t : Lis
 
 -- ── Two paths ──
 module _ {s rule : List ℕ} {ns : List Node} {T : Test} {n at k : ℕ} {t : List ℕ} {behind : ℕ} {o : Operator} (h : Paths s rule ns T n at k t behind o)
-    {m : Machine} {numbers t₁ t₂ : List ℕ} {b : ℕ}
+    {m : Machine} {numbers t₁ t₂ t₃ : List ℕ} {b c : ℕ}
     (machined : Machined rule (at + 1) behind m) (numbered : NumbersTwo rule (at + 1) behind (k + 1) numbers)
-    (copied : Copied n t t₁) (stayed : Stayed n (m .brackets) numbers t₁ t₂) (ends : b ≡ scratchWords n) where
-  paths-apart : Apart n t t₂
-  paths-apart = drawn-apart (h .task) (h .first) (h .second) (among h) (is-machine h machined) (has-brackets h numbered) copied stayed
+    (copied : Copied n t t₁) (stayed : Stayed n (m .brackets) numbers t₁ t₂) (chosen : (q : Op) → o ≡ operator q → c ≡ ranksOf q) (ranks : RanksCopied n c t₂ t₃) (ends : b ≡ scratchWords n) where
+  paths-apart : Apart n t t₃
+  paths-apart =
+      frame-then (drawn-apart (h .task) (h .first) (h .second) (among h) (is-machine h machined) (has-brackets h numbered) copied stayed)
+      (within-apart (some-nodes (h .task)) (omega arith) (omega arith) (ranks .within))
 
-  paths-room : scratchWords n ≤ length t₂
+  paths-room : scratchWords n ≤ length t₃
   paths-room = let r = h .task .scene .room in let e = paths-apart .long in omega arith
 
-  pub paths-stage : Stage (h .first) (h .second) (treeOf ns) m n (middle n b t₂)
-  paths-stage =
-      subst (λ c. Stage (h .first) (h .second) (treeOf ns) m n (middle n c t₂)) (sym ends)
-      (drawn-stage (h .task) (h .first) (h .second) (among h) (is-machine h machined) (has-brackets h numbered) copied stayed paths-room (within-none t₂))
+  paths-posed : Posed (h .sign) (h .first) (h .second) (treeOf ns) m n (middle n b t₃)
+  paths-posed = subst (λ c. Posed (h .sign) (h .first) (h .second) (treeOf ns) m n (middle n c t₃)) (sym ends) (record {
+    formed = tree-formed (h .task .scene .library .legal);
+    machine = is-machine h machined;
+    drawn = drawn-part (h .task) (h .first) (h .second) (among h) (is-machine h machined) (has-brackets h numbered) copied stayed RANK paths-room (omega arith) (λ e. absurd (omega arith)) (ranks .within);
+    ranks = let scene = drawn-scene (h .task) copied stayed in
+        ranks-tell (some-nodes (h .task)) paths-room (few-nodes (h .task)) (h .task .scene .size) (scene .ranked) (scene .weighed) (h .sign) (subst (λ d. RanksCopied n d t₂ t₃) (chosen (h .sign) (h .told)) ranks);
+  })
 
-  pub paths-asked : Staged m n (middle n b t₂) × PartRoom n (middle n b t₂)
-  paths-asked = ((h .first, h .second, treeOf ns, paths-stage), subst (λ c. PartRoom n (middle n c t₂)) (sym ends) (part-room (h .task) t₂ paths-room))
+  pub paths-asked : Staged o m n (middle n b t₃) × PartRoom n (middle n b t₃)
+  paths-asked = ((h .first, h .second, treeOf ns, h .sign, h .told, paths-posed), subst (λ c. PartRoom n (middle n c t₃)) (sym ends) (part-room (h .task) t₃ paths-room))
 
-  paths-done : {p : List ℕ} → Answered n (Holds (treeOf ns) (compare (h .sign) (h .first) (h .second))) (middle n b t₂) p
-      → Answers ns n (test (testsOf T) k) t (returned n b t₂ p)
+  paths-done : {p : List ℕ} → Answered n (Holds (treeOf ns) (compare (h .sign) (h .first) (h .second))) (middle n b t₃) p
+      → Answers ns n (test (testsOf T) k) t (returned n b t₃ p)
   paths-done {p} =
-      subst (λ U. Answered n (Holds (treeOf ns) (compare (h .sign) (h .first) (h .second))) (middle n b t₂) p → Answers ns n U t (returned n b t₂ p)) (sym (h .is))
-      (subst (λ c. Answered n (Holds (treeOf ns) (compare (h .sign) (h .first) (h .second))) (middle n c t₂) p → Answers ns n (compare (h .sign) (h .first) (h .second)) t (returned n c t₂ p)) (sym ends)
+      subst (λ U. Answered n (Holds (treeOf ns) (compare (h .sign) (h .first) (h .second))) (middle n b t₃) p → Answers ns n U t (returned n b t₃ p)) (sym (h .is))
+      (subst (λ c. Answered n (Holds (treeOf ns) (compare (h .sign) (h .first) (h .second))) (middle n c t₃) p → Answers ns n (compare (h .sign) (h .first) (h .second)) t (returned n c t₃ p)) (sym ends)
       (answered (some-nodes (h .task)) paths-room paths-apart))
 
   -- what the evaluator tells of any comparison on any tree is told of this one
   pub paths-compared : {e : Evaluator} {p : List ℕ} {r : ℕ}
-      → ((P R : XPath) (t′ : Tree) (q : Op) → Stage P R t′ m n (middle n b t₂) → o ≡ operator q → Compared e t′ q P R n (middle n b t₂) p r)
-      → Compares e ns n (test (testsOf T) k) t (returned n b t₂ p) r
+      → ((P R : XPath) (t′ : Tree) (q : Op) → Posed q P R t′ m n (middle n b t₃) → o ≡ operator q → Compared e t′ q P R n (middle n b t₃) p r)
+      → Compares e ns n (test (testsOf T) k) t (returned n b t₃ p) r
   paths-compared {e} {p} {r} f =
-      let x = f (h .first) (h .second) (treeOf ns) (h .sign) paths-stage (h .told) in
+      let x = f (h .first) (h .second) (treeOf ns) (h .sign) paths-posed (h .told) in
       record { answers = paths-done (x .answered); adds = subst (λ U. Adds e (treeOf ns) U r) (sym (h .is)) (x .adds) }
 
 -- ── A path and a constant ──
@@ -109,16 +117,16 @@ module _ {s rule : List ℕ} {ns : List Node} {T : Test} {n at k : ℕ} {t : Lis
   constant-room : scratchWords n ≤ length t₃
   constant-room = let r = h .task .scene .room in let e = constant-apart .long in omega arith
 
-  pub constant-stage : Stage (h .first) empty (treeOf ns) m n (middle n b t₃)
-  constant-stage =
-      subst (λ c. Stage (h .first) empty (treeOf ns) m n (middle n c t₃)) (sym ends)
-      (drawn-stage (h .task) (h .first) empty (among-alone h) (is-machine-alone h machined) (has-brackets-alone h numbered) copied stayed constant-room (judged .within))
+  constant-posed : PosedTo (h .sign) (h .first) (slice start stop rule) (treeOf ns) m n (middle n b t₃)
+  constant-posed = subst (λ c. PosedTo (h .sign) (h .first) (slice start stop rule) (treeOf ns) m n (middle n c t₃)) (sym ends) (record {
+    formed = tree-formed (h .task .scene .library .legal);
+    machine = is-machine-alone h machined;
+    drawn = drawn-part (h .task) (h .first) empty (among-alone h) (is-machine-alone h machined) (has-brackets-alone h numbered) copied stayed HIT constant-room (omega arith) (λ e. absurd (omega arith)) (judged .within);
+    hits = judges (some-nodes (h .task)) constant-room judged;
+  })
 
-  pub constant-judges : Judges (h .sign) (slice start stop rule) (treeOf ns) n (middle n b t₃)
-  constant-judges = subst (λ c. Judges (h .sign) (slice start stop rule) (treeOf ns) n (middle n c t₃)) (sym ends) (judges (some-nodes (h .task)) constant-room judged)
-
-  pub constant-asked : Staged m n (middle n b t₃) × PartRoom n (middle n b t₃)
-  constant-asked = ((h .first, empty, treeOf ns, constant-stage), subst (λ c. PartRoom n (middle n c t₃)) (sym ends) (part-room (h .task) t₃ constant-room))
+  pub constant-asked : StagedTo m n (middle n b t₃) × PartRoom n (middle n b t₃)
+  constant-asked = ((h .first, treeOf ns, h .sign, slice start stop rule, constant-posed), subst (λ c. PartRoom n (middle n c t₃)) (sym ends) (part-room (h .task) t₃ constant-room))
 
   constant-done : {p : List ℕ} → Answered n (Holds (treeOf ns) (compareTo (h .sign) (h .first) (slice start stop rule))) (middle n b t₃) p
       → Answers ns n (test (testsOf T) k) t (returned n b t₃ p)
@@ -128,4 +136,4 @@ module _ {s rule : List ℕ} {ns : List Node} {T : Test} {n at k : ℕ} {t : Lis
       (answered (some-nodes (h .task)) constant-room constant-apart))
 
   pub constant-compared : {p : List ℕ} → Hit m n (middle n b t₃) p → Answers ns n (test (testsOf T) k) t (returned n b t₃ p)
-  constant-compared f = constant-done (f (h .first) (treeOf ns) (h .sign) (slice start stop rule) constant-stage constant-judges)
+  constant-compared f = constant-done (f (h .first) (treeOf ns) (h .sign) (slice start stop rule) constant-posed)

@@ -1,6 +1,7 @@
 pub mod Frames
 pub mod Parts
 pub mod Drawn
+pub mod Ranks
 pub mod Answers
 pub mod Settling
 pub mod Arms

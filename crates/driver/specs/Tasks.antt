@@ -20,6 +20,7 @@ use Rattle.layout.specs.Words.{word, Frame}
 use Rattle.table.specs.Links.{Linked}
 use Rattle.value_notes.specs.Notes.{Annotated}
 use Rattle.ranks.specs.Ranks.{Ranked}
+use Rattle.amounts.specs.Weighed.{Weighed}
 use Rattle.rule_parts.specs.Standing.{TestAt, PathAt}
 use Rattle.rule_parts.specs.Kinds.{operator}
 use Rattle.rule_parts.specs.declared.kinds.Operator.{Operator}
@@ -33,13 +34,14 @@ use Rattle.evaluators.specs.Evaluators.{Adds}
 use Rattle.evaluators.specs.declared.Evaluator.the-variants.{Plain, Snippets}
 
 -- ── What a test finds ──
--- the scratch holds the tree of the accepted document, the notes of its values and their ranks
+-- the scratch holds the tree of the accepted document, the notes of its values, their ranks and those of their amounts
 pub record Scene (s : List ℕ) (ns : List Node) (n : ℕ) (t : List ℕ) : Type 0 where
   pub library : Document.Accepts s ns
   pub size : length ns ≡ n
   pub linked : Linked s ns t
   pub annotated : Annotated s n t
   pub ranked : Ranked ns t
+  pub weighed : Weighed ns t
   pub room : scratchWords n ≤ length t
 
 -- bit k says where the test holds

@@ -11,7 +11,9 @@ use rule_parts::parted;
 use rule_parts::skip_test;
 use staging::draw;
 use staging::draw_hits;
+use staging::draw_ranks;
 use staging::draw_tests;
+use staging::ranks_of;
 use test_numbers::bracket_tests;
 use test_numbers::bracket_tests_of_one;
 use tokens::stands;
@@ -41,6 +43,8 @@ fn between_paths(
     let numbers = bracket_tests(rule, at + 1, behind, k + 1);
     draw(t, n);
     draw_tests(t, n, m.brackets, numbers);
+    let c = ranks_of(o);
+    draw_ranks(t, n, c);
     let end = Scratch::needed(n);
     compare_paths(e, &mut t[Table::COLUMNS * n..end], n, m, o)
 }

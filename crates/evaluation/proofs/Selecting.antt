@@ -24,6 +24,7 @@ use Rattle.layout.proofs.Frames.{frame-then, frame-wider}
 use Rattle.table.specs.Links.{Linked, Built}
 use Rattle.table.specs.Tabled.{Tabled}
 use Rattle.ranks.specs.Ranks.{Written}
+use Rattle.amounts.specs.Weighed.{Weighed}
 use Rattle.bits.specs.Sets.{one}
 use Rattle.test_bits.specs.Columns.{held}
 use Rattle.marking.specs.Marking.{Told, Marked}
@@ -80,9 +81,9 @@ module _ (t marks : List ℕ) {document rule : List ℕ} {ns : List Node} {T : T
     pub tabled : Tabled document n t₁
     tabled = let h = room in let e = built .kept .long in record { nodes = ns; accepts = a .library; linked = built .linked; size = size; room = omega arith }
 
-    module _ {t₂ : List ℕ} (rank : (ms : List Node) → Document.Accepts document ms → Linked document ms t₁ → Written document ms t₁ t₂) where
+    module _ {t₂ : List ℕ} (rank : (ms : List Node) → Document.Accepts document ms → Linked document ms t₁ → Written document ms t₁ t₂ × Weighed ms t₂) where
       ranked : Written document ns t₁ t₂
-      ranked = rank ns (a .library) (built .linked)
+      ranked = rank ns (a .library) (built .linked) .0
 
       behind-table : Kept (scratchWords n) t t₂
       behind-table = frame-wider (omega arith) table-words (frame-then (built .kept) (ranked .kept))
@@ -91,7 +92,7 @@ module _ (t marks : List ℕ) {document rule : List ℕ} {ns : List Node} {T : T
       scene =
           let h = a .room in let e = behind-table .long in
           subst (λ m. Scene document ns m t₂) size
-          (record { library = a .library; size = refl; linked = ranked .linked; annotated = ranked .annotated; ranked = ranked .ranked; room = omega arith })
+          (record { library = a .library; size = refl; linked = ranked .linked; annotated = ranked .annotated; ranked = ranked .ranked; weighed = rank ns (a .library) (built .linked) .1; room = omega arith })
 
       module _ {e : Evaluator} {t₃ : List ℕ} {c : ℕ} (settle : (ms : List Node) (U : Test) → Scene document ms n t₂ → Rule.Accepts rule U → Evaluates e ms n U t₂ t₃ c) where
         settled : Settling ns n 0 T t₂ t₃

@@ -1,4 +1,5 @@
 // The evaluations: the inputs are judged, and where they are accepted the rule is settled in the scratch and its nodes are marked.
+use amounts::rank_amounts;
 use driver::settle_rule;
 use evaluators::Evaluator;
 use limits::Scratch;
@@ -12,8 +13,13 @@ ghost use mathlib.Core.List.{List};
 ghost use lib.ListN.{length};
 ghost use Rattle.xpath.specs.Syntax.{Test};
 ghost use Rattle.document_spec.specs.Library as Library;
+ghost use Rattle.document_spec.specs.Verdict.{Accepts};
 ghost use Rattle.evaluation_spec.specs.Buffers.{Accepted};
 ghost use Rattle.evaluation_spec.specs.Evaluation.{PlainEvaluation, SnippetEvaluation};
+ghost use Rattle.table.specs.Links.{Linked};
+ghost use Rattle.table.specs.Tabled.{Tabled};
+ghost use Rattle.ranks.specs.Ranks.{Written};
+ghost use Rattle.amounts.specs.Weighed.{Weighed};
 ghost use Rattle.evaluation.specs.Outcomes.{outcomeOf, Selection, Evaluated};
 
 // What an evaluation returns: number, place, the number of selected nodes, and the number of snippets.
@@ -31,6 +37,15 @@ struct Picked {
     snippets: usize,
 }
 
+// The ranks of the values, and those of the amounts.
+fn rank_values(document: &[u8], scratch: &mut [u16], n: usize)
+    requires { ⌜ Tabled (now document) n (now scratch) ⌝ }
+    ensures { λ _. ⌜ ((ns : List Library.Node) → Accepts (now (document .entry)) ns → Linked (now (document .entry)) ns (now (scratch .entry)) → Written (now (document .entry)) ns (now (scratch .entry)) (now (scratch .exit)) × Weighed ns (now (scratch .exit))) ⌝ }
+{
+    rank(document, scratch, n);
+    rank_amounts(document, scratch, n);
+}
+
 // Marks the nodes at which an accepted rule holds, and leaves zeros in the scratch.
 fn select(
     e: Evaluator,
@@ -44,7 +59,7 @@ fn select(
     ensures { λ r. ⌜ Selection e (now (document .entry)) (now (rule .entry)) (now (scratch .entry)) (now (marks .entry)) (r .selected) (r .snippets) (now (scratch .exit)) (now (marks .exit)) ⌝ }
 {
     build(document, scratch, n);
-    rank(document, scratch, n);
+    rank_values(document, scratch, n);
     let snippets = settle_rule(e, document, rule, scratch, n);
     let selected = mark(scratch, n, marks);
     let words = Scratch::needed(n);

@@ -13,8 +13,10 @@ use Rattle.limits.specs.Limits.{scratchWords}
 use Rattle.refusals.specs.Refusals.{Refusal}
 use Rattle.xpath.specs.Syntax.{Test}
 use Rattle.xpath.specs.Meaning.{Holds}
-use Rattle.xpath.specs.Order.{both, either}
-use Rattle.xpath.proofs.Decide.{holdsb, holds-iff, someBelow, some-iff, allb, each-by, neg, sideb, side-iff, T-both, T-either, T-neg, eqb-iff, ⊎-iff, trans}
+use Rattle.xpath.specs.Booleans.{both, either}
+use Rattle.xpath.specs.Reading.{amountOf, wholeFrom, decimalsFrom}
+use Rattle.xpath.proofs.Booleans.{neg, T-both, T-either, T-neg, eqb-iff, ⊎-iff, trans}
+use Rattle.xpath.proofs.Decide.{holdsb, holds-iff, someBelow, some-iff, allb, each-by, sideb, side-iff}
 use Rattle.document_spec.specs.Library.{Node}
 use Rattle.document_spec.specs.Binary.{treeOf, comparedOf}
 use Rattle.document_spec.specs.Example.{X, textX}
@@ -64,7 +66,7 @@ abbrev rightb : Case → Bool
 rightb c = rightly (answer ruleStart (c .rule)) (verdict (c .rule)) (c .marks)
 
 computed : T (allb rightb cases)
-unfolding verdict grounds earliest earlier unreadAt deepAt manyTestsAt manyStepsAt leastOf over move rest isLetter isNameByte isPrintable parts testParts pathParts stepParts Parts.tests spellTest spellPath spellStep comparedOf trim trimEnd trimStart
+unfolding verdict grounds earliest earlier unreadAt deepAt manyTestsAt manyStepsAt leastOf over move rest isLetter isNameByte isPrintable parts testParts pathParts stepParts Parts.tests spellTest spellPath spellStep comparedOf trim trimEnd trimStart amountOf wholeFrom decimalsFrom
 computed = tt
 
 -- ── What it shows ──

@@ -1,4 +1,4 @@
--- The ten rules that 01 marks on document X (M), with the nodes marked.
+-- The ten rules that 01 marks on document X (M), with the nodes marked. By 02 (f) the one with < marks none: no value of X is a numeral, and nor is its constant.
 use Prim.Native.Nat.{ℕ}
 use mathlib.Core.List.{List, [], _∷_}
 use Rattle.lists.specs.Text.{bytes}
@@ -17,7 +17,7 @@ cases =
     ∷ case (bytes "(e=e)") (0 ∷ 1 ∷ 2 ∷ 3 ∷ 4 ∷ [])
     ∷ case (bytes "(e!=e)") []
     ∷ case (bytes "(l=\"heparin\")") (1 ∷ 3 ∷ [])
-    ∷ case (bytes "(e<\"a\")") (0 ∷ 1 ∷ 3 ∷ [])
+    ∷ case (bytes "(e<\"a\")") []
     ∷ case (bytes "(*l=\"heparin\")") (0 ∷ 1 ∷ 2 ∷ 3 ∷ 4 ∷ [])
     ∷ case (bytes "(.R*R=\"\")") (3 ∷ [])
     ∷ case (bytes "(r=e)") (1 ∷ [])

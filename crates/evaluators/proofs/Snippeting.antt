@@ -22,13 +22,13 @@ use Rattle.plain.specs.Plain.{Answered}
 use Rattle.plain.proofs.Signs.{equal-sign}
 use Rattle.machine.specs.Shape.{Shape}
 use Rattle.layout.proofs.Frames.{within-back}
-use Rattle.machine.proofs.Shape.{shape-within, drawn-within}
+use Rattle.machine.proofs.Shape.{shape-within, drawn-within, ranks-within}
 use Rattle.levels.specs.Levels.{Levelled}
 use Rattle.group_ends.specs.Ends.{Enough}
 use Rattle.equalities.specs.Equalities.{Evaluated}
 use Rattle.evaluators.specs.declared.Evaluator.the-variants.{Snippets}
-use Rattle.evaluators.specs.Evaluators.{PartRoom, Compared}
-use Rattle.evaluators.proofs.Staging.{stage-some, answered-as}
+use Rattle.evaluators.specs.Evaluators.{PartRoom, Posed, Compared}
+use Rattle.evaluators.proofs.Staging.{drawn-some, answered-as}
 
 some-digit : (r d : ℕ) → 0 < r → r < 2 ^ d → 0 < d
 some-digit r zero l h = absurd (omega arith)
@@ -42,7 +42,7 @@ module _ {P R : XPath} {t : Tree} {m : Machine} {n : ℕ} {p : List ℕ} (stage 
   -- p₁ has the levels of the tree
   module _ {p₁ : List ℕ} {l : ℕ} (h : Levelled n p p₁ l) where
     pub stage-levelled : Stage P R t m n p₁
-    stage-levelled = record { formed = stage .formed; machine = stage .machine; drawn = drawn-within (omega arith) (h .within) (stage .drawn) }
+    stage-levelled = record { formed = stage .formed; machine = stage .machine; drawn = drawn-within (omega arith) (h .within) (stage .drawn); ranks = ranks-within eq t (omega arith) (h .within) (stage .ranks) }
 
     -- as many powers of two as binary digits of the number of levels
     pub digits-asked : {b : ℕ} → b ≡ binaryDigits l → PartRoom n p → ((u : Tree) → Shape u n p₁ → Enough u b) × (0 < n) × (n ≤ 4096) × (0 < b) × (b ≤ 13) × ((112 + 64 * b) * n ≤ length p₁)
@@ -52,7 +52,7 @@ module _ {P R : XPath} {t : Tree} {m : Machine} {n : ℕ} {p : List ℕ} (stage 
         let fits : (112 + 64 * binaryDigits l) * n ≤ (112 + 64 * binaryDigits n) * n = mul-le-mul-right n (let f = digits-fit l n some less in omega arith) in
         subst (λ d. ((u : Tree) → Shape u n p₁ → Enough u d) × (0 < n) × (n ≤ 4096) × (0 < d) × (d ≤ 13) × ((112 + 64 * d) * n ≤ length p₁)) (sym e) (
           λ u s x y k w. let f = h .ways u (shape-within (omega arith) (within-back (h .within)) s) x y k w in omega arith,
-          stage-some stage,
+          drawn-some (stage .formed) (stage .drawn),
           few,
           some-digit l (binaryDigits l) some above,
           binary-short l 13 (omega arith) (omega arith),
@@ -69,9 +69,9 @@ module _ {P R : XPath} {t : Tree} {m : Machine} {n : ℕ} {p : List ℕ} (stage 
           adds = counted-pair t (compare eq P R) P R r refl (sized-of t (stage .formed) (record { first = P; second = R }) r number);
         })
 
-  -- and the other signs have none
-  pub other-compared : {p′ : List ℕ} (q : Op) → q ≢ eq → Answered n (Meets m n p q) p p′ → Compared Snippets t q P R n p p′ 0
-  other-compared q d a = record {
-    answered = answered-as (meets-holds (stage .formed) (stage .machine) (stage .drawn) q) a;
-    adds = counted-no-pair t (compare q P R) (own-unequal q P R d);
-  }
+-- and the other signs have none
+pub other-compared : {q : Op} {P R : XPath} {t : Tree} {m : Machine} {n : ℕ} {p p′ : List ℕ} → Posed q P R t m n p → q ≢ eq → Answered n (Meets m n p q) p p′ → Compared Snippets t q P R n p p′ 0
+other-compared {q} {P} {R} {t} posed d a = record {
+  answered = answered-as (meets-holds (posed .formed) (posed .machine) (posed .drawn) q (posed .ranks)) a;
+  adds = counted-no-pair t (compare q P R) (own-unequal q P R d);
+}

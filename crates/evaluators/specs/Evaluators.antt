@@ -6,13 +6,14 @@ use lib.ListN.{length}
 use Rattle.lists.specs.Text.{binaryDigits}
 use Rattle.limits.specs.Limits.{wordsPerDigit, partWords}
 use Rattle.xpath.specs.Syntax.{Op, Test, XPath, empty, compare, compareTo}
-use Rattle.xpath.specs.Tree.{Tree}
+use Rattle.xpath.specs.Tree.{Tree, WellFormed}
 use Rattle.xpath.specs.Meaning.{Holds}
 use Rattle.snippets.specs.Count.{Counted}
+use Rattle.rule_parts.specs.Kinds.{operator}
+use Rattle.rule_parts.specs.declared.kinds.Operator.{Operator}
 use Rattle.test_numbers.specs.Owned.{own}
 use Rattle.machine.specs.declared.Machine.{Machine}
-use Rattle.machine.specs.Meaning.{Judges}
-use Rattle.loops.specs.Loops.{Stage}
+use Rattle.machine.specs.Meaning.{IsMachine, Drawn, RanksTell, Judges}
 use Rattle.plain.specs.Plain.{Answered}
 use Rattle.evaluators.specs.declared.Evaluator.{Evaluator}
 use Rattle.evaluators.specs.declared.Evaluator.the-variants.{Plain, Snippets}
@@ -21,9 +22,26 @@ use Rattle.evaluators.specs.declared.Evaluator.the-variants.{Plain, Snip
 abbrev pub PartRoom : ℕ → List ℕ → Type 0
 PartRoom n p = (partWords + wordsPerDigit * binaryDigits n) * n ≤ length p
 
+-- a comparison of two paths by the sign o on a tree, and the words that stand for it
+pub record Posed (o : Op) (P R : XPath) (t : Tree) (m : Machine) (n : ℕ) (p : List ℕ) : Type 0 where
+  pub formed : WellFormed t
+  pub machine : IsMachine P R m
+  pub drawn : Drawn P R t n p
+  pub ranks : RanksTell o t n p
+
+-- a comparison of a path with a constant, in the same way; the second path is then the empty one, and the words say where the constant is hit
+pub record PosedTo (o : Op) (P : XPath) (c : List ℕ) (t : Tree) (m : Machine) (n : ℕ) (p : List ℕ) : Type 0 where
+  pub formed : WellFormed t
+  pub machine : IsMachine P empty m
+  pub drawn : Drawn P empty t n p
+  pub hits : Judges o c t n p
+
 -- some comparison on some tree stands in the part
-abbrev pub Staged : Machine → ℕ → List ℕ → Type 0
-Staged m n p = (P R : XPath) × (t : Tree) × Stage P R t m n p
+abbrev pub Staged : Operator → Machine → ℕ → List ℕ → Type 0
+Staged o m n p = (P R : XPath) × (t : Tree) × (q : Op) × (o ≡ operator q) × Posed q P R t m n p
+
+abbrev pub StagedTo : Machine → ℕ → List ℕ → Type 0
+StagedTo m n p = (P : XPath) × (t : Tree) × (q : Op) × (c : List ℕ) × PosedTo q P c t m n p
 
 -- the snippets of a test: the plain evaluation has none, and the snippet evaluation those of an equality between two paths
 abbrev pub Adds : Evaluator → Tree → Test → ℕ → Type 0
@@ -35,6 +53,6 @@ pub record Compared (e : Evaluator) (t : Tree) (o : Op) (P R : XPath) (n : ℕ) 
   pub answered : Answered n (Holds t (compare o P R)) p p′
   pub adds : Adds e t (compare o P R) r
 
--- the same with a constant; the second path is then the empty one
+-- the same with a constant
 abbrev pub Hit : Machine → ℕ → List ℕ → List ℕ → Type 0
-Hit m n p p′ = (P : XPath) (t : Tree) (o : Op) (c : List ℕ) → Stage P empty t m n p → Judges o c t n p → Answered n (Holds t (compareTo o P c)) p p′
+Hit m n p p′ = (P : XPath) (t : Tree) (q : Op) (c : List ℕ) → PosedTo q P c t m n p → Answered n (Holds t (compareTo q P c)) p p′

@@ -8,8 +8,7 @@ ghost use mathlib.Core.Path.{_≡_};
 ghost use Rattle.xpath.specs.Syntax.{XPath, Op};
 ghost use Rattle.xpath.specs.Tree.{Tree};
 ghost use Rattle.rule_parts.specs.Kinds.{operator};
-ghost use Rattle.loops.specs.Loops.{Stage};
-ghost use Rattle.evaluators.specs.Evaluators.{PartRoom, Staged, Compared, Hit};
+ghost use Rattle.evaluators.specs.Evaluators.{PartRoom, Posed, Staged, StagedTo, Compared, Hit};
 ghost use Rattle.evaluators.specs.declared.Evaluator.the-variants.{Plain, Snippets};
 
 pub enum Evaluator {
@@ -19,8 +18,8 @@ pub enum Evaluator {
 
 // By walks from every node. There are no snippets.
 fn by_walks(p: &mut [u16], n: usize, m: Machine, o: Operator) -> usize
-    requires { ⌜ Staged m n (now p) × PartRoom n (now p) ⌝ }
-    ensures { λ r. ⌜ ((P R : XPath) (t : Tree) (q : Op) → Stage P R t m n (now (p .entry)) → o ≡ operator q → Compared Plain t q P R n (now (p .entry)) (now (p .exit)) r) ⌝ }
+    requires { ⌜ Staged o m n (now p) × PartRoom n (now p) ⌝ }
+    ensures { λ r. ⌜ ((P R : XPath) (t : Tree) (q : Op) → Posed q P R t m n (now (p .entry)) → o ≡ operator q → Compared Plain t q P R n (now (p .entry)) (now (p .exit)) r) ⌝ }
 {
     plain::compare_paths(p, n, m, o);
     0
@@ -28,8 +27,8 @@ fn by_walks(p: &mut [u16], n: usize, m: Machine, o: Operator) -> usize
 
 // An equality by its snippets, with as many powers as its ways ask for; any other sign backwards from the ends.
 fn by_snippets(p: &mut [u16], n: usize, m: Machine, o: Operator) -> usize
-    requires { ⌜ Staged m n (now p) × PartRoom n (now p) ⌝ }
-    ensures { λ r. ⌜ ((P R : XPath) (t : Tree) (q : Op) → Stage P R t m n (now (p .entry)) → o ≡ operator q → Compared Snippets t q P R n (now (p .entry)) (now (p .exit)) r) ⌝ }
+    requires { ⌜ Staged o m n (now p) × PartRoom n (now p) ⌝ }
+    ensures { λ r. ⌜ ((P R : XPath) (t : Tree) (q : Op) → Posed q P R t m n (now (p .entry)) → o ≡ operator q → Compared Snippets t q P R n (now (p .entry)) (now (p .exit)) r) ⌝ }
 {
     match o {
         Operator::Equal => {
@@ -46,8 +45,8 @@ fn by_snippets(p: &mut [u16], n: usize, m: Machine, o: Operator) -> usize
 
 // The comparison of two paths at every node. The number of its snippets is handed back.
 pub fn compare_paths(e: Evaluator, p: &mut [u16], n: usize, m: Machine, o: Operator) -> usize
-    requires { ⌜ Staged m n (now p) × PartRoom n (now p) ⌝ }
-    ensures { λ r. ⌜ ((P R : XPath) (t : Tree) (q : Op) → Stage P R t m n (now (p .entry)) → o ≡ operator q → Compared e t q P R n (now (p .entry)) (now (p .exit)) r) ⌝ }
+    requires { ⌜ Staged o m n (now p) × PartRoom n (now p) ⌝ }
+    ensures { λ r. ⌜ ((P R : XPath) (t : Tree) (q : Op) → Posed q P R t m n (now (p .entry)) → o ≡ operator q → Compared e t q P R n (now (p .entry)) (now (p .exit)) r) ⌝ }
 {
     match e {
         Evaluator::Plain => by_walks(p, n, m, o),
@@ -57,7 +56,7 @@ pub fn compare_paths(e: Evaluator, p: &mut [u16], n: usize, m: Machine, o: Opera
 
 // The comparison of the first path with a constant.
 pub fn compare_constant(e: Evaluator, p: &mut [u16], n: usize, m: Machine)
-    requires { ⌜ Staged m n (now p) × PartRoom n (now p) ⌝ }
+    requires { ⌜ StagedTo m n (now p) × PartRoom n (now p) ⌝ }
     ensures { λ _. ⌜ Hit m n (now (p .entry)) (now (p .exit)) ⌝ }
 {
     match e {

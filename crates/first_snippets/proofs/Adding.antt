@@ -18,10 +18,11 @@ use Rattle.layout.specs.Table.{RANK}
 use Rattle.layout.specs.Words.{word}
 use Rattle.table.specs.Links.{Points}
 use Rattle.machine.specs.declared.Machine.{Machine}
+use Rattle.machine.proofs.Comparing.{ranks-same}
 use Rattle.powers.specs.Powers.{Founded}
 use Rattle.buckets.specs.Buckets.{Least, Buckets}
 use Rattle.group_marks.specs.Groups.{Ranks, Grouped}
-use Rattle.buckets.proofs.Least.{least-node, least-none, buckets-kept}
+use Rattle.buckets.proofs.Least.{least-node, least-none, next-ranked, buckets-kept}
 use Rattle.group_ends.specs.Ends.{Setting, Given}
 use Rattle.layout.specs.Blocks.{Rest}
 use Rattle.first_snippets.specs.Groups.{Yields, Base, Grounds, Added, OfRanks, AddedOf, Somewhere, Alone}
@@ -97,7 +98,7 @@ module _ {n r w : ℕ} {p : List ℕ} (buckets : Buckets n p) (few : n ≤ 4096)
       l = least-node few h here
 
       next : Points (Least n p (suc w) r) x
-      next = subst (λ (k : ℕ). Points (Least n p (suc w) k) x) (l .ranked) (subst (λ (k : ℕ). Points (Least n p (suc w) (word p n RANK w)) k) (sym e) (buckets .next w h))
+      next = next-ranked buckets rank h (l .ranked) e
 
       one : (u : ℕ) → u < n → word p n RANK u ≡ r → u ≡ w
       one u a i = go (eq-or-lt-of-le (l .least u (omega arith) a i))
@@ -108,7 +109,7 @@ module _ {n r w : ℕ} {p : List ℕ} (buckets : Buckets n p) (few : n ≤ 4096)
 
 -- ── One rank ──
 founded-ranks : {P R : XPath} {t : Tree} {m : Machine} {n b r w : ℕ} {p : List ℕ} → Founded P R t m n b p → w < n → word p n RANK w ≡ r → Ranks t (t .value w) n r p
-founded-ranks {w = w} f node e u h = let same = f .stage .drawn .same u w h node in (λ q. same .0 (q ∙ sym e), λ q. same .1 q ∙ e)
+founded-ranks {t = t} {w = w} {p} f node e u h = let same = ranks-same t p (f .stage .ranks) u w h node in (λ q. same .0 (q ∙ sym e), λ q. same .1 q ∙ e)
 
 pub grounds-of : {m : Machine} {n b r : ℕ} {p : List ℕ} → Base m n b p → r < n → Somewhere n r p → Grounds m n b r p
 grounds-of s rank (w, node, e) = record { base = s; rank = rank; value = s .tree .value w; ranks = founded-ranks (s .founded) node e }

@@ -15,6 +15,7 @@ use Rattle.layout.specs.Table.{RANK}
 use Rattle.layout.specs.Words.{cell, word, Wrote}
 use Rattle.layout.proofs.Frames.{within-none, within-then, within-put}
 use Rattle.machine.specs.declared.Machine.{Machine}
+use Rattle.machine.proofs.Comparing.{ranks-small}
 use Rattle.powers.specs.Powers.{Founded}
 use Rattle.layout.specs.Blocks.{Rest}
 use Rattle.first_snippets.specs.Groups.{Base, OfRanks, AddedOf, Listed, Listing, AddedAll}
@@ -91,5 +92,5 @@ module _ {m : Machine} {n b first : ℕ} where
           let low = has .inside in
           let e = founded .stage .drawn .size in
           let node : u < n = omega arith in
-          let small = founded .stage .drawn .small u node in
+          let small = ranks-small t p₁ (founded .stage .ranks) u node in
           (u, node, (word p₁ n RANK u, small, f .entries (word p₁ n RANK u) small), subst (λ (d : List ℕ). Direct t P R d k x y i j) (sym (has .value)) g)

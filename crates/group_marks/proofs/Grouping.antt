@@ -19,7 +19,7 @@ use Rattle.table.specs.Links.{Points}
 use Rattle.machine.specs.Shape.{Shape}
 use Rattle.group_marks.specs.Groups.{IsMarked, IsNoted, Ranks, Grouped}
 use Rattle.buckets.specs.Buckets.{Least, Buckets}
-use Rattle.buckets.proofs.Least.{least-node, least-none}
+use Rattle.buckets.proofs.Least.{least-node, least-none, next-ranked}
 use Rattle.group_marks.specs.Steps.{Closed, Joined}
 use Rattle.machine.proofs.Shape.{shape-within, parent-of}
 
@@ -51,14 +51,18 @@ grouping-none {n} {r} {p₀ = p₀} l f b e =
     bare : (u : ℕ) → u < n → ¬ IsMarked p₀ n u
     bare u i a = let e = f .filled u i in omega arith
 
-pub grouping-step : {n r w x : ℕ} {p₀ p p′ : List ℕ} → n ≤ 4096 → Buckets n p₀ → Grouping n r w p₀ p → w < n → Joined n w p p′ → x ≡ word p₀ n NEXT w → Grouping n r x p₀ p′
-grouping-step {n} {r} {w} {x} {p₀} {p} {p′} few b g i j e =
+-- the node that the loop goes on with
+pub grouping-next : {n r w x : ℕ} {p₀ p : List ℕ} → n ≤ 4096 → r < n → Buckets n p₀ → Grouping n r w p₀ p → w < n → x ≡ word p₀ n NEXT w → Points (Least n p₀ (suc w) r) x
+grouping-next few s b g i = next-ranked b s i (least-node few i (g .here) .ranked)
+
+pub grouping-step : {n r w x : ℕ} {p₀ p p′ : List ℕ} → n ≤ 4096 → Grouping n r w p₀ p → w < n → Joined n w p p′ → Points (Least n p₀ (suc w) r) x → Grouping n r x p₀ p′
+grouping-step {n} {r} {w} {x} {p₀} {p} {p′} few g i j next =
     let h = j .raised in
     record {
       within = within-then (g .within) (h .within);
       closed = h .closed;
       from = suc w;
-      here = subst (λ k. Points (Least n p₀ (suc w) k) x) (now .ranked) (subst (λ k. Points (Least n p₀ (suc w) (word p₀ n RANK w)) k) (sym e) (b .next w i));
+      here = next;
       done = λ u a c k. done u a c k (ℕ-discrete u w);
       sound = λ t s u c a. sound t s u c (h .sound t (shape-within (omega arith) (g .within) s) u c a);
     }

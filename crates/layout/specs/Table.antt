@@ -32,6 +32,10 @@ RANK = 5
 abbrev pub LAST : ℕ
 LAST = 6
 
+-- the rank of the node's amount, if its value is a numeral
+abbrev pub AMOUNT : ℕ
+AMOUNT = 11
+
 -- when the nodes are ranked: a bit for each test, in as many columns as the tests take
 abbrev pub TESTS : ℕ
 TESTS = 12

@@ -26,6 +26,9 @@ impl Table {
     // While the tree is built: the last node so far of a depth.
     pub const LAST: usize = 6;
 
+    // The rank of the node's amount, if its value is a numeral.
+    pub const AMOUNT: usize = 11;
+
     // When the nodes are ranked: a bit for each test, in as many columns as the tests take.
     pub const TESTS: usize = 12;
 
@@ -66,6 +69,13 @@ impl Ranking {
     pub const FIRST_TEXT: usize = 14;
 
     pub const LAST_TEXT: usize = 15;
+
+    // When the texts are ranked: the key of a node's amount, in three words.
+    pub const KEY_LOW: usize = 13;
+
+    pub const KEY_MIDDLE: usize = 14;
+
+    pub const KEY_HIGH: usize = 15;
 }
 
 // The columns of a comparison's part; the links and the rank stand in the same columns as in the table.

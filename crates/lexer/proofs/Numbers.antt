@@ -12,10 +12,10 @@ use native.Mathlib.Nat.{pow-le-pow-right}
 use lib.Dec.{lit<}
 use borrow.Author.Tests.{ltb-true, ltb-false, eqb-true, eqb-false, le-leb}
 use Rattle.lists.specs.Lists.{All}
-use Rattle.lists.specs.Text.{decimal, digits}
+use Rattle.lists.specs.Text.{Digit, decimal, digits}
 use Rattle.lists.specs.Numerals.{reading}
 use Rattle.lists.proofs.Lists.{all-imp}
-use Rattle.lists.proofs.Numerals.{Digit, Decimal, decimal-decimal, decimal-digits, decimal-reading, decimal-short, digits-above}
+use Rattle.lists.proofs.Numerals.{Decimal, decimal-decimal, decimal-digits, decimal-reading, decimal-short, digits-above}
 use Rattle.lexer.specs.declared.Ending.the-variants.{Next, Bad}
 use Rattle.lexer.specs.declared.Numeral.the-variants.{Value, NoNumeral}
 use Rattle.lexer.specs.declared.Class.{Class}

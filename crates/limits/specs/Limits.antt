@@ -44,6 +44,13 @@ positions = comparisonSteps + 2
 abbrev pub constantBytes : ℕ
 constantBytes = 32
 
+-- 02 (f): a numeral has 1 to 9 digits, and 1 to 4 behind a point
+abbrev pub numeralDigits : ℕ
+numeralDigits = 9
+
+abbrev pub numeralDecimals : ℕ
+numeralDecimals = 4
+
 -- the count is at most 128 × N × B × E
 abbrev pub snippetFactor : ℕ
 snippetFactor = 128

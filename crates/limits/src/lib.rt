@@ -2,7 +2,7 @@
 ghost use mathlib.Core.Path.{_≡_};
 ghost use Prim.Native.Nat.{_<_, _≤_};
 ghost use Rattle.lists.specs.Text.{binaryDigits};
-ghost use Rattle.limits.specs.Limits.{documentBytes, documentNodes, countDigits, depthDigits, labelBytes, valueBytes, ruleBytes, ruleTests, ruleNesting, comparisonSteps, positions, constantBytes, wordsPerDigit, wordsPerNode, treeWords, partWords, wordBits, wordValues, scratchWords, programInput, programWords, programMarks};
+ghost use Rattle.limits.specs.Limits.{documentBytes, documentNodes, countDigits, depthDigits, labelBytes, valueBytes, ruleBytes, ruleTests, ruleNesting, comparisonSteps, positions, constantBytes, numeralDigits, numeralDecimals, wordsPerDigit, wordsPerNode, treeWords, partWords, wordBits, wordValues, scratchWords, programInput, programWords, programMarks};
 
 pub struct Document {
     pub nodes: usize,
@@ -10,6 +10,10 @@ pub struct Document {
 
 pub struct Rule {
     pub tests: usize,
+}
+
+pub struct Numeral {
+    pub digits: usize,
 }
 
 pub struct Scratch {
@@ -56,6 +60,12 @@ impl Rule {
     pub const MAX_POSITIONS: usize = Rule::MAX_STEPS + 2;
 
     pub const MAX_CONSTANT: usize = 32;
+}
+
+impl Numeral {
+    pub const MAX_DIGITS: usize = 9;
+
+    pub const MAX_DECIMALS: usize = 4;
 }
 
 impl Scratch {
@@ -108,6 +118,11 @@ fn rule_agrees()
     ensures { λ _. do ⌜ (← ⟦Rule::MAX_STEPS⟧ .entry) ≡ comparisonSteps ⌝ }
     ensures { λ _. do ⌜ (← ⟦Rule::MAX_POSITIONS⟧ .entry) ≡ positions ⌝ }
     ensures { λ _. do ⌜ (← ⟦Rule::MAX_CONSTANT⟧ .entry) ≡ constantBytes ⌝ }
+{}
+
+fn numeral_agrees()
+    ensures { λ _. do ⌜ (← ⟦Numeral::MAX_DIGITS⟧ .entry) ≡ numeralDigits ⌝ }
+    ensures { λ _. do ⌜ (← ⟦Numeral::MAX_DECIMALS⟧ .entry) ≡ numeralDecimals ⌝ }
 {}
 
 fn scratch_agrees()

@@ -10,7 +10,7 @@ use native.Mathlib.Decide.{decLt, decLe}
 use native.Mathlib.Nat.{div-add-mod', mod-lt, div-lt-self, le-div-iff-mul-le, mul-le-mul-right, mul-le-mul-left, pow-suc, pow-zero, pow-le-pow-right}
 use borrow.Author.Tests.{lt-ltb, le-ltb}
 use Rattle.lists.specs.Lists.{All}
-use Rattle.lists.specs.Text.{digitsBy, digits, decimal, binaryDigits}
+use Rattle.lists.specs.Text.{Digit, digitsBy, digits, decimal, binaryDigits}
 use Rattle.lists.specs.Numerals.{valueFrom, value, reading}
 use Rattle.lists.proofs.Lists.{all-append, all-map, all-imp, map-back}
 
@@ -22,6 +22,13 @@ value-append base n (d ∷ ds) es = value-append base (n * base + d) ds es
 pub value-grows : (base n : ℕ) (ds : List ℕ) → 0 < base → n ≤ valueFrom base n ds
 value-grows base n [] p = omega arith
 value-grows base n (d ∷ ds) p = let h = value-grows base (n * base + d) ds p in omega (arith, mul-le-mul-left n p)
+
+-- so many digits more make a number with so many digits more at most
+pub value-below : (base k n : ℕ) (ds : List ℕ) → n < base ^ k → All (λ d. d < base) ds → valueFrom base n ds < base ^ (k + length ds)
+value-below base k n [] h a = subst (λ (j : ℕ). n < base ^ j) (omega arith) h
+value-below base k n (d ∷ ds) h a =
+    subst (λ (j : ℕ). valueFrom base (n * base + d) ds < base ^ j) (omega arith)
+    (value-below base (suc k) (n * base + d) ds (let l = a .0 in let e = pow-suc base k in let m = mul-le-mul-right base h in omega arith) (a .1))
 
 -- digits below the base, at least one, and the first not 0 unless it is alone
 abbrev pub Numeral : ℕ → List ℕ → Type 0
@@ -175,10 +182,6 @@ module _ (base : ℕ) (two : 2 ≤ base) where
           absurd (omega arith)
 
 -- ── Decimal ──
--- 0-9
-abbrev pub Digit : ℕ → Type 0
-Digit b = (48 ≤ b) × (b ≤ 57)
-
 -- 01's decimal numbers: digits, the first not 0 unless it is alone
 abbrev pub Decimal : List ℕ → Type 0
 Decimal [] = ⊥
@@ -217,6 +220,11 @@ decimal-decimal n = spell-numeral (digits 10 n) (digits-numeral 10 ten n)
 pub decimal-digits : (n : ℕ) → All Digit (decimal n)
 unfolding decimal
 decimal-digits n = spell-all (digits 10 n) (digits-bounded 10 ten n)
+
+pub reading-below : (s : List ℕ) → All Digit s → reading s < 10 ^ length s
+reading-below s h =
+    subst (λ (j : ℕ). reading s < 10 ^ j) (length-map s unspell)
+    (subst (λ (j : ℕ). reading s < 10 ^ j) (omega arith) (value-below 10 0 0 (map unspell s) (omega arith) (unspell-all s h)))
 
 -- reading undoes decimal, and decimal undoes reading
 pub reading-decimal : (n : ℕ) → reading (decimal n) ≡ n

@@ -23,9 +23,13 @@ Printable b = (0x20 ≤ b) × (b ≤ 0x7e)
 abbrev pub Letter : ℕ → Type 0
 Letter b = (97 ≤ b) × (b ≤ 122)
 
+-- 0-9
+abbrev pub Digit : ℕ → Type 0
+Digit b = (48 ≤ b) × (b ≤ 57)
+
 -- a-z, 0-9 and hyphen
 abbrev pub NameByte : ℕ → Type 0
-NameByte b = Letter b ⊎ ((48 ≤ b) × (b ≤ 57)) ⊎ (b ≡ 45)
+NameByte b = Letter b ⊎ Digit b ⊎ (b ≡ 45)
 
 -- the digits of n in a base, the highest first; the fuel n is enough
 unfoldable pub digitsBy : ℕ → ℕ → ℕ → List ℕ

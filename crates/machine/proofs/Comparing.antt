@@ -1,40 +1,40 @@
 -- A comparison of ranks where two walks stop is the comparison of two paths.
 use Prim.Native.Nat.{ℕ, _≤_, _<_}
-use mathlib.Core.Path.{_≡_, sym, subst}
+use mathlib.Core.Path.{_≡_, refl, sym, subst}
 use mathlib.Core.Logic.{_⊎_, inl, inr, _↔_}
 use mathlib.Core.List.{List}
 use native.Mathlib.Omega.{arith}
 use native.Mathlib.Nat.{eq-or-lt-of-le}
-use Rattle.xpath.specs.Syntax.{Op, eq, ne, lt, le, gt, ge, compare, compareTo, XPath, empty}
+use Rattle.xpath.specs.Syntax.{Op, eq, lt, le, compare, compareTo, XPath, empty}
 use Rattle.xpath.specs.Tree.{Tree, WellFormed}
-use Rattle.xpath.specs.Meaning.{Rel, Reaches, Holds}
-use Rattle.xpath.proofs.Decide.{trans, ⊎-iff, ¬-iff}
+use Rattle.xpath.specs.Meaning.{Reaches, Holds}
+use Rattle.xpath.proofs.Booleans.{trans}
 use Rattle.positions.specs.Positions.{second}
 use Rattle.positions.proofs.Chains.{first-ends, second-ends}
-use Rattle.layout.specs.Table.{RANK}
+use Rattle.layout.specs.Table.{RANK, SmallRanks}
 use Rattle.layout.specs.Words.{word}
 use Rattle.machine.specs.declared.Machine.{Machine}
 use Rattle.machine.specs.Walks.{Compares, Stops, Meets, Hits}
-use Rattle.machine.specs.Meaning.{IsMachine, Drawn, Judges}
+use Rattle.machine.specs.Meaning.{IsMachine, Drawn, RanksTell, Judges}
 use Rattle.machine.proofs.Walking.{walk-inside, stops-ends}
 
 -- ── Ranks ──
-le-iff : (a b : ℕ) → (a ≤ b) ↔ ((a ≡ b) ⊎ (a < b))
-le-iff a b = (eq-or-lt-of-le, from)
+-- a rank is at most another if it is the same or less
+pub at-most : (a b : ℕ) → Compares le a b ↔ (Compares eq a b ⊎ Compares lt a b)
+at-most a b = (eq-or-lt-of-le, from)
   where
     from : (a ≡ b) ⊎ (a < b) → a ≤ b
     from (inl e) = omega arith
     from (inr k) = omega arith
 
--- ranks compare as the values do
-pub compares-rel : {P R : XPath} {t : Tree} {n : ℕ} {p : List ℕ} → Drawn P R t n p → (o : Op) (v w : ℕ) → v < n → w < n
-    → Compares o (word p n RANK v) (word p n RANK w) ↔ Rel o (t .value v) (t .value w)
-compares-rel d eq v w r q = d .same v w r q
-compares-rel d ne v w r q = ¬-iff (d .same v w r q)
-compares-rel d lt v w r q = d .ordered v w r q
-compares-rel {n = n} {p = p} d le v w r q = trans (le-iff (word p n RANK v) (word p n RANK w)) (⊎-iff (d .same v w r q) (d .ordered v w r q))
-compares-rel d gt v w r q = d .ordered w v q r
-compares-rel {n = n} {p = p} d ge v w r q = trans (le-iff (word p n RANK w) (word p n RANK v)) (⊎-iff (trans (d .same w v q r) (sym, sym)) (d .ordered w v q r))
+module _ (t : Tree) {n : ℕ} (p : List ℕ) (tell : RanksTell eq t n p) where
+  -- ranks that tell equal values are ranks of all nodes, since a value is equal to itself
+  pub ranks-small : SmallRanks n p
+  ranks-small v r = tell v v r r .1 refl .0
+
+  -- and are the same exactly where the values are
+  pub ranks-same : (v w : ℕ) → v < n → w < n → (word p n RANK v ≡ word p n RANK w) ↔ (t .value v ≡ t .value w)
+  ranks-same v w r q = (λ e. tell v w r q .0 (ranks-small v r, ranks-small w q, e), λ e. tell v w r q .1 e .2)
 
 -- ── Comparisons ──
 module _ {P R : XPath} {t : Tree} {n : ℕ} {p : List ℕ} {m : Machine} (wf : WellFormed t) (machine : IsMachine P R m) (drawn : Drawn P R t n p) where
@@ -49,17 +49,17 @@ module _ {P R : XPath} {t : Tree} {n : ℕ} {p : List ℕ} {m : Machine} (wf : W
       subst (λ i. Stops m n p i v w ↔ Reaches t R v w) (sym (machine .start)) h
 
   -- the comparison of two paths
-  pub meets-holds : (o : Op) (v : ℕ) → v < n → Meets m n p o v ↔ Holds t (compare o P R) v
-  meets-holds o v r = (to, from)
+  pub meets-holds : (o : Op) → RanksTell o t n p → (v : ℕ) → v < n → Meets m n p o v ↔ Holds t (compare o P R) v
+  meets-holds o tell v r = (to, from)
     where
       to : Meets m n p o v → Holds t (compare o P R) v
-      to (w, u, a, b, x, y, c) = (w, u, first-stops v w r .0 x, second-stops v u r .0 y, compares-rel drawn o w u a b .0 c)
+      to (w, u, a, b, x, y, c) = (w, u, first-stops v w r .0 x, second-stops v u r .0 y, tell w u a b .0 c)
 
       from : Holds t (compare o P R) v → Meets m n p o v
       from (w, u, f, g, c) =
           let x = first-stops v w r .1 f in let y = second-stops v u r .1 g in
           let a = walk-inside r (x .2) in let b = walk-inside r (y .2) in
-          (w, u, a, b, x, y, compares-rel drawn o w u a b .1 c)
+          (w, u, a, b, x, y, tell w u a b .1 c)
 
 -- the second start is a position
 pub second-few : {P R : XPath} {m : Machine} → IsMachine P R m → m .second < 16

@@ -5,7 +5,7 @@ use mathlib.Core.Logic.{_⊎_, inl, inr}
 use mathlib.Core.Bool.{Bool, true, false}
 use mathlib.Core.List.{List}
 use native.Mathlib.Omega.{arith}
-use Rattle.xpath.specs.Syntax.{XPath}
+use Rattle.xpath.specs.Syntax.{Op, XPath}
 use Rattle.xpath.specs.Tree.{Tree, Child, WellFormed}
 use Rattle.xpath.proofs.Trees.{one-child}
 use Rattle.layout.specs.Part.{STAYS}
@@ -13,8 +13,8 @@ use Rattle.layout.specs.Table.{PARENT, RANK, column}
 use Rattle.layout.specs.Words.{NONE, word, Within}
 use Rattle.layout.proofs.Frames.{before-within}
 use Rattle.table.specs.Links.{Points}
-use Rattle.machine.specs.Meaning.{Drawn}
-use Rattle.machine.proofs.Kept.{drawn-same}
+use Rattle.machine.specs.Meaning.{Drawn, RanksTell}
+use Rattle.machine.proofs.Kept.{drawn-same, ranks-kept}
 use Rattle.machine.specs.Shape.{Shape}
 
 -- ── The links, and that they stay ──
@@ -41,6 +41,10 @@ shape-within {t} l w s =
 -- so does all that is drawn
 pub drawn-within : {P R : XPath} {t : Tree} {n c d : ℕ} {p p′ : List ℕ} → STAYS < c → Within n c d p p′ → Drawn P R t n p → Drawn P R t n p′
 drawn-within l w = drawn-same (λ c v q r. before-within w c v (omega arith) r)
+
+-- and what the ranks tell
+pub ranks-within : (o : Op) (t : Tree) {n c d : ℕ} {p p′ : List ℕ} → RANK < c → Within n c d p p′ → RanksTell o t n p → RanksTell o t n p′
+ranks-within o t {p = p} {p′} l w = ranks-kept o t p p′ (λ v r. before-within w RANK v l r)
 
 -- ── What the links say ──
 module _ {t : Tree} {n : ℕ} {p : List ℕ} (s : Shape t n p) where

@@ -10,13 +10,14 @@ use Rattle.limits.specs.Limits.{documentNodes, positions, comparisonSteps}
 use Rattle.bits.specs.Sets.{bit}
 use Rattle.xpath.specs.Syntax.{Op, Test, XPath, Step, toLeft, toRight, fromLeft, fromRight, stay, steps, size}
 use Rattle.xpath.specs.Tree.{Tree, Child}
-use Rattle.xpath.specs.Meaning.{Less, Rel, Holds}
+use Rattle.xpath.specs.Meaning.{Rel, Holds}
 use Rattle.positions.specs.Positions.{Numbered, second, Follows, IsLast}
 use Rattle.layout.specs.Part.{STAYS, HIT}
 use Rattle.layout.specs.Table.{PARENT, RANK, column}
 use Rattle.layout.specs.Words.{NONE, word}
 use Rattle.table.specs.Links.{Points}
 use Rattle.machine.specs.declared.Machine.{Machine}
+use Rattle.machine.specs.Walks.{Signed}
 
 -- step j of the two paths is s
 abbrev pub IsStep : XPath → XPath → ℕ → Step → Type 0
@@ -36,16 +37,17 @@ pub record IsMachine (P R : XPath) (m : Machine) : Type 0 where
   pub first : (j : ℕ) → j < positions → (bit (m .first) j ≡ true) ↔ (j ≤ size P)
   pub start : m .second ≡ second P R
 
--- the links of the tree t, the ranks of its values, and where the bracketed tests hold
+-- the links of the tree t, and where the bracketed tests hold
 pub record Drawn (P R : XPath) (t : Tree) (n : ℕ) (p : List ℕ) : Type 0 where
   pub size : t .size ≡ n
   pub few : n ≤ documentNodes
   pub children : (side : Bool) (v : ℕ) → v < n → Points (Child t side v) (word p n (column side) v)
   pub parents : (v : ℕ) → v < n → ((v ≡ 0) × (word p n PARENT v ≡ NONE)) ⊎ ((0 < v) × (word p n PARENT v ≡ t .parent v))
-  pub small : (v : ℕ) → v < n → word p n RANK v < n
-  pub ordered : (v w : ℕ) → v < n → w < n → (word p n RANK v < word p n RANK w) ↔ Less (t .value v) (t .value w)
-  pub same : (v w : ℕ) → v < n → w < n → (word p n RANK v ≡ word p n RANK w) ↔ (t .value v ≡ t .value w)
   pub tests : (v j : ℕ) → v < n → j < positions → (bit (word p n STAYS v) j ≡ true) ↔ ((T : Test) × IsStep P R j (stay T) × Holds t T v)
+
+-- the sign stands between the ranks of two nodes exactly if it stands between their values
+abbrev pub RanksTell : Op → Tree → ℕ → List ℕ → Type 0
+RanksTell o t n p = (v w : ℕ) → v < n → w < n → Signed o n (word p n RANK v) (word p n RANK w) ↔ Rel o (t .value v) (t .value w)
 
 -- where the value is in the relation to the constant
 abbrev pub Judges : Op → List ℕ → Tree → ℕ → List ℕ → Type 0

@@ -22,6 +22,10 @@ Compares le a b = a ≤ b
 Compares gt a b = b < a
 Compares ge a b = b ≤ a
 
+-- a sign between two words: both are ranks of the n nodes, and the sign stands between them; a word that is not below n is no rank
+abbrev pub Signed : Op → ℕ → ℕ → ℕ → Type 0
+Signed o n a b = (a < n) × (b < n) × Compares o a b
+
 module _ (m : Machine) (n : ℕ) (p : List ℕ) where
   -- step j leads from v to u
   pub data Leads (v j u : ℕ) : Type 0 where
@@ -42,7 +46,7 @@ module _ (m : Machine) (n : ℕ) (p : List ℕ) where
 
   -- the comparison of the two paths at v, by ranks
   abbrev pub Meets : Op → ℕ → Type 0
-  Meets o v = (w u : ℕ) × (w < n) × (u < n) × Stops 0 v w × Stops (m .second) v u × Compares o (word p n RANK w) (word p n RANK u)
+  Meets o v = (w u : ℕ) × (w < n) × (u < n) × Stops 0 v w × Stops (m .second) v u × Signed o n (word p n RANK w) (word p n RANK u)
 
   -- the comparison of the first path with a constant at v
   abbrev pub Hits : ℕ → Type 0

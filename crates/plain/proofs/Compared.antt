@@ -22,7 +22,7 @@ use Rattle.reach.proofs.Adding.{spared-front}
 use Rattle.rank_sets.specs.declared.ranges.Range.{Range}
 use Rattle.rank_sets.specs.Ends.{Ended, Held, Steady}
 use Rattle.rank_sets.specs.Marks.{Marked}
-use Rattle.rank_sets.specs.Ranges.{Ranged, Across}
+use Rattle.rank_sets.specs.Ranges.{WithRank, Ranged, Across}
 use Rattle.rank_sets.proofs.Steady.{held-then, held-word, steady-then}
 use Rattle.rank_sets.proofs.Ranged.{ranged-same, ranged-empty, across-some}
 use Rattle.plain.proofs.Steady.{steady-reached}
@@ -96,22 +96,22 @@ module _ {m : Machine} {n v : ℕ} (fits : m .last < 65536) where
           let (u, l, e, d) = a .0 z in
           let r = subst (λ x. x < n) (sym (rank all u l)) (small u l) in
           let (w, l′, e′, q) = k .sound (word p₄ n RANK u) r (sym (mark (word p₄ n RANK u) r) ∙ d) in
-          (w, u, l′, l, ends b (c .held) f w l′ .0 e′, ends b second s u l .0 e, sym (rank first w l′) ∙ q ∙ rank all u l),
-      λ (w, u, l′, l, x, y, q).
+          (w, u, l′, l, ends b (c .held) f w l′ .0 e′, ends b second s u l .0 e, (small w l′, small u l, sym (rank first w l′) ∙ q ∙ rank all u l)),
+      λ (w, u, l′, l, x, y, (_, _, q)).
           let z : word p₄ n RANK u ≡ word p₂ n RANK w = rank all u l ∙ sym q ∙ sym (rank first w l′) in
           let r = subst (λ x. x < n) (sym (rank first w l′)) (small w l′) in
           a .1 (u, l, ends b second s u l .1 y, ap (λ (x : ℕ). word p₄ n MARK x) z ∙ mark (word p₂ n RANK w) r ∙ k .complete w l′ (ends b (c .held) f w l′ .1 x)),
     )
 
   -- ── Ranks in an order ──
-  module _ {p p₁ : List ℕ} {a : Range} (b : v < n) (f : Reached m n 0 v p p₁) (g : Ranged n (Ended n (m .last) p₁) (word p₁ n RANK) a) where
-    range : Ranged n (λ w. Stops m n p 0 v w) (word p n RANK) a
+  module _ {p p₁ : List ℕ} {a : Range} (b : v < n) (f : Reached m n 0 v p p₁) (g : Ranged n (WithRank n (word p₁ n RANK) (Ended n (m .last) p₁)) (word p₁ n RANK) a) where
+    range : Ranged n (WithRank n (word p n RANK) (λ w. Stops m n p 0 v w)) (word p n RANK) a
     range = ranged-same (λ w l. ended-stops f w l) (λ w l. sym (held-word (steady-reached f .held) RANK w (omega arith) (omega arith) l)) g
 
     pub none-told : a .above ≡ 0 → (q : Op) → ¬ Meets m n p q v
-    none-told z q (w, u, l, r, x, y, c) = ranged-empty range z w l x
+    none-told z q (w, u, l, r, x, y, (i, j, c)) = ranged-empty range z w l (x, i)
 
-    module _ {p₂ : List ℕ} {a′ : Range} (s : Reached m n (m .second) v p₁ p₂) (g′ : Ranged n (Ended n (m .last) p₂) (word p₂ n RANK) a′) where
-      pub ordered-told : Space n p → SmallRanks n p → (q : Op) → q ≢ eq → Across (operator q) a a′ ↔ Meets m n p q v
-      ordered-told space small = across-some (space .few) small range
+    module _ {p₂ : List ℕ} {a′ : Range} (s : Reached m n (m .second) v p₁ p₂) (g′ : Ranged n (WithRank n (word p₂ n RANK) (Ended n (m .last) p₂)) (word p₂ n RANK) a′) where
+      pub ordered-told : Space n p → (q : Op) → q ≢ eq → Across (operator q) a a′ ↔ Meets m n p q v
+      ordered-told space = across-some (space .few) range
           (ranged-same (ends b (steady-reached f .held) s) (λ w l. sym (held-word (ordered-steady f s .held) RANK w (omega arith) (omega arith) l)) g′)

@@ -8,7 +8,7 @@ use Rattle.xpath.specs.Syntax.{Op}
 use Rattle.layout.specs.Part.{HIT}
 use Rattle.layout.specs.Table.{RANK}
 use Rattle.machine.specs.declared.Machine.{Machine}
-use Rattle.machine.specs.Walks.{Compares, Stops, Meets, Hits}
+use Rattle.machine.specs.Walks.{Signed, Stops, Meets, Hits}
 use Rattle.reach.proofs.Walks.{walk-same}
 use Rattle.rank_sets.specs.Ends.{Held}
 use Rattle.rank_sets.proofs.Steady.{held-back, held-at, held-word}
@@ -23,7 +23,7 @@ module _ {m : Machine} {n : ℕ} {p p′ : List ℕ} (h : Held n p p′) where
 
   meets-on : (q : Op) {v : ℕ} → v < n → Meets m n p q v → Meets m n p′ q v
   meets-on q r (w, u, l, k, s, t, c) =
-      (w, u, l, k, stops-on h r s, stops-on h r t, subst₂ (λ x y. Compares q x y) (sym (held-word h RANK w (omega arith) (omega arith) l)) (sym (held-word h RANK u (omega arith) (omega arith) k)) c)
+      (w, u, l, k, stops-on h r s, stops-on h r t, subst₂ (λ x y. Signed q n x y) (sym (held-word h RANK w (omega arith) (omega arith) l)) (sym (held-word h RANK u (omega arith) (omega arith) k)) c)
 
   hits-on : {v : ℕ} → v < n → Hits m n p v → Hits m n p′ v
   hits-on r (w, l, s, c) = (w, l, stops-on h r s, held-word h HIT w (omega arith) (omega arith) l ∙ c)

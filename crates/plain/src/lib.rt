@@ -22,6 +22,7 @@ ghost use Rattle.xpath.specs.Syntax.{Op};
 ghost use Rattle.layout.specs.Part.{ANSWER, Space};
 ghost use Rattle.layout.specs.Words.{cell, Wrote};
 ghost use Rattle.rule_parts.specs.Kinds.{operator};
+ghost use Rattle.rule_parts.specs.declared.kinds.Operator.the-variants.{Equal};
 ghost use Rattle.machine.specs.Walks.{Meets, Hits};
 ghost use Rattle.layout.specs.Table.{SmallRanks};
 ghost use Rattle.rank_sets.specs.Ends.{Steady};
@@ -29,7 +30,7 @@ ghost use Rattle.plain.specs.Plain.{Answered};
 
 // Whether the comparison of the two paths holds at node `v`.
 fn meets_at(p: &mut [u16], n: usize, m: Machine, v: usize, o: Operator) -> bool
-    requires { ⌜ Space n (now p) × SmallRanks n (now p) × (m .second < positions) × (v < n) ⌝ }
+    requires { ⌜ Space n (now p) × (o ≡ Equal → SmallRanks n (now p)) × (m .second < positions) × (v < n) ⌝ }
     ensures { λ r. ⌜ Steady n (now (p .entry)) (now (p .exit)) × ((q : Op) → o ≡ operator q → (r ≡ true) ↔ Meets m n (now (p .entry)) q v) ⌝ }
 {
     match o {
@@ -62,9 +63,9 @@ pub fn answer(p: &mut [u16], n: usize, v: usize, b: bool)
     put(p, n, Part::ANSWER, v, one_if(b));
 }
 
-// The two paths of a comparison.
+// The two paths of a comparison. Equal ranks are marked, so each node must have one.
 pub fn compare_paths(p: &mut [u16], n: usize, m: Machine, o: Operator)
-    requires { ⌜ Space n (now p) × SmallRanks n (now p) × (m .second < positions) ⌝ }
+    requires { ⌜ Space n (now p) × (o ≡ Equal → SmallRanks n (now p)) × (m .second < positions) ⌝ }
     ensures { λ _. ⌜ ((q : Op) → o ≡ operator q → Answered n (Meets m n (now (p .entry)) q) (now (p .entry)) (now (p .exit))) ⌝ }
 {
     let mut v = 0;

@@ -1,4 +1,4 @@
-// Ranks in an order: of the ranks where a path ends only the least and the greatest count.
+// Ranks in an order: of the ranks that nodes have where a path ends only the least and the greatest count.
 use machine::Machine;
 use rank_sets::ranges::ordered;
 use rank_sets::ranges::rank_range;
@@ -13,12 +13,11 @@ ghost use Rattle.xpath.specs.Syntax.{Op, eq};
 ghost use Rattle.rule_parts.specs.Kinds.{operator};
 ghost use Rattle.layout.specs.Part.{Space};
 ghost use Rattle.machine.specs.Walks.{Meets};
-ghost use Rattle.layout.specs.Table.{SmallRanks};
 ghost use Rattle.rank_sets.specs.Ends.{Steady};
 
-// Whether the paths from node `v` end at nodes whose ranks are in the relation of a sign other than =. Where the first ends nowhere, the second is not walked.
+// Whether the paths from node `v` end at nodes whose ranks are in the relation of a sign other than =. Where the first ends at no rank, the second is not walked.
 pub fn ordered_at(p: &mut [u16], n: usize, m: Machine, v: usize, o: Operator) -> bool
-    requires { ⌜ Space n (now p) × SmallRanks n (now p) × (m .second < positions) × (v < n) ⌝ }
+    requires { ⌜ Space n (now p) × (m .second < positions) × (v < n) ⌝ }
     ensures { λ r. ⌜ Steady n (now (p .entry)) (now (p .exit)) × ((q : Op) → q ≢ eq → o ≡ operator q → (r ≡ true) ↔ Meets m n (now (p .entry)) q v) ⌝ }
 {
     reach(p, n, m, 0, v);

@@ -15,13 +15,12 @@ use Rattle.layout.specs.Blocks.{BLOCKS, blockAt, snippetAt, Aside, upperAt, Res
 use Rattle.layout.specs.Part.{STAYS}
 use Rattle.layout.proofs.Rest.{same-word}
 use Rattle.machine.specs.declared.Machine.{Machine}
-use Rattle.machine.specs.Meaning.{Drawn}
 use Rattle.machine.specs.Shape.{Shape}
-use Rattle.machine.proofs.Kept.{drawn-same}
 use Rattle.machine.proofs.Shape.{drawn-shape}
 use Rattle.matrices.specs.Matrices.{Redrawn}
 use Rattle.matrices.proofs.Drawing.{redrawn-other}
 use Rattle.loops.specs.Loops.{Stage, Loops}
+use Rattle.loops.proofs.Kept.{stage-same}
 use Rattle.powers.specs.Powers.{Powers, Founded}
 use Rattle.powers.specs.Blocks.{BlockRoom}
 use Rattle.powers.proofs.Kept.{power-kept}
@@ -55,11 +54,8 @@ module _ {c n b : ℕ} {p p′ : List ℕ} (h : Rest c n b p p′) where
 
   module _ (l : STAYS < c) where
     -- the links, the ranks and the tests stand in columns before
-    drawn-rest : {P R : XPath} {t : Tree} → Drawn P R t n p → Drawn P R t n p′
-    drawn-rest = drawn-same (λ a v q r. same-word h a v (omega arith) r)
-
     stage-rest : {P R : XPath} {t : Tree} {m : Machine} → Stage P R t m n p → Stage P R t m n p′
-    stage-rest s = record { formed = s .formed; machine = s .machine; drawn = drawn-rest (s .drawn) }
+    stage-rest = stage-same (λ a v q r. same-word h a v (omega arith) r)
 
     pub founded-rest : {P R : XPath} {t : Tree} {m : Machine} → Founded P R t m n b p → Founded P R t m n b p′
     founded-rest f = record { stage = stage-rest (f .stage); loops = loops-rest (f .loops); powers = powers-rest (f .powers) }

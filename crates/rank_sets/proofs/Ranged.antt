@@ -7,9 +7,9 @@ use native.Mathlib.Omega.{arith}
 use Rattle.xpath.specs.Syntax.{Op, eq, ne, lt, le, gt, ge}
 use Rattle.rule_parts.specs.Kinds.{operator}
 use Rattle.rule_parts.specs.declared.kinds.Operator.the-variants.{Unequal}
-use Rattle.machine.specs.Walks.{Compares}
+use Rattle.machine.specs.Walks.{Signed}
 use Rattle.rank_sets.specs.declared.ranges.Range.{Range}
-use Rattle.rank_sets.specs.Ranges.{Some, Ranged, Under, Across}
+use Rattle.rank_sets.specs.Ranges.{Some, WithRank, Ranged, Under, Across}
 
 module _ (E : ℕ → Type 0) (rank : ℕ → ℕ) where
   pub ranged-none : Ranged 0 E rank (record { least = 65_535; above = 0 })
@@ -68,22 +68,20 @@ module _ {E : ℕ → Type 0} {rank : ℕ → ℕ} {i : ℕ} {a : Range} (g : Ra
 
 -- the same nodes and the same ranks
 pub ranged-same : {n : ℕ} {E F : ℕ → Type 0} {rank rank′ : ℕ → ℕ} {a : Range}
-    → ((w : ℕ) → w < n → E w ↔ F w) → ((w : ℕ) → w < n → rank′ w ≡ rank w) → Ranged n E rank a → Ranged n F rank′ a
+    → ((w : ℕ) → w < n → E w ↔ F w) → ((w : ℕ) → w < n → rank′ w ≡ rank w) → Ranged n (WithRank n rank E) rank a → Ranged n (WithRank n rank′ F) rank′ a
 ranged-same {n} {E} {F} {rank} {rank′} {a} s r g =
     record {
-      low = λ w l e. subst (λ x. a .least ≤ x) (sym (r w l)) (g .low w l (s w l .1 e));
-      least = least (g .least);
-      high = λ w l e. subst (λ x. x < a .above) (sym (r w l)) (g .high w l (s w l .1 e));
-      greatest = greatest (g .greatest);
+      low = λ w l e. subst (λ x. a .least ≤ x) (sym (r w l)) (g .low w l (had w l e));
+      least = ⊎-elim (λ z. inl z) (λ (w, l, e, z). inr (w, l, has w l e, r w l ∙ z)) (g .least);
+      high = λ w l e. subst (λ x. x < a .above) (sym (r w l)) (g .high w l (had w l e));
+      greatest = ⊎-elim (λ z. inl z) (λ (w, l, e, z). inr (w, l, has w l e, ap suc (r w l) ∙ z)) (g .greatest);
     }
   where
-    least : (a .least ≡ 65_535) ⊎ Some n E (λ w. rank w ≡ a .least) → (a .least ≡ 65_535) ⊎ Some n F (λ w. rank′ w ≡ a .least)
-    least (inl z) = inl z
-    least (inr (w, l, e, z)) = inr (w, l, s w l .0 e, r w l ∙ z)
+    has : (w : ℕ) → w < n → WithRank n rank E w → WithRank n rank′ F w
+    has w l (e, k) = let q = r w l in (s w l .0 e, omega arith)
 
-    greatest : (a .above ≡ 0) ⊎ Some n E (λ w. suc (rank w) ≡ a .above) → (a .above ≡ 0) ⊎ Some n F (λ w. suc (rank′ w) ≡ a .above)
-    greatest (inl z) = inl z
-    greatest (inr (w, l, e, z)) = inr (w, l, s w l .0 e, ap suc (r w l) ∙ z)
+    had : (w : ℕ) → w < n → WithRank n rank′ F w → WithRank n rank E w
+    had w l (f, k) = let q = r w l in (s w l .1 f, omega arith)
 
 -- no rank lies below 0
 pub ranged-empty : {n : ℕ} {E : ℕ → Type 0} {rank : ℕ → ℕ} {a : Range} → Ranged n E rank a → a .above ≡ 0 → (w : ℕ) → w < n → ¬ E w
@@ -93,46 +91,46 @@ ranged-empty g z w l e = let h = g .high w l e in omega arith
 abbrev Pair : ℕ → (ℕ → Type 0) → (ℕ → Type 0) → (ℕ → ℕ → Type 0) → Type 0
 Pair n E F R = (w u : ℕ) × (w < n) × (u < n) × E w × F u × R w u
 
-module _ {n : ℕ} {rank : ℕ → ℕ} (few : n ≤ 4096) (small : (w : ℕ) → w < n → rank w < n) where
-  pub ranged-fits : {E : ℕ → Type 0} {a : Range} → Ranged n E rank a → a .least < 65536
-  ranged-fits g = ⊎-elim (λ e. omega arith) (λ s. let r = small (s .0) (s .1) in let e = s .3 in omega arith) (g .least)
+module _ {n : ℕ} {rank : ℕ → ℕ} (few : n ≤ 4096) where
+  pub ranged-fits : {E : ℕ → Type 0} {a : Range} → Ranged n (WithRank n rank E) rank a → a .least < 65536
+  ranged-fits g = ⊎-elim (λ e. omega arith) (λ (w, l, (e, r), q). omega arith) (g .least)
 
-  module _ {E F : ℕ → Type 0} {a b : Range} (g : Ranged n E rank a) (h : Ranged n F rank b) where
+  module _ {E F : ℕ → Type 0} {a b : Range} (g : Ranged n (WithRank n rank E) rank a) (h : Ranged n (WithRank n rank F) rank b) where
     -- the least of the first and the greatest of the second
-    extremes : a .least < b .above → Pair n E F (λ w u. (rank w ≡ a .least) × (suc (rank u) ≡ b .above))
+    extremes : a .least < b .above → Pair n E F (λ w u. (rank w < n) × (rank u < n) × (rank w ≡ a .least) × (suc (rank u) ≡ b .above))
     extremes k =
-        let (u, r, f, y) = ⊎-elim (λ z. absurd (omega arith)) (λ s. s) (h .greatest) in let q = small u r in
-        let (w, l, e, x) = ⊎-elim (λ z. absurd (omega arith)) (λ s. s) (g .least) in
-        (w, u, l, r, e, f, (x, y))
+        let (u, r, (f, j), y) = ⊎-elim (λ z. absurd (omega arith)) (λ s. s) (h .greatest) in
+        let (w, l, (e, i), x) = ⊎-elim (λ z. absurd (omega arith)) (λ s. s) (g .least) in
+        (w, u, l, r, e, f, (i, j, x, y))
 
-    under-some : Under a b ↔ Pair n E F (λ w u. rank w < rank u)
+    under-some : Under a b ↔ Pair n E F (λ w u. Signed lt n (rank w) (rank u))
     under-some = (
-      λ k. let (w, u, l, r, e, f, (x, y)) = extremes (omega arith) in (w, u, l, r, e, f, omega arith),
-      λ (w, u, l, r, e, f, c). let x = g .low w l e in let y = h .high u r f in omega arith,
+      λ k. let (w, u, l, r, e, f, (i, j, x, y)) = extremes (omega arith) in (w, u, l, r, e, f, (i, j, omega arith)),
+      λ (w, u, l, r, e, f, (i, j, c)). let x = g .low w l (e, i) in let y = h .high u r (f, j) in omega arith,
     )
 
-    most-some : (a .least < b .above) ↔ Pair n E F (λ w u. rank w ≤ rank u)
+    most-some : (a .least < b .above) ↔ Pair n E F (λ w u. Signed le n (rank w) (rank u))
     most-some = (
-      λ k. let (w, u, l, r, e, f, (x, y)) = extremes k in (w, u, l, r, e, f, omega arith),
-      λ (w, u, l, r, e, f, c). let x = g .low w l e in let y = h .high u r f in omega arith,
+      λ k. let (w, u, l, r, e, f, (i, j, x, y)) = extremes k in (w, u, l, r, e, f, (i, j, omega arith)),
+      λ (w, u, l, r, e, f, (i, j, c)). let x = g .low w l (e, i) in let y = h .high u r (f, j) in omega arith,
     )
 
-  exchanged : {E F : ℕ → Type 0} {R : ℕ → ℕ → Type 0} → Pair n F E R → Pair n E F (λ w u. R u w)
-  exchanged (w, u, l, r, f, e, c) = (u, w, r, l, e, f, c)
+  exchanged : {E F : ℕ → Type 0} {R : ℕ → ℕ → Type 0} → Pair n F E (λ w u. (rank w < n) × (rank u < n) × R w u) → Pair n E F (λ w u. (rank w < n) × (rank u < n) × R u w)
+  exchanged (w, u, l, r, f, e, (i, j, c)) = (u, w, r, l, e, f, (j, i, c))
 
-  module _ {E F : ℕ → Type 0} {a b : Range} (g : Ranged n E rank a) (h : Ranged n F rank b) where
-    differ : Across Unequal a b ↔ Pair n E F (λ w u. rank w ≢ rank u)
-    differ = (to, λ (w, u, l, r, e, f, c). from w u l r e f c (decLt (rank w) (rank u)))
+  module _ {E F : ℕ → Type 0} {a b : Range} (g : Ranged n (WithRank n rank E) rank a) (h : Ranged n (WithRank n rank F) rank b) where
+    differ : Across Unequal a b ↔ Pair n E F (λ w u. Signed ne n (rank w) (rank u))
+    differ = (to, λ (w, u, l, r, e, f, (i, j, c)). from w u l r e f i j c (decLt (rank w) (rank u)))
       where
-        to : Across Unequal a b → Pair n E F (λ w u. rank w ≢ rank u)
-        to (inl k) = let (w, u, l, r, e, f, c) = under-some g h .0 k in (w, u, l, r, e, f, λ q. absurd (omega arith))
-        to (inr k) = let (u, w, r, l, f, e, c) = under-some h g .0 k in (w, u, l, r, e, f, λ q. absurd (omega arith))
+        to : Across Unequal a b → Pair n E F (λ w u. Signed ne n (rank w) (rank u))
+        to (inl k) = let (w, u, l, r, e, f, (i, j, c)) = under-some g h .0 k in (w, u, l, r, e, f, (i, j, λ q. absurd (omega arith)))
+        to (inr k) = let (u, w, r, l, f, e, (j, i, c)) = under-some h g .0 k in (w, u, l, r, e, f, (i, j, λ q. absurd (omega arith)))
 
-        from : (w u : ℕ) → w < n → u < n → E w → F u → rank w ≢ rank u → Dec (rank w < rank u) → Across Unequal a b
-        from w u l r e f c (yes k) = inl (under-some g h .1 (w, u, l, r, e, f, k))
-        from w u l r e f c (no k) = inr (under-some h g .1 (u, w, r, l, f, e, omega arith))
+        from : (w u : ℕ) → w < n → u < n → E w → F u → rank w < n → rank u < n → rank w ≢ rank u → Dec (rank w < rank u) → Across Unequal a b
+        from w u l r e f i j c (yes k) = inl (under-some g h .1 (w, u, l, r, e, f, (i, j, k)))
+        from w u l r e f i j c (no k) = inr (under-some h g .1 (u, w, r, l, f, e, (j, i, omega arith)))
 
-    pub across-some : (q : Op) → q ≢ eq → Across (operator q) a b ↔ Pair n E F (λ w u. Compares q (rank w) (rank u))
+    pub across-some : (q : Op) → q ≢ eq → Across (operator q) a b ↔ Pair n E F (λ w u. Signed q n (rank w) (rank u))
     across-some eq d = absurd (d refl)
     across-some ne d = differ
     across-some lt d = under-some g h

@@ -11,6 +11,10 @@ use Rattle.rank_sets.specs.declared.ranges.Range.{Range}
 abbrev pub Some : ℕ → (ℕ → Type 0) → (ℕ → Type 0) → Type 0
 Some n E B = (w : ℕ) × (w < n) × E w × B w
 
+-- E holds of w, and w has one of n ranks
+abbrev pub WithRank : ℕ → (ℕ → ℕ) → (ℕ → Type 0) → ℕ → Type 0
+WithRank n rank E w = E w × (rank w < n)
+
 -- the range of the ranks of the nodes below n that E holds of
 pub record Ranged (n : ℕ) (E : ℕ → Type 0) (rank : ℕ → ℕ) (a : Range) : Type 0 where
   -- none is less, and one is the least, if there is any

@@ -1,4 +1,4 @@
-// Ranks as ranges: the least and the greatest rank where a walk ends, and what two ranges say of the signs.
+// Ranks as ranges: the least and the greatest rank where a walk ends, and what two ranges say of the signs. A word that is not below the number of nodes is no rank.
 use crate::ends::ends_at;
 use layout::Table;
 use layout::words::get;
@@ -11,7 +11,7 @@ ghost use Rattle.limits.specs.Limits.{wordValues};
 ghost use Rattle.layout.specs.Table.{RANK, Room};
 ghost use Rattle.layout.specs.Words.{word};
 ghost use Rattle.rank_sets.specs.Ends.{Ended};
-ghost use Rattle.rank_sets.specs.Ranges.{Ranged, Under, Across};
+ghost use Rattle.rank_sets.specs.Ranges.{WithRank, Ranged, Under, Across};
 
 // The least rank, and one more than the greatest; 65535 and 0 where there is none.
 pub struct Range {
@@ -31,25 +31,27 @@ fn greater(x: usize, y: usize) -> usize
     if x < y { y } else { x }
 }
 
-// The range with the rank of node `w`, if the walk ends there.
+// The range with the rank of node `w`, if the walk ends there and `w` has a rank.
 fn widened(p: &[u16], n: usize, last: u16, w: usize, a: Range) -> Range
-    requires { ⌜ (w < n) × Room n (now p) × Ranged w (Ended n last (now p)) (word (now p) n RANK) a ⌝ }
-    ensures { λ r. ⌜ Ranged (suc w) (Ended n last (now (p .entry))) (word (now (p .entry)) n RANK) r ⌝ }
+    requires { ⌜ (w < n) × Room n (now p) × Ranged w (WithRank n (word (now p) n RANK) (Ended n last (now p))) (word (now p) n RANK) a ⌝ }
+    ensures { λ r. ⌜ Ranged (suc w) (WithRank n (word (now (p .entry)) n RANK) (Ended n last (now (p .entry)))) (word (now (p .entry)) n RANK) r ⌝ }
 {
     if ends_at(p, n, last, w) {
         let r = get(p, n, Table::RANK, w);
-        return Range {
-            least: smaller(a.least, r),
-            above: greater(a.above, r + 1),
-        };
+        if r < n {
+            return Range {
+                least: smaller(a.least, r),
+                above: greater(a.above, r + 1),
+            };
+        }
     }
     a
 }
 
-// The range of the ranks of the nodes where the walk ends.
+// The range of the ranks that nodes have where the walk ends.
 pub fn rank_range(p: &[u16], n: usize, last: u16) -> Range
     requires { ⌜ Room n (now p) ⌝ }
-    ensures { λ r. ⌜ Ranged n (Ended n last (now (p .entry))) (word (now (p .entry)) n RANK) r ⌝ }
+    ensures { λ r. ⌜ Ranged n (WithRank n (word (now (p .entry)) n RANK) (Ended n last (now (p .entry)))) (word (now (p .entry)) n RANK) r ⌝ }
 {
     let mut a = Range {
         least: Table::NONE,

@@ -2,8 +2,7 @@
 use Prim.Native.Nat.{ℕ, _<_}
 use mathlib.Core.Path.{_≡_, sym, ap, _∙_}
 use mathlib.Core.List.{List}
-use Rattle.xpath.specs.Meaning as Meaning
-use Rattle.xpath.proofs.Order.{less-asymmetric, less-distinct}
+use Rattle.string_order.specs.Bytes as Bytes
 use Rattle.document_spec.specs.Library.{Node}
 use Rattle.document_spec.specs.Binary.{comparedOf}
 use Rattle.document_spec.specs.Verdict.{Accepts}
@@ -15,7 +14,8 @@ use Rattle.string_order.specs.declared.Order.the-variants.{Less, Same, Greater}
 use Rattle.string_order.specs.Ordered.{Ordered}
 use Rattle.value_order.specs.Less.{isSmaller}
 use Rattle.value_order.specs.Twins.{Prepared}
-use Rattle.value_order.proofs.Less.{one-less, one-not}
+use Rattle.sorting.proofs.Order.{less-asymmetric, less-distinct, one-less, one-not}
+use Rattle.ranks.proofs.Order.{string-order}
 
 -- of node v, by how its value compares with that of the node before it
 abbrev pub rises : Order → ℕ
@@ -25,9 +25,9 @@ rises Greater = 1
 
 module _ (ns : List Node) (v u : ℕ) where
   pub rises-told : (o : Order) → Ordered (comparedOf ns v) (comparedOf ns u) o → rises o ≡ one (isSmaller ns v u)
-  rises-told Less h = one-not (comparedOf ns u) (comparedOf ns v) (less-asymmetric (comparedOf ns v) (comparedOf ns u) h)
-  rises-told Same h = one-not (comparedOf ns u) (comparedOf ns v) (λ k. less-distinct (comparedOf ns u) (comparedOf ns v) k (sym h))
-  rises-told Greater h = one-less (comparedOf ns u) (comparedOf ns v) h
+  rises-told Less h = one-not string-order (comparedOf ns u) (comparedOf ns v) (less-asymmetric string-order (comparedOf ns v) (comparedOf ns u) h)
+  rises-told Same h = one-not string-order (comparedOf ns u) (comparedOf ns v) (λ k. less-distinct string-order (comparedOf ns u) (comparedOf ns v) k (sym h))
+  rises-told Greater h = one-less string-order (comparedOf ns u) (comparedOf ns v) h
 
   -- both have the value of the one twin
   pub twins-same : {s : List ℕ} {n : ℕ} {t : List ℕ} → Prepared s n t → Accepts s ns → u < n → v < n → word t n TWIN u ≡ word t n TWIN v

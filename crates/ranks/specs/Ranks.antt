@@ -4,7 +4,7 @@ use mathlib.Core.Path.{_≡_}
 use mathlib.Core.Logic.{_↔_}
 use mathlib.Core.List.{List}
 use lib.ListN.{length}
-use Rattle.xpath.specs.Meaning.{Less}
+use Rattle.string_order.specs.Bytes.{Less}
 use Rattle.document_spec.specs.Library.{Node}
 use Rattle.document_spec.specs.Binary.{comparedOf}
 use Rattle.layout.specs.Table.{COLUMNS, RANK}

@@ -12,9 +12,10 @@ ghost use Prim.Native.Nat.{_≤_, _<_};
 ghost use Rattle.bits.specs.Sets.{one};
 ghost use Rattle.document_spec.specs.Library as Library;
 ghost use Rattle.document_spec.specs.Verdict.{Accepts};
+ghost use Rattle.sorting.specs.Sorting.{Entries};
 ghost use Rattle.value_order.specs.Less.{isSmaller};
 ghost use Rattle.value_order.specs.Twins.{Prepared};
-ghost use Rattle.ranks.specs.Sorting.{Entries, Numbered};
+ghost use Rattle.ranks.specs.Sorting.{Numbered};
 
 // 1 if node `u` has a smaller value than node `v`; nodes with one twin are not compared.
 fn rise(s: &[u8], t: &[u16], n: usize, u: usize, v: usize) -> usize

@@ -17,7 +17,7 @@ use Rattle.table.specs.Links.{Points}
 use Rattle.machine.specs.declared.Machine.{Machine}
 use Rattle.machine.specs.Walks.{Stops}
 use Rattle.buckets.specs.Buckets.{Least, Buckets}
-use Rattle.buckets.proofs.Least.{least-some}
+use Rattle.buckets.proofs.Least.{least-some, next-ranked}
 use Rattle.reach.specs.Work.{Seen, Work, Added}
 use Rattle.retracing.specs.Backward.{LinkedBothWays, OfEntries, New, Closed, Ends, Backed}
 use Rattle.retracing.specs.Notes.{Paired, Notes, Seeded}
@@ -140,14 +140,13 @@ seeding-start {m} {n} {r} {w = w} {p = p} list linked closed buckets l e =
       ranked = node-ranked few g;
     }
 
-module _ {m : Machine} {n r c x len w end end′ w′ : ℕ} {p₀ p p′ : List ℕ} (small : m .second < 16) (paired : Paired c) (buckets : Buckets n p₀) (b : Seeding m n r c x len w end p₀ p) (l : w < n)
+module _ {m : Machine} {n r c x len w end end′ w′ : ℕ} {p₀ p p′ : List ℕ} (small : m .second < 16) (paired : Paired c) (buckets : Buckets n p₀) (rank : r < n) (b : Seeding m n r c x len w end p₀ p) (l : w < n)
     (g : Seeded m n (λ u. u ≡ w) c x end end′ p p′) (e : w′ ≡ word p′ n NEXT w) where
   next : Points (Least n p₀ (suc w) r) w′
   next =
       let low : LEAST * n ≤ c * n = mul-le-mul-right n (paired .0) in
       let q : word p′ n NEXT w ≡ word p₀ n NEXT w = spared-aside (g .added .spared) (cell n NEXT w) (omega arith) (omega arith) ∙ spared-aside (b .seeded .added .spared) (cell n NEXT w) (omega arith) (omega arith) in
-      subst (λ (y : ℕ). Points (Least n p₀ (suc w) r) y) (sym (e ∙ q))
-      (subst (λ (y : ℕ). Points (Least n p₀ (suc w) y) (word p₀ n NEXT w)) (b .ranked l) (buckets .next w l))
+      next-ranked buckets rank l (b .ranked l) (e ∙ q)
 
   few : n ≤ 4096
   few = g .added .work .space .few

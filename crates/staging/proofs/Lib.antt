@@ -1,5 +1,5 @@
 pub mod Drawn
 pub mod Links
 pub mod Tests
+pub mod Signs
 pub mod Hits
-pub mod Operators

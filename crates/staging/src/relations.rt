@@ -1,18 +1,16 @@
-// The relations of two strings, told by how they compare.
+// The signs of comparisons, told by how two values compare.
 use rule_parts::kinds::Operator;
 use string_order::Order;
 ghost use mathlib.Core.Bool.{true};
-ghost use mathlib.Core.List.{List};
 ghost use mathlib.Core.Logic.{_↔_};
 ghost use mathlib.Core.Path.{_≡_};
-ghost use Prim.Native.Nat.{ℕ};
 ghost use Rattle.xpath.specs.Syntax.{Op};
-ghost use Rattle.xpath.specs.Meaning.{Less, Rel};
 ghost use Rattle.rule_parts.specs.Kinds.{operator};
-ghost use Rattle.string_order.specs.Ordered.{Ordered};
+ghost use Rattle.string_order.specs.declared.Order.the-variants.{Less, Same, Greater};
+ghost use Rattle.staging.specs.Signs.{ByText, Stands};
 
 fn is_less(c: Order) -> bool
-    ensures { λ r. ⌜ ((bs cs : List ℕ) → Ordered bs cs c → (r ≡ true) ↔ Less bs cs) ⌝ }
+    ensures { λ r. ⌜ (r ≡ true) ↔ (c ≡ Less) ⌝ }
 {
     match c {
         Order::Less => true,
@@ -22,7 +20,7 @@ fn is_less(c: Order) -> bool
 }
 
 fn is_same(c: Order) -> bool
-    ensures { λ r. ⌜ ((bs cs : List ℕ) → Ordered bs cs c → (r ≡ true) ↔ (bs ≡ cs)) ⌝ }
+    ensures { λ r. ⌜ (r ≡ true) ↔ (c ≡ Same) ⌝ }
 {
     match c {
         Order::Less => false,
@@ -32,7 +30,7 @@ fn is_same(c: Order) -> bool
 }
 
 fn is_greater(c: Order) -> bool
-    ensures { λ r. ⌜ ((bs cs : List ℕ) → Ordered bs cs c → (r ≡ true) ↔ Less cs bs) ⌝ }
+    ensures { λ r. ⌜ (r ≡ true) ↔ (c ≡ Greater) ⌝ }
 {
     match c {
         Order::Less => false,
@@ -41,9 +39,9 @@ fn is_greater(c: Order) -> bool
     }
 }
 
-// Strings that compare like this are in the relation.
+// The sign stands for values that compare like this.
 pub fn fits(c: Order, o: Operator) -> bool
-    ensures { λ r. ⌜ ((bs cs : List ℕ) (q : Op) → Ordered bs cs c → o ≡ operator q → (r ≡ true) ↔ Rel q bs cs) ⌝ }
+    ensures { λ r. ⌜ ((q : Op) → o ≡ operator q → (r ≡ true) ↔ Stands q c) ⌝ }
 {
     match o {
         Operator::Equal => is_same(c),
@@ -52,5 +50,19 @@ pub fn fits(c: Order, o: Operator) -> bool
         Operator::LessEqual => !is_greater(c),
         Operator::Greater => is_greater(c),
         Operator::GreaterEqual => !is_less(c),
+    }
+}
+
+// The sign compares texts, and not amounts.
+pub fn by_text(o: Operator) -> bool
+    ensures { λ r. ⌜ ((q : Op) → o ≡ operator q → (r ≡ true) ↔ ByText q) ⌝ }
+{
+    match o {
+        Operator::Equal => true,
+        Operator::Unequal => true,
+        Operator::Less => false,
+        Operator::LessEqual => false,
+        Operator::Greater => false,
+        Operator::GreaterEqual => false,
     }
 }

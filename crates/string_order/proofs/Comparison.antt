@@ -3,14 +3,14 @@ use Prim.Native.Nat.{ℕ}
 use mathlib.Core.Path.{_≡_, refl, sym, ap, _∙_, subst₂}
 use mathlib.Core.Logic.{inr}
 use mathlib.Core.List.{List, [], _∷_, _++_}
-use Rattle.xpath.specs.Meaning as Meaning
-use Rattle.xpath.proofs.Order.{less-distinct, less-asymmetric}
+use Rattle.string_order.specs.Bytes as Bytes
+use Rattle.string_order.proofs.Bytes.{less-distinct, less-asymmetric}
 use Rattle.string_order.specs.declared.Order.{Order}
 use Rattle.string_order.specs.declared.Order.the-variants.{Less, Same, Greater}
 use Rattle.string_order.specs.Ordered.{Ordered}
 
-pub prefix-less : {xs ys vs : List ℕ} {q : ℕ} → xs ≡ [] → ys ≡ q ∷ vs → Meaning.Less xs ys
-prefix-less e f = subst₂ (λ (x y : List ℕ). Meaning.Less x y) (sym e) (sym f) tt
+pub prefix-less : {xs ys vs : List ℕ} {q : ℕ} → xs ≡ [] → ys ≡ q ∷ vs → Bytes.Less xs ys
+prefix-less e f = subst₂ (λ (x y : List ℕ). Bytes.Less x y) (sym e) (sym f) tt
 
 module _ {xs ys us vs : List ℕ} {p q : ℕ} (e : xs ≡ p ∷ us) (f : ys ≡ q ∷ vs) where
   -- behind equal bytes the order is that of what follows

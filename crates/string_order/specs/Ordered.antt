@@ -5,14 +5,14 @@ use mathlib.Core.Logic.{_≢_}
 use mathlib.Core.List.{List}
 use lib.ListN.{getD}
 use lib.Seq.{slice}
-use Rattle.xpath.specs.Meaning as Meaning
+use Rattle.string_order.specs.Bytes as Bytes
 use Rattle.string_order.specs.declared.Order.{Order}
 use Rattle.string_order.specs.declared.Order.the-variants.{Less, Same, Greater}
 
 abbrev pub Ordered : List ℕ → List ℕ → Order → Type 0
-Ordered bs cs Less = Meaning.Less bs cs
+Ordered bs cs Less = Bytes.Less bs cs
 Ordered bs cs Same = bs ≡ cs
-Ordered bs cs Greater = Meaning.Less cs bs
+Ordered bs cs Greater = Bytes.Less cs bs
 
 -- the first k bytes are the same in x from i on and in y from j on
 abbrev pub Common : List ℕ → ℕ → List ℕ → ℕ → ℕ → Type 0

@@ -7,7 +7,7 @@ use lib.ListN.{length, getD}
 use native.Mathlib.Nat.{mul-le-mul-right}
 use native.Mathlib.Omega.{arith}
 use native.Mathlib.Decide.{decLt}
-use Rattle.layout.specs.Table.{RANK, TESTS}
+use Rattle.layout.specs.Table.{RANK, AMOUNT}
 use Rattle.layout.specs.Values.{LOW, HIGH, LENGTH, BLANKS, NEXT}
 use Rattle.layout.specs.Words.{cell, word, Within}
 use Rattle.layout.proofs.Frames.{before-within}
@@ -31,8 +31,8 @@ by-columns n P (suc d) f k l = go (by-columns n P d (λ c v i j. f c v (omega ar
     go on (no r) = let e : cell n d (k - d * n) ≡ k = omega arith in subst P e (f d (k - d * n) (omega arith) (omega arith))
 
 module _ {s : List ℕ} {n : ℕ} {t t′ : List ℕ} (h : Annotated s n t) where
-  -- all columns before the bits of the tests but for the ranks
-  pub annotated-same : length t′ ≡ length t → ((c v : ℕ) → c < TESTS → c ≢ RANK → v < n → word t′ n c v ≡ word t n c v) → Annotated s n t′
+  -- all columns before the ranks of amounts but for the ranks of text
+  pub annotated-same : length t′ ≡ length t → ((c v : ℕ) → c < AMOUNT → c ≢ RANK → v < n → word t′ n c v ≡ word t n c v) → Annotated s n t′
   annotated-same long same =
       record {
         tabled = record { nodes = g .nodes; accepts = g .accepts; linked = linked-same (g .linked) tree; size = g .size; room = let r = g .room in omega arith };
@@ -55,7 +55,7 @@ module _ {s : List ℕ} {n : ℕ} {t t′ : List ℕ} (h : Annotated s n t) wher
           by-columns n (λ k. getD t′ k 0 ≡ getD t k 0) 5 (λ c v i j. same c v (omega arith) (omega arith) j) k (omega arith)
 
   -- work behind them
-  pub annotated-behind : {c d : ℕ} → TESTS ≤ c → Within n c d t t′ → Annotated s n t′
+  pub annotated-behind : {c d : ℕ} → AMOUNT ≤ c → Within n c d t t′ → Annotated s n t′
   annotated-behind l q = annotated-same (q .long) (λ c v i j k. before-within q c v (omega arith) k)
 
   -- work in the ranks

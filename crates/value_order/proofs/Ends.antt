@@ -8,7 +8,7 @@ use lib.Seq.{slice, length-slice}
 use native.Mathlib.Omega.{arith}
 use native.Mathlib.Decide.{decLt}
 use Rattle.lists.specs.Blanks.{trimStart}
-use Rattle.xpath.specs.Meaning.{Less}
+use Rattle.string_order.specs.Bytes.{Less}
 use Rattle.document_spec.specs.Library.{Node, at}
 use Rattle.document_spec.specs.Binary.{textOf, comparedOf}
 use Rattle.layout.specs.Words.{NONE}

@@ -6,7 +6,7 @@ use mathlib.Core.List.{List, [], _∷_, _++_, append-assoc}
 use lib.ListN.{getD}
 use lib.Seq.{slice}
 use native.Mathlib.Omega.{arith}
-use Rattle.xpath.specs.Meaning as Meaning
+use Rattle.string_order.specs.Bytes as Bytes
 use Rattle.document_spec.specs.Library.{Node}
 use Rattle.blanks.proofs.Slices.{slice-join}
 use Rattle.values.specs.declared.Reading.{Reading}
@@ -92,7 +92,7 @@ module _ {s c : List ℕ} {ns : List Node} {bs cs : List ℕ} where
   module _ {x y : Reading} (h : Comes s ns x bs) (g : Comes c ns y cs) where
     -- ── What is at hand ──
     -- the first value is at its end, and the second is not
-    pub ended-less : bs ≡ [] → y .from < y .to → Meaning.Less bs cs
+    pub ended-less : bs ≡ [] → y .from < y .to → Bytes.Less bs cs
     ended-less e i = prefix-less e (comes-first g i .1)
 
     -- the first bytes that are not the same decide

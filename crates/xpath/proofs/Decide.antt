@@ -1,8 +1,9 @@
 -- The meaning of a rule as a test that computes.
-use Prim.Native.Nat.{ℕ, zero, suc, _≤_, _<_}
-use mathlib.Core.Path.{_≡_, refl, subst, sym}
+use Prim.Native.Nat.{ℕ, zero, suc, _+_, _≤_, _<_}
+use mathlib.Core.Path.{_≡_, refl, subst, subst₂, sym}
 use mathlib.Core.Logic.{_⊎_, inl, inr, _↔_}
 use mathlib.Core.Bool.{Bool, true, false}
+use mathlib.Core.Option.{Option, none, some}
 use mathlib.Core.List.{List, [], _∷_}
 use native.Mathlib.Omega.{arith}
 use native.Mathlib.Decide.{ℕ-discrete}
@@ -11,47 +12,14 @@ use Rattle.lists.specs.Lists.{Occurs}
 use Rattle.lists.specs.Blanks.{trim}
 use Rattle.xpath.specs.Syntax.{Op, eq, ne, lt, le, gt, ge, Test, named, not, and, or, compare, compareTo, XPath, empty, one, seq, union, star, Step, toLeft, toRight, fromLeft, fromRight, stay}
 use Rattle.xpath.specs.Tree.{Tree, Child, WellFormed}
-use Rattle.xpath.specs.Meaning.{Less, Rel, Many, none, more, Holds, Reaches, Moves}
-use Rattle.xpath.specs.Order.{both, either, lessb}
+use Rattle.xpath.specs.Meaning.{ByAmount, Rel, Many, none, more, Holds, Reaches, Moves}
+use Rattle.xpath.specs.Booleans.{both, either}
+use Rattle.xpath.specs.Amounts.{Amount, Below, AtMost}
+use Rattle.xpath.specs.Reading.{amountOf}
+use Rattle.xpath.proofs.Amounts.{amount-iff}
+use Rattle.xpath.proofs.Booleans.{neg, T-both, T-either, T-neg, eqb-iff, ltb-iff, ⊎-iff, ×-iff, ¬-iff, trans, same}
 
 -- ── Tests ──
-abbrev pub neg : Bool → Bool
-neg true = false
-neg false = true
-
-pub T-both : (a b : Bool) → T (both a b) ↔ (T a × T b)
-T-both true b = (λ h. (tt, h), λ h. h .1)
-T-both false b = (λ h. absurd h, λ h. absurd (h .0))
-
-pub T-either : (a b : Bool) → T (either a b) ↔ (T a ⊎ T b)
-T-either true b = (λ h. inl tt, λ h. tt)
-T-either false b = (λ h. inr h, out)
-  where
-    out : ⊥ ⊎ T b → T b
-    out (inl h) = absurd h
-    out (inr h) = h
-
-pub T-neg : (a : Bool) → T (neg a) ↔ (¬ T a)
-T-neg true = (λ h. absurd h, λ f. f tt)
-T-neg false = (λ h f. f, λ f. tt)
-
-pub ⊎-iff : {A B C D : Type 0} → A ↔ C → B ↔ D → (A ⊎ B) ↔ (C ⊎ D)
-⊎-iff {A} {B} {C} {D} f g = (to, from)
-  where
-    to : A ⊎ B → C ⊎ D
-    to (inl a) = inl (f .0 a)
-    to (inr b) = inr (g .0 b)
-
-    from : C ⊎ D → A ⊎ B
-    from (inl c) = inl (f .1 c)
-    from (inr d) = inr (g .1 d)
-
-pub eqb-iff : (m n : ℕ) → T (eqb m n) ↔ (m ≡ n)
-eqb-iff m n = (eqb→eq m n, λ e. subst (λ x. T (eqb m x)) e (eqb-refl m))
-
-pub ltb-iff : (m n : ℕ) → T (ltb m n) ↔ (m < n)
-ltb-iff m n = (ltb→lt m n, lt→ltb m n)
-
 abbrev pub someBelow : ℕ → (ℕ → Bool) → Bool
 someBelow zero f = false
 someBelow (suc n) f = either (f n) (someBelow n f)
@@ -99,41 +67,51 @@ same-iff (x ∷ xs) (y ∷ ys) =
       λ e. T-both (eqb x y) (sameb xs ys) .1 (eqb-iff x y .1 (cc), ih .1 (cc)),
     )
 
-pub ×-iff : {A B C D : Type 0} → A ↔ C → B ↔ D → (A × B) ↔ (C × D)
-×-iff f g = (λ h. (f .0 (h .0), g .0 (h .1)), λ h. (f .1 (h .0), g .1 (h .1)))
+-- ── Relations of values ──
+abbrev pub belowb : Amount → Amount → Bool
+belowb a b = ltb (a .above + b .below) (b .above + a .below)
 
-pub trans : {A B C : Type 0} → A ↔ B → B ↔ C → A ↔ C
-trans f g = (λ a. g .0 (f .0 a), λ c. f .1 (g .1 c))
+abbrev pub atMostb : Amount → Amount → Bool
+atMostb a b = neg (belowb b a)
 
-pub same : {A : Type 0} → A ↔ A
-same = (λ a. a, λ a. a)
+abbrev pub byAmountb : (Amount → Amount → Bool) → Option Amount → Option Amount → Bool
+byAmountb r (some a) (some b) = r a b
+byAmountb r (some a) none = false
+byAmountb r none b = false
 
-pub less-iff : (xs ys : List ℕ) → T (lessb xs ys) ↔ Less xs ys
-less-iff [] [] = same
-less-iff [] (y ∷ ys) = same
-less-iff (x ∷ xs) [] = same
-less-iff (x ∷ xs) (y ∷ ys) =
-    trans (T-either (ltb x y) (both (eqb x y) (lessb xs ys)))
-    (⊎-iff (ltb-iff x y) (trans (T-both (eqb x y) (lessb xs ys)) (×-iff (eqb-iff x y) (less-iff xs ys))))
+below-iff : (a b : Amount) → T (belowb a b) ↔ Below a b
+below-iff a b = ltb-iff (a .above + b .below) (b .above + a .below)
+
+at-most-iff : (a b : Amount) → T (atMostb a b) ↔ AtMost a b
+at-most-iff a b = trans (T-neg (belowb b a)) (trans (¬-iff (below-iff b a)) (λ h. omega arith, λ h k. omega arith))
+
+module _ (r : Amount → Amount → Bool) (R : Amount → Amount → Type 0) (iff : (a b : Amount) → T (r a b) ↔ R a b) where
+  by-amount-iff : (bs cs : List ℕ) → T (byAmountb r (amountOf bs) (amountOf cs)) ↔ ByAmount R bs cs
+  by-amount-iff bs cs = (to (amountOf bs) (amountOf cs) refl refl, λ (a, b, h, k, o). from a b (amount-iff bs a .0 h) (amount-iff cs b .0 k) (iff a b .1 o))
+    where
+      to : (x y : Option Amount) → amountOf bs ≡ x → amountOf cs ≡ y → T (byAmountb r x y) → ByAmount R bs cs
+      to (some a) (some b) e f h = (a, b, amount-iff bs a .1 e, amount-iff cs b .1 f, iff a b .0 h)
+      to (some a) none e f h = absurd h
+      to none y e f h = absurd h
+
+      from : (a b : Amount) → amountOf bs ≡ some a → amountOf cs ≡ some b → T (r a b) → T (byAmountb r (amountOf bs) (amountOf cs))
+      from a b e f h = subst₂ (λ x y. T (byAmountb r x y)) (sym e) (sym f) h
 
 abbrev pub relb : Op → List ℕ → List ℕ → Bool
-relb eq a b = sameb a b
-relb ne a b = neg (sameb a b)
-relb lt a b = lessb a b
-relb le a b = either (sameb a b) (lessb a b)
-relb gt a b = lessb b a
-relb ge a b = either (sameb a b) (lessb b a)
+relb eq bs cs = sameb bs cs
+relb ne bs cs = neg (sameb bs cs)
+relb lt bs cs = byAmountb belowb (amountOf bs) (amountOf cs)
+relb le bs cs = byAmountb atMostb (amountOf bs) (amountOf cs)
+relb gt bs cs = byAmountb belowb (amountOf cs) (amountOf bs)
+relb ge bs cs = byAmountb atMostb (amountOf cs) (amountOf bs)
 
-pub ¬-iff : {A B : Type 0} → A ↔ B → (¬ A) ↔ (¬ B)
-¬-iff f = (λ g b. g (f .1 b), λ g a. g (f .0 a))
-
-rel-iff : (o : Op) (a b : List ℕ) → T (relb o a b) ↔ Rel o a b
-rel-iff eq a b = same-iff a b
-rel-iff ne a b = trans (T-neg (sameb a b)) (¬-iff (same-iff a b))
-rel-iff lt a b = less-iff a b
-rel-iff le a b = trans (T-either (sameb a b) (lessb a b)) (⊎-iff (same-iff a b) (less-iff a b))
-rel-iff gt a b = less-iff b a
-rel-iff ge a b = trans (T-either (sameb a b) (lessb b a)) (⊎-iff (same-iff a b) (less-iff b a))
+rel-iff : (o : Op) (bs cs : List ℕ) → T (relb o bs cs) ↔ Rel o bs cs
+rel-iff eq bs cs = same-iff bs cs
+rel-iff ne bs cs = trans (T-neg (sameb bs cs)) (¬-iff (same-iff bs cs))
+rel-iff lt bs cs = by-amount-iff belowb Below below-iff bs cs
+rel-iff le bs cs = by-amount-iff atMostb AtMost at-most-iff bs cs
+rel-iff gt bs cs = by-amount-iff belowb Below below-iff cs bs
+rel-iff ge bs cs = by-amount-iff atMostb AtMost at-most-iff cs bs
 
 -- ── Zero or more times, over nodes below n (Warshall) ──
 abbrev pub close : ℕ → (ℕ → ℕ → Bool) → ℕ → ℕ → Bool

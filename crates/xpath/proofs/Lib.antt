@@ -1,4 +1,6 @@
+pub mod Booleans
+pub mod Amounts
+pub mod AmountExamples
 pub mod Decide
 pub mod Trees
-pub mod Order
 pub mod Constants

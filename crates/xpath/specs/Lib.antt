@@ -1,4 +1,6 @@
+pub mod Booleans
+pub mod Amounts
+pub mod Reading
 pub mod Syntax
 pub mod Tree
 pub mod Meaning
-pub mod Order

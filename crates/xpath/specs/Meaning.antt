@@ -1,27 +1,26 @@
 -- What a test and a path mean at the nodes of a tree: 01, the rule; 000, 1.2.2 (Regular XPath).
-use Prim.Native.Nat.{ℕ, _<_}
+use Prim.Native.Nat.{ℕ}
 use mathlib.Core.Path.{_≡_}
 use mathlib.Core.Logic.{_⊎_, _≢_}
 use mathlib.Core.Bool.{true, false}
-use mathlib.Core.List.{List, [], _∷_}
+use mathlib.Core.List.{List}
 use Rattle.lists.specs.Blanks.{trim}
 use Rattle.xpath.specs.Syntax.{Op, eq, ne, lt, le, gt, ge, Test, named, not, and, or, compare, compareTo, XPath, empty, one, seq, union, star, Step, toLeft, toRight, fromLeft, fromRight, stay}
 use Rattle.xpath.specs.Tree.{Tree, Child}
+use Rattle.xpath.specs.Amounts.{Amount, HasAmount, Below, AtMost}
 
--- 01: strings compare by unsigned bytes, a proper prefix being smaller
-abbrev pub Less : List ℕ → List ℕ → Type 0
-Less [] [] = ⊥
-Less [] (b ∷ ys) = Unit {0}
-Less (a ∷ xs) [] = ⊥
-Less (a ∷ xs) (b ∷ ys) = (a < b) ⊎ ((a ≡ b) × Less xs ys)
+-- 02 (f): both are numerals, and their amounts are so ordered
+abbrev pub ByAmount : (Amount → Amount → Type 0) → List ℕ → List ℕ → Type 0
+ByAmount R bs cs = (a b : Amount) × HasAmount bs a × HasAmount cs b × R a b
 
+-- = and != compare text
 abbrev pub Rel : Op → List ℕ → List ℕ → Type 0
-Rel eq a b = a ≡ b
-Rel ne a b = a ≢ b
-Rel lt a b = Less a b
-Rel le a b = (a ≡ b) ⊎ Less a b
-Rel gt a b = Less b a
-Rel ge a b = (a ≡ b) ⊎ Less b a
+Rel eq bs cs = bs ≡ cs
+Rel ne bs cs = bs ≢ cs
+Rel lt bs cs = ByAmount Below bs cs
+Rel le bs cs = ByAmount AtMost bs cs
+Rel gt bs cs = ByAmount Below cs bs
+Rel ge bs cs = ByAmount AtMost cs bs
 
 -- zero or more times
 pub data Many (R : ℕ → ℕ → Type 0) : ℕ → ℕ → Type 0 where

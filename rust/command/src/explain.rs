@@ -2,6 +2,7 @@
 
 use std::io::{self, Write};
 
+use yurzhoad::limits::{MAX_NUMERAL_DECIMALS, MAX_NUMERAL_DIGITS};
 use yurzhoad::Rule;
 
 use crate::reader::{self, Form, Part, Role};
@@ -53,9 +54,10 @@ fn form_words(form: &Form<'_>) -> String {
     words.to_string()
 }
 
-/// Values are texts also where they look like numbers, which whoever writes
-/// them would not expect.
-const AS_TEXT: &str = ", compared as text: 10 is less than 9";
+/// Said of the order signs alone: `=` and `!=` compare texts.
+const BY_AMOUNT: &str =
+    ", compared by amount: 9 is less than 10; it fails on values that are no numerals";
+const NEVER: &str = ", compared by amount: it never holds, since the constant is no numeral";
 
 /// A sign, its name, and its words before a node and before a constant.
 type Relation = (&'static str, &'static str, &'static str, &'static str);
@@ -100,10 +102,10 @@ fn comparison_words(sign: &str, constant: Option<&str>) -> String {
     let (_, name, to_node, to_constant) = relations
         .find(|(own, ..)| *own == sign)
         .expect("an accepted rule has no other sign");
-    let note = if sign.contains(['<', '>']) {
-        AS_TEXT
-    } else {
-        ""
+    let note = match (sign, constant) {
+        ("=" | "!=", _) => "",
+        (_, Some(constant)) if !is_numeral(constant.trim_matches(' ')) => NEVER,
+        _ => BY_AMOUNT,
     };
     match constant {
         None => format!(
@@ -114,6 +116,21 @@ fn comparison_words(sign: &str, constant: Option<&str>) -> String {
             "{name}: some node reached by the path {to_constant} {}{note}",
             constant_words(constant)
         ),
+    }
+}
+
+/// Whether a text without blanks at its ends is a numeral: a minus or none, some
+/// digits, and a point with some decimals or none.
+fn is_numeral(text: &str) -> bool {
+    let spelled = |digits: &str, most: usize| {
+        (1..=most).contains(&digits.len()) && digits.bytes().all(|byte| byte.is_ascii_digit())
+    };
+    let unsigned = text.strip_prefix('-').unwrap_or(text);
+    match unsigned.split_once('.') {
+        Some((whole, decimals)) => {
+            spelled(whole, MAX_NUMERAL_DIGITS) && spelled(decimals, MAX_NUMERAL_DECIMALS)
+        }
+        None => spelled(unsigned, MAX_NUMERAL_DIGITS),
     }
 }
 

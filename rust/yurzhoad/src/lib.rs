@@ -15,7 +15,8 @@
 //!   place and words.
 //!
 //! What documents and rules look like, and what they mean, is written in the
-//! repository's `docs/FORMAT.md`.
+//! repository's `docs/FORMAT.md`. `=` and `!=` compare values as text, and the
+//! order signs compare them as amounts: [`Selector`] has an example.
 //!
 //! # Building
 //!

@@ -36,6 +36,13 @@ pub const MAX_STEPS: usize = 14;
 /// The most bytes of a constant in a rule.
 pub const MAX_CONSTANT: usize = 32;
 
+/// The most digits of a numeral, those behind its point not counted. What has
+/// more is not refused: it is no numeral, and no order sign holds with it.
+pub const MAX_NUMERAL_DIGITS: usize = 9;
+
+/// The most digits of a numeral behind its point.
+pub const MAX_NUMERAL_DECIMALS: usize = 4;
+
 /// The words of scratch for each node and each binary digit of the number of
 /// nodes.
 const WORDS_PER_DIGIT: usize = 64;

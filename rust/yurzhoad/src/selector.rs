@@ -22,7 +22,26 @@ pub enum Method {
 /// again by each call.
 ///
 /// Values and constants are compared without the blanks at both their ends:
-/// [`Table::value`](crate::Table::value) has an example.
+/// [`Table::value`](crate::Table::value) has an example. `=` and `!=` compare
+/// them as text. `<`, `<=`, `>` and `>=` compare the amounts of numerals, and
+/// fail where a value or a constant is none. A numeral is a minus or none, 1 to
+/// 9 digits, and a point with 1 to 4 digits or none.
+///
+/// ```
+/// use yurzhoad::{Library, Method, Rule, Selector};
+///
+/// let document = "nodes=4\ndepth=0\nkind=e\nlabel=limit\nvalue=\n\
+///                 depth=1\nkind=a\nlabel=low\nvalue=9\n\
+///                 depth=1\nkind=a\nlabel=high\nvalue=10\n\
+///                 depth=1\nkind=a\nlabel=unit\nvalue=mg\n";
+/// let library = Library::check(document)?;
+/// let mut selector = Selector::new(Method::Snippets);
+/// for (rule, selected) in [("(e<\"9.50\")", 1), ("(e>=\"9.0\")", 2), ("(e<\"z\")", 0)] {
+///     let rule = Rule::check(rule)?;
+///     assert_eq!(selector.select(&library, &rule).selected(), selected);
+/// }
+/// # Ok::<(), yurzhoad::Refusal>(())
+/// ```
 ///
 /// ```
 /// use yurzhoad::{Library, Method, Rule, Selector};

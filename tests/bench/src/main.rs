@@ -18,6 +18,7 @@
 //! Nothing is asserted about time: a test that fails when the machine is busy
 //! tells nothing about the functions.
 
+mod amounts;
 mod attributes;
 mod documents;
 mod evaluations;

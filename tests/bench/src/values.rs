@@ -1,8 +1,10 @@
 //! What values cost: those that are hard to rank beside others of the same
-//! size, and those with blanks at their ends beside the same without.
+//! size, those with blanks at their ends beside the same without, and numerals
+//! beside words.
 
 use std::time::Duration;
 
+use crate::amounts::{Standing, KINDS, RULES, STANDINGS};
 use crate::evaluations::{assert_same_answers, proved, BY_SNIPPETS};
 use crate::straightforward::Answer;
 use crate::texts::{Texts, ALIKE, ELEMENTS};
@@ -38,6 +40,12 @@ pub fn print() {
         let documents = BLANKS.map(|blanks| document(NODE_LIMIT, padded, blanks));
         for rule in [CHEAP, SESSION] {
             print_padded(padded.0, &documents, rule.as_bytes());
+        }
+    }
+    for standing in STANDINGS {
+        let documents = KINDS.map(|(_, point)| spell(&standing.library(NODE_LIMIT, point)));
+        for rule in RULES {
+            print_kinds(&standing, &documents, rule.as_bytes());
         }
     }
 }
@@ -78,6 +86,25 @@ fn print_padded(name: &str, documents: &[Vec<u8>; 3], rule: &[u8]) {
     }
 }
 
+/// Numerals beside words.
+fn print_kinds(standing: &Standing, documents: &[Vec<u8>; 2], rule: &[u8]) {
+    let answer = |document: &Vec<u8>| assert_same_answers(document, rule, NODE_LIMIT);
+    let answers = documents.each_ref().map(answer);
+    let call = |document| proved(&BY_SNIPPETS, document, rule, NODE_LIMIT);
+    let subjects = [call(&documents[0]), call(&documents[1])];
+    let times = time_for(&subjects, BUDGET);
+    let (shown, runs) = (rule.escape_ascii(), times[0].runs);
+    println!(
+        "\nvalues {}: {shown}, {NODE_LIMIT} nodes, {runs} runs",
+        standing.name
+    );
+    for (at, (subject, its)) in subjects.iter().zip(&times).enumerate() {
+        print_line(KINDS[at].0, subject, its);
+        print!(", the first takes {} times this", ratio(&times[0], its, 3));
+        println!(", {} marked", answers[at].selected);
+    }
+}
+
 fn print_line(name: &str, subject: &Subject, its: &Times) {
     print!(
         "  {name:18}{:8} bytes{:11.3} ({:.3}) ms",
@@ -107,7 +134,7 @@ mod tests {
         for texts in ALIKE {
             for library in [texts.library(40), texts.told_apart(40)] {
                 let document = spell(&library);
-                for rule in [CHEAP, "(e=.*+lrl)", "(e<.*+lr[:text])", "(.ll>=r)"] {
+                for rule in [CHEAP, "(e=.*+lrl)", "(e!=.*+lr[:text])", "(.ll!=r)"] {
                     assert_same_answers(&document, rule.as_bytes(), 80);
                 }
             }
@@ -119,7 +146,7 @@ mod tests {
     fn padded_names_are_selected_as_bare_ones_are() {
         for padded in PADDED {
             let documents = BLANKS.map(|blanks| document(300, padded, blanks));
-            for rule in [CHEAP, SESSION, "(e=\"drug-839\")", "(e<\" icu  \")"] {
+            for rule in [CHEAP, SESSION, "(e=\"drug-839\")", "(e<\" 100  \")"] {
                 let answer = |document| assert_same_answers(document, rule.as_bytes(), 300);
                 let [bare, two, twenty] = documents.each_ref().map(|d| answer(d));
                 assert_eq!(

@@ -2,15 +2,17 @@
 //!
 //! Relations over 4,096 nodes are too large to be joined, so sets of nodes are
 //! kept in their place, and a comparison is settled for all nodes at once: its
-//! paths are followed backwards from the nodes of one value after the other.
-//! The proved crate `backward` goes backwards from the ends too. That this is
-//! the meaning is tried against `meaning` on random libraries of up to 300
-//! nodes, in the tests `backward_is_the_same_meaning_on_small_trees` and
+//! paths are followed backwards from the nodes of one text after the other, or
+//! for an order sign of one amount after the other. The proved crate `backward`
+//! goes backwards from the ends too. That this is the meaning is tried against
+//! `meaning` on random libraries of up to 300 nodes, in the tests
+//! `backward_is_the_same_meaning_on_small_trees` and
 //! `backward_is_the_same_meaning_on_larger_trees`.
 
 use std::collections::BTreeMap;
 
-use crate::meaning::compare;
+use crate::amount::amount;
+use crate::meaning::{compare, related};
 use crate::rule::{Operand, Path, Sign, Test};
 use crate::tree::{trimmed, Tree};
 
@@ -22,33 +24,54 @@ pub fn holds(tree: &Tree, test: &Test) -> Vec<bool> {
     Groups::of(tree).holds(test)
 }
 
-/// The nodes in groups of equal value, the groups in the order of their
-/// values; so values compare as the numbers of their groups do. Values are cut
-/// (02, b).
+/// The nodes in groups of equal keys, the groups in the order of their keys; so
+/// keys compare as the numbers of their groups do.
+struct Grouping {
+    groups: Vec<Nodes>,
+    /// For each node the number of its group, if it has a key.
+    numbers: Vec<Option<usize>>,
+}
+
+impl Grouping {
+    fn by<K: Ord>(size: usize, key: impl Fn(usize) -> Option<K>) -> Grouping {
+        let mut nodes_of: BTreeMap<K, Nodes> = BTreeMap::new();
+        for node in 0..size {
+            if let Some(key) = key(node) {
+                nodes_of.entry(key).or_default().push(node);
+            }
+        }
+        let groups: Vec<Nodes> = nodes_of.into_values().collect();
+        let mut numbers = vec![None; size];
+        for (number, group) in groups.iter().enumerate() {
+            group.iter().for_each(|node| numbers[*node] = Some(number));
+        }
+        Grouping { groups, numbers }
+    }
+}
+
+/// The nodes by what is compared of them. Values are cut (02, b).
 struct Groups<'a> {
     tree: &'a Tree,
-    groups: Vec<Nodes>,
-    /// For each node the number of its group.
-    numbers: Vec<usize>,
+    /// By their text, for `=` and `!=`.
+    texts: Grouping,
+    /// By their amount, for the order signs; what is no numeral is in no group
+    /// (02, f).
+    amounts: Grouping,
 }
 
 impl Groups<'_> {
     fn of(tree: &Tree) -> Groups<'_> {
-        let mut nodes_of: BTreeMap<&[u8], Nodes> = BTreeMap::new();
-        for node in 0..tree.size() {
-            nodes_of.entry(tree.compared(node)).or_default().push(node);
-        }
-        let groups: Vec<Nodes> = nodes_of.into_values().collect();
-        let mut numbers = vec![0; tree.size()];
-        for (number, group) in groups.iter().enumerate() {
-            for node in group {
-                numbers[*node] = number;
-            }
-        }
         Groups {
             tree,
-            groups,
-            numbers,
+            texts: Grouping::by(tree.size(), |v| Some(tree.compared(v))),
+            amounts: Grouping::by(tree.size(), |v| amount(tree.compared(v))),
+        }
+    }
+
+    fn grouping(&self, sign: Sign) -> &Grouping {
+        match sign {
+            Sign::Equal | Sign::Unequal => &self.texts,
+            _ => &self.amounts,
         }
     }
 
@@ -75,19 +98,21 @@ impl Groups<'_> {
         }
     }
 
-    /// A node is selected if for some value the first path leads from it to a
-    /// node of this value, and the second to a node whose value is in the
+    /// A node is selected if for some text or amount the first path leads from
+    /// it to a node that has it, and the second to a node whose own is in the
     /// relation to it.
     fn between_paths(&self, p: &Path, sign: Sign, r: &Path) -> Vec<bool> {
         let (p, r) = (self.track(p), self.track(r));
+        let Grouping { groups, numbers } = self.grouping(sign);
         let mut selected = vec![false; self.tree.size()];
-        for (number, group) in self.groups.iter().enumerate() {
+        for (number, group) in groups.iter().enumerate() {
             let mut first = p.sources(self.tree, group);
             first.retain(|v| !selected[*v]);
             if first.is_empty() {
                 continue;
             }
-            let ends = self.nodes(|w| compare(sign, &number, &self.numbers[w]));
+            let is_related = |other: usize| related(sign, &number, &other);
+            let ends = self.nodes(|w| numbers[w].is_some_and(is_related));
             let second = self.marked(r.sources(self.tree, &ends));
             for v in first {
                 selected[v] = second[v];

@@ -1,6 +1,6 @@
-//! An evaluator of document 01 with the requests (b) and (d) of document 02,
-//! written from their sentences and not from the proved code. No code is shared.
-//! The archive is compared with it.
+//! An evaluator of document 01 with the requests (b), (d) and (f) of document
+//! 02, written from their sentences and not from the proved code. No code is
+//! shared. The archive is compared with it.
 //!
 //! By the definitions, over plain sets and tables, are
 //! - the checks: `document`, and `grammar` with `rule_check`;
@@ -11,7 +11,9 @@
 //!   are written out and kept in one set.
 //!
 //! What is compared is cut by `tree::trimmed` and nowhere else, values by
-//! `Tree::compared` and constants where they stand.
+//! `Tree::compared` and constants where they stand. What is a numeral, and its
+//! amount, is said by `amount` and nowhere else, and how values compare by
+//! `meaning::compare`.
 //!
 //! The checks have no bound; marks and counts are meant for libraries of up to
 //! a few hundred nodes. In five places something is found in a quicker way than
@@ -32,6 +34,7 @@
 //!   positions), so it is no way of its own; in `meanings` it is compared with
 //!   `meaning` at every node, on random libraries of up to 300 nodes.
 
+pub mod amount;
 pub mod backward;
 pub mod chains;
 pub mod document;
@@ -48,6 +51,7 @@ pub mod rule_check;
 pub mod samples;
 pub mod shrink;
 pub mod snippets;
+pub mod text_order;
 pub mod tree;
 pub mod uncut;
 

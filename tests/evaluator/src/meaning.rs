@@ -1,6 +1,7 @@
 //! The meaning of tests and paths (document 000, 1.2.2): a test is a set of
 //! nodes, a path is a relation over nodes.
 
+use crate::amount::amount;
 use crate::relation::Relation;
 use crate::rule::{Operand, Path, Sign, Test};
 use crate::tree::{trimmed, Tree};
@@ -37,7 +38,7 @@ pub fn holds(tree: &Tree, test: &Test) -> Vec<bool> {
                 Operand::Path(r) => reached_values(tree, r),
                 Operand::Constant(c) => vec![vec![trimmed(c)]; tree.size()],
             };
-            let related = |a: &[u8], v: usize| second[v].iter().any(|b| compare(*sign, a, *b));
+            let related = |a: &[u8], v: usize| second[v].iter().any(|b| compare(*sign, a, b));
             at_each(&|v| first[v].iter().any(|a| related(a, v)))
         }
     }
@@ -77,10 +78,21 @@ pub fn reaches(tree: &Tree, path: &Path) -> Relation {
     }
 }
 
-/// "Strings compare by unsigned bytes, a proper prefix being smaller." That is
-/// the order of byte slices; other things that are ordered alike may stand for
-/// them.
-pub fn compare<T: Ord + ?Sized>(sign: Sign, a: &T, b: &T) -> bool {
+/// "The four order signs hold between two values exactly if both are numerals
+/// and their exact amounts are so ordered." and "`=` and `!=` still compare
+/// text." (02, f) Values and constants are cut already.
+pub fn compare(sign: Sign, a: &[u8], b: &[u8]) -> bool {
+    match sign {
+        Sign::Equal | Sign::Unequal => related(sign, a, b),
+        _ => match (amount(a), amount(b)) {
+            (Some(a), Some(b)) => related(sign, &a, &b),
+            _ => false,
+        },
+    }
+}
+
+/// Whether two things that have an order are in the relation of a sign.
+pub fn related<T: Ord + ?Sized>(sign: Sign, a: &T, b: &T) -> bool {
     match sign {
         Sign::Equal => a == b,
         Sign::Unequal => a != b,

@@ -1,5 +1,5 @@
 -- `backward::compare_order` meets its contract.
-use Rattle.rank_sets.proofs.Steady.{held-at, held-space, held-small}
+use Rattle.rank_sets.proofs.Steady.{held-at, held-space}
 use Rattle.retracing.proofs.Linked.{linked-same}
 use Rattle.backward.proofs.Ranking.{bucketed-held, order-answered}
 use borrow.Author.Needs.{needs}
@@ -12,7 +12,7 @@ buckets-requires c κs = search needs
 sweep-requires : tie.Need-sweep-requires
 sweep-requires c κs =
     let a = c .before .before .before in let x = a .before .before .before .pre in let b = a .buckets .ensures in let h = bucketed-held (b .within) in
-    (held-space h (x .0), linked-same (held-at h) (x .3), b .buckets, held-small h (x .1), x .2)
+    (held-space h (x .0), linked-same (held-at h) (x .2), b .buckets, x .1)
 
 answer-ordered-requires : tie.Need-answer-ordered-requires
 answer-ordered-requires c κs = search needs
@@ -23,7 +23,7 @@ same-length c = search needs
 returns : tie.Need-returns
 returns c =
     let d = c .before .before in let b = d .before .before .before .before in let a = b .before .before .before .before in let x = a .before .before .before .pre in
-    order-answered (x .0 .few) (x .1) (a .buckets .ensures .within) (b .sweep .ensures) (d .answer-ordered .ensures)
+    order-answered (x .0 .few) (a .buckets .ensures .within) (b .sweep .ensures) (d .answer-ordered .ensures)
 
 pub compare-order-spec : {M : Type 1} → statement M
 compare-order-spec =

@@ -2,15 +2,16 @@
 use mathlib.Core.Logic.{⊎-elim}
 use native.Mathlib.Omega.{arith}
 use borrow.Author.Tests.{leb-true, leb-false}
-use Rattle.constants.proofs.Nearing.{Nearing, nearing-none, nearing-low, nearing-high, nearing-take, nearing-all}
+use Rattle.layout.specs.Words.{word}
+use Rattle.constants.proofs.Nearing.{Nearing, nearing-none, nearing-skip, nearing-take, nearing-all}
 use Rattle.constants.proofs.nearest.Statement.{statement}
 use Rattle.constants.proofs.nearest.Tie as tie
 
 abbrev Inv-loop : tie.InvT-loop
-Inv-loop t n low best₀ least₀ v₀ best least v = Nearing t n low best least v
+Inv-loop t n column low best₀ least₀ v₀ best least v = Nearing n (word t n column) low best least v
 
 abbrev μ-loop : tie.MeasureT-loop
-μ-loop t n low best₀ least₀ v₀ best least v = v
+μ-loop t n column low best₀ least₀ v₀ best least v = v
 
 loop-holds : tie.Need-loop-holds Inv-loop μ-loop
 loop-holds c = nearing-none _ _ _
@@ -19,7 +20,7 @@ sub-v : tie.Need-sub-v Inv-loop μ-loop
 sub-v c = omega arith
 
 get-requires : tie.Need-get-requires Inv-loop μ-loop
-get-requires c κs = let p = c .before .before .before .pre in let l = c .loop-test .taken in let s = c .before .loop .inv .seen in (omega arith, omega arith, p)
+get-requires c κs = let p = c .before .before .before .pre in let l = c .loop-test .taken in let s = c .before .loop .inv .seen in (p .1, omega arith, p .0)
 
 loop-less : tie.Need-loop-less Inv-loop μ-loop
 loop-less c = let l = c .before .before .loop-test .taken in omega arith
@@ -27,7 +28,7 @@ loop-less c = let l = c .before .before .loop-test .taken in omega arith
 loop-again : tie.Need-loop-again Inv-loop μ-loop
 loop-again c =
     let h = c .before .before .before .loop .inv in let l = c .before .before .loop-test .taken in let r = c .before .get .ensures in
-    ⊎-elim (λ z. nearing-low h l (r .0) (z .taken)) (λ z. nearing-high h l (r .0) (r .1) (leb-true _ _ (z .1 .taken))) (c .if1 .came)
+    nearing-skip h l (r .0) (⊎-elim (λ z k m. let q = z .taken in absurd (omega arith)) (λ z k m. leb-true _ _ (z .1 .taken)) (c .if1 .came))
 
 loop-less-2 : tie.Need-loop-less-2 Inv-loop μ-loop
 loop-less-2 c = let l = c .before .before .before .loop-test .taken in omega arith

@@ -9,20 +9,20 @@ build-requires c κs =
     let b = c .before .before .before .before .before in let x = b .args in let (ns, T, a, e) = b .pre in
     (ns, a .library, e, room (x .scratch .now) (x .marks .now) a e)
 
-rank-requires : tie.Need-rank-requires
-rank-requires c κs =
+rank-values-requires : tie.Need-rank-values-requires
+rank-values-requires c κs =
     let b = c .before .before .before .before .before .before .before .before .before in let x = b .args in let (ns, T, a, e) = b .pre in
     tabled (x .scratch .now) (x .marks .now) a e (c .before .before .before .build .ensures)
 
 settle-rule-requires : tie.Need-settle-rule-requires
 settle-rule-requires c κs =
     let b = c .before .before .before .before .before .before .before .before .before .before .before .before .before in let x = b .args in let (ns, T, a, e) = b .pre in
-    (ns, T, scene (x .scratch .now) (x .marks .now) a e (c .before .before .before .before .before .before .before .build .ensures) (c .before .before .before .rank .ensures), a .test)
+    (ns, T, scene (x .scratch .now) (x .marks .now) a e (c .before .before .before .before .before .before .before .build .ensures) (c .before .before .before .rank-values .ensures), a .test)
 
 mark-requires : tie.Need-mark-requires
 mark-requires c κs =
     let b = c .before .before .before .before .before .before .before .before .before .before .before .before .before .before .before .before .before .before in let x = b .args in let (ns, T, a, e) = b .pre in
-    (settled-room (x .scratch .now) (x .marks .now) a e (c .before .before .before .before .before .before .before .before .before .before .before .before .build .ensures) (c .before .before .before .before .before .before .before .before .rank .ensures) (c .before .before .before .before .settle-rule .ensures), space (x .scratch .now) (x .marks .now) a e)
+    (settled-room (x .scratch .now) (x .marks .now) a e (c .before .before .before .before .before .before .before .before .before .before .before .before .build .ensures) (c .before .before .before .before .before .before .before .before .rank-values .ensures) (c .before .before .before .before .settle-rule .ensures), space (x .scratch .now) (x .marks .now) a e)
 
 needed-requires : tie.Need-needed-requires
 needed-requires c κs =
@@ -32,7 +32,7 @@ needed-requires c κs =
 clear-requires : tie.Need-clear-requires
 clear-requires c κs =
     let b = c .before .before .before .before .before .before .before .before .before .before .before .before .before .before .before .before .before .before .before .before .before .before .before in let x = b .args in let (ns, T, a, e) = b .pre in
-    settled-words (x .scratch .now) (x .marks .now) a e (c .before .before .before .before .before .before .before .before .before .before .before .before .before .before .before .before .before .build .ensures) (c .before .before .before .before .before .before .before .before .before .before .before .before .before .rank .ensures) (c .before .before .before .before .before .before .before .before .before .settle-rule .ensures) (c .before .needed .ensures)
+    settled-words (x .scratch .now) (x .marks .now) a e (c .before .before .before .before .before .before .before .before .before .before .before .before .before .before .before .before .before .build .ensures) (c .before .before .before .before .before .before .before .before .before .before .before .before .before .rank-values .ensures) (c .before .before .before .before .before .before .before .before .before .settle-rule .ensures) (c .before .needed .ensures)
 
 same-length : tie.Need-same-length
 same-length c = search needs
@@ -43,7 +43,7 @@ same-length-2 c = search needs
 returns : tie.Need-returns
 returns c = λ ms U w.
     let b = c .before .before .before .before .before .before .before .before .before .before .before .before .before .before .before .before .before .before .before .before .before .before .before .before .before .before in let x = b .args in let (ns, T, a, e) = b .pre in
-    selected (x .scratch .now) (x .marks .now) w (size-one a e w) (c .before .before .before .before .before .before .before .before .before .before .before .before .before .before .before .before .before .before .before .before .build .ensures) (c .before .before .before .before .before .before .before .before .before .before .before .before .before .before .before .before .rank .ensures) (c .before .before .before .before .before .before .before .before .before .before .before .before .settle-rule .ensures)
+    selected (x .scratch .now) (x .marks .now) w (size-one a e w) (c .before .before .before .before .before .before .before .before .before .before .before .before .before .before .before .before .before .before .before .before .build .ensures) (c .before .before .before .before .before .before .before .before .before .before .before .before .before .before .before .before .rank-values .ensures) (c .before .before .before .before .before .before .before .before .before .before .before .before .settle-rule .ensures)
     (c .before .before .before .before .needed .ensures) (c .before .before .before .before .before .before .before .mark .ensures) (c .before .before .clear .ensures)
 
 pub select-spec : {M : Type 1} → statement M
@@ -51,7 +51,7 @@ select-spec =
     tie.close
     (tie.spec
     build-requires
-    rank-requires
+    rank-values-requires
     settle-rule-requires
     mark-requires
     needed-requires

@@ -21,17 +21,17 @@ same-length : tie.Need-same-length
 same-length c = search needs
 
 returns : tie.Need-returns
-returns c P R t q stage h =
+returns c P R t q posed h =
     let x = c .before .before .before .before .before .before .before .args in let r = c .before .before .by-walks in
-    subst (λ e. Compared e t q P R (x .n) (x .p .now) (r .last .0) (r .result)) (sym (c .before .before .before .before .enum-told .given .1)) (r .ensures P R t q stage h)
+    subst (λ e. Compared e t q P R (x .n) (x .p .now) (r .last .0) (r .result)) (sym (c .before .before .before .before .enum-told .given .1)) (r .ensures P R t q posed h)
 
 same-length-2 : tie.Need-same-length-2
 same-length-2 c = search needs
 
 returns-2 : tie.Need-returns-2
-returns-2 c P R t q stage h =
+returns-2 c P R t q posed h =
     let x = c .before .before .before .before .before .before .before .args in let r = c .before .before .by-snippets in
-    subst (λ e. Compared e t q P R (x .n) (x .p .now) (r .last .0) (r .result)) (sym (c .before .before .before .before .enum-told2 .given .1)) (r .ensures P R t q stage h)
+    subst (λ e. Compared e t q P R (x .n) (x .p .now) (r .last .0) (r .result)) (sym (c .before .before .before .before .enum-told2 .given .1)) (r .ensures P R t q posed h)
 
 pub compare-paths-spec : {M : Type 1} → statement M
 compare-paths-spec =

@@ -24,7 +24,7 @@ loop-holds : tie.Need-loop-holds Inv-loop μ-loop
 loop-holds c = let x = c .before .args in (held-none (x .n) (x .p .now), λ q e. answers-none (x .n) (Meets (x .m) (x .n) (x .p .now) q) (x .p .now))
 
 meets-at-requires : tie.Need-meets-at-requires Inv-loop μ-loop
-meets-at-requires c κs = let x = c .before .before .before .before .pre in let h = c .before .before .loop .inv .0 in (held-space h (x .0), held-small h (x .1), x .2, c .before .loop-test .taken)
+meets-at-requires c κs = let x = c .before .before .before .before .pre in let h = c .before .before .loop .inv .0 in (held-space h (x .0), λ e. held-small h (x .1 e), x .2, c .before .loop-test .taken)
 
 answer-requires : tie.Need-answer-requires Inv-loop μ-loop
 answer-requires c κs = (held-space (held-then (c .before .before .before .before .before .before .loop .inv .0) (c .before .before .before .meets-at .ensures .0 .held)) (c .before .before .before .before .before .before .before .before .pre .0), c .before .before .before .before .before .loop-test .taken)

@@ -12,7 +12,7 @@ enum-told : tie.Need-enum-told
 enum-told c = search needs
 
 equal-at-requires : tie.Need-equal-at-requires
-equal-at-requires c κs = search needs
+equal-at-requires c κs = let x = c .before .before .before .before .pre in (x .0, x .1 (c .before .enum-told .given .1), x .2, x .3)
 
 ordered-at-requires : tie.Need-ordered-at-requires
 ordered-at-requires c κs = search needs

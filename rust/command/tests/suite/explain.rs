@@ -70,8 +70,8 @@ fn the_ways_up_and_either_of_them() {
         &[
             "A node is selected if",
             " 0  greater or equal: some node reached by the first path has a value greater than \
-             or equal to that of some node reached by the second, compared as text: 10 is less \
-             than 9",
+             or equal to that of some node reached by the second, compared by amount: 9 is less \
+             than 10; it fails on values that are no numerals",
             " 1    first path: either of these:",
             " 2      from the first node inside back to the element around it",
             " 3      one after the other:",
@@ -128,7 +128,7 @@ fn every_sign_before_a_path_and_before_a_constant() {
     for (sign, name, to_node, to_constant) in SIGNS {
         let note = match sign {
             "=" | "!=" => "",
-            _ => ", compared as text: 10 is less than 9",
+            _ => ", compared by amount: 9 is less than 10; it fails on values that are no numerals",
         };
         let second = 2 + sign.len();
         assert_explained(
@@ -210,10 +210,81 @@ fn blanks_at_the_ends_are_told_before_the_order() {
         &[
             "A node is selected if",
             "0  less: some node reached by the path has a value less than \"10\" (blanks at the \
-             ends do not count), compared as text: 10 is less than 9",
+             ends do not count), compared by amount: 9 is less than 10; it fails on values that \
+             are no numerals",
             "1    path: to the first node inside, attributes included",
             "",
             "1 test of 64, nesting 2 of 32, 1 step of 14",
+        ],
+    );
+}
+
+/// Constants with which no order sign ever holds, and others.
+const NO_NUMERALS: [&str; 12] = [
+    "heparin",
+    "",
+    " ",
+    "5 mg",
+    ".5",
+    "1.",
+    "+1",
+    "--1",
+    "-",
+    "1.00000",
+    "1234567890",
+    "1,5",
+];
+const NUMERALS: [&str; 9] = [
+    "0",
+    "-0",
+    "00012",
+    "1.5",
+    "-1.2345",
+    "999999999.9999",
+    "123456789",
+    " 7",
+    "7 ",
+];
+
+#[test]
+fn a_constant_that_is_no_numeral_is_told_with_the_order_signs() {
+    let never = "compared by amount: it never holds, since the constant is no numeral";
+    let explained = |sign: &str, constant: &str| {
+        let rule = format!("(e{sign}\"{constant}\")");
+        Desk::new().run(["explain", rule.as_str()]).out
+    };
+    for sign in ["<", "<=", ">", ">="] {
+        for constant in NO_NUMERALS {
+            let out = explained(sign, constant);
+            assert!(out.contains(never), "{out}");
+            assert!(!out.contains("9 is less than 10"), "{out}");
+        }
+        for constant in NUMERALS {
+            let out = explained(sign, constant);
+            assert!(
+                !out.contains("never") && out.contains("9 is less than 10"),
+                "{out}"
+            );
+        }
+    }
+    for sign in ["=", "!="] {
+        for constant in NO_NUMERALS.iter().chain(&NUMERALS) {
+            assert!(!explained(sign, constant).contains("amount"), "{constant}");
+        }
+    }
+}
+
+#[test]
+fn the_case_m_that_marks_nothing() {
+    assert_explained(
+        "(e<\"a\")",
+        &[
+            "A node is selected if",
+            "0  less: some node reached by the path has a value less than \"a\", compared by \
+             amount: it never holds, since the constant is no numeral",
+            "1    path: stay at the node",
+            "",
+            "1 test of 64, nesting 2 of 32, 0 steps of 14",
         ],
     );
 }

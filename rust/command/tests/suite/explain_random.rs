@@ -1,9 +1,11 @@
 //! Random rules explained: the parts that are told against those of the
 //! evaluator, which has a reader of its own.
 
+use evaluator::amount::amount;
 use evaluator::random::{any_rule, deep_rule, rule, Random};
 use evaluator::rule::{parts, Operand, Part, Path, Piece, Sign, Test};
 use evaluator::rule_check::{read, NESTING_LIMIT, STEP_LIMIT, TEST_LIMIT};
+use evaluator::tree::trimmed;
 
 use crate::desk::{run_inside, Desk, Ran};
 
@@ -93,6 +95,9 @@ fn assert_line(line: &str, width: usize, part: &Part<'_>, roles: &[(*const Path,
     let (offset, words) = (part.offset, meaning(part.piece));
     let due = format!("{offset:width$}  {indent}{role}{words}");
     assert!(line.starts_with(&due), "{line}\n{due}");
+    if let Piece::Test(Test::Compare(_, sign, operand)) = part.piece {
+        assert_order_told(line, *sign, operand);
+    }
     match part.piece {
         Piece::Test(Test::Compare(_, _, Operand::Constant(text))) => {
             let text = String::from_utf8_lossy(text);
@@ -107,6 +112,25 @@ fn assert_line(line: &str, width: usize, part: &Part<'_>, roles: &[(*const Path,
         // Nothing is said of a part but what it is.
         _ => assert_eq!(line, due),
     }
+}
+
+/// What the order signs compare is told, and where they never hold.
+fn assert_order_told(line: &str, sign: Sign, operand: &Operand) {
+    let order = !matches!(sign, Sign::Equal | Sign::Unequal);
+    let note = match operand {
+        _ if !order => "",
+        Operand::Constant(text) if amount(trimmed(text)).is_none() => {
+            ", compared by amount: it never holds, since the constant is no numeral"
+        }
+        _ => ", compared by amount: 9 is less than 10; it fails on values that are no numerals",
+    };
+    assert!(line.ends_with(note), "{line}");
+    let told = line.contains(", compared by amount: ");
+    // A constant might have these words too.
+    assert!(
+        told == order || matches!(operand, Operand::Constant(_)),
+        "{line}"
+    );
 }
 
 /// The steps of each comparison, with its offset.

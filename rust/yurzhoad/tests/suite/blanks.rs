@@ -23,7 +23,7 @@ fn padded() -> Vec<u8> {
 }
 
 /// Both evaluations select these nodes of a document.
-fn assert_selected(bytes: &[u8], rule: &str, due: &[usize]) {
+pub fn assert_selected(bytes: &[u8], rule: &str, due: &[usize]) {
     let library = Library::check(bytes).expect("an accepted document");
     let checked = Rule::check(rule).expect("an accepted rule");
     assert_eq!(checked.as_str(), rule);
@@ -45,8 +45,9 @@ fn blanks_at_the_ends_do_not_count() {
         assert_selected(&bytes, &format!("(e=\"{constant}\")"), &[2, 6]);
     }
     assert_selected(&bytes, SESSION, &[1]);
-    // What begins with a digit, and what is empty.
-    assert_selected(&bytes, "(e<\"a\")", &[0, 1, 3, 5, 7]);
+    // Of all values only the text 3 is a numeral.
+    assert_selected(&bytes, "(e<=\"  5.0 \")", &[3]);
+    assert_selected(&bytes, "(e<\"a\")", &[]);
 }
 
 #[test]
@@ -64,7 +65,7 @@ fn blanks_alone_are_the_empty_value() {
     let bytes = padded();
     for constant in ["", " ", "     "] {
         assert_selected(&bytes, &format!("(e=\"{constant}\")"), &[5, 7]);
-        assert_selected(&bytes, &format!("(e<=\"{constant}\")"), &[5, 7]);
+        assert_selected(&bytes, &format!("(e<=\"{constant}\")"), &[]);
     }
 }
 

@@ -41,14 +41,17 @@ fn limits_are_those_of_the_proved_code() {
         (MAX_NESTING, "Rule::MAX_NESTING"),
         (MAX_STEPS, "Rule::MAX_STEPS"),
         (MAX_CONSTANT, "Rule::MAX_CONSTANT"),
+        (MAX_NUMERAL_DIGITS, "Numeral::MAX_DIGITS"),
+        (MAX_NUMERAL_DECIMALS, "Numeral::MAX_DECIMALS"),
     ];
     for (limit, name) in pairs {
         assert_eq!(Some(&limit), proved.get(name), "{name}");
     }
-    // None of a document or a rule is forgotten. The positions are no number
-    // there, but the steps and two.
-    let of_both = |name: &&String| name.starts_with("Document::") || name.starts_with("Rule::");
-    assert_eq!(proved.keys().filter(of_both).count(), pairs.len());
+    // None of a document, a rule or a numeral is forgotten. The positions are no
+    // number there, but the steps and two.
+    let owners = ["Document::", "Rule::", "Numeral::"];
+    let of_these = |name: &&String| owners.iter().any(|owner| name.starts_with(owner));
+    assert_eq!(proved.keys().filter(of_these).count(), pairs.len());
 }
 
 #[test]

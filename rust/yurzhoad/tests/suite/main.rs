@@ -2,6 +2,7 @@
 //! buffers that are kept. What the archive itself decides is tested in
 //! `tests/archive`; here it is only asked whether it arrives.
 
+mod amounts;
 mod blanks;
 mod checks;
 mod declarations;

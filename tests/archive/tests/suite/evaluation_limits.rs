@@ -56,7 +56,7 @@ fn each_of_64_tests_counts() {
         names[only] = "(e=\"v7\")".to_string();
         let rule = joined("|", &names);
         assert_marked("one of 32", &document, rule.as_bytes(), needed(4), &[8]);
-        let mut names = vec!["(e>=\"\")".to_string(); 32];
+        let mut names = vec!["(e!=\"no\")".to_string(); 32];
         names[only] = "(e=\"v7\")".to_string();
         let rule = joined("&", &names);
         assert_marked("one of 32", &document, rule.as_bytes(), needed(5), &[8]);
@@ -92,7 +92,7 @@ fn nesting_32_of_tests_paths_and_brackets() {
     }
     // Each bracket takes one node off the end of the row.
     let values: Vec<String> = (0..20).map(|number| format!("v{number}")).collect();
-    let (before, behind) = ("(.r[".repeat(10), "]>=\"\")".repeat(10));
+    let (before, behind) = ("(.r[".repeat(10), "]!=\"no\")".repeat(10));
     let rule = format!("{before}!:lib{behind}");
     let due: Vec<usize> = (1..=10).collect();
     assert_marked("steps", &row(&values), rule.as_bytes(), needed(6), &due);
@@ -173,7 +173,7 @@ fn fourteen_steps_reach_just_so_far() {
     }
     for (p, due) in [(path_of("r", 14), 1..=16), (path_of("R", 14), 15..=30)] {
         let due: Vec<usize> = due.collect();
-        let rule = format!("({p}>=\"\")");
+        let rule = format!("({p}!=\"no\")");
         assert_marked("row", &document, rule.as_bytes(), needed(20), &due);
         let rule = format!("(e!={p})");
         assert_marked("row", &document, rule.as_bytes(), needed(21), &due);
@@ -217,20 +217,15 @@ fn constants_beside_values_that_are_longer_or_shorter() {
         "~".repeat(255),
     ];
     let document = row(&values);
-    let (equal, above) = ([2], [3, 5, 6, 7, 8, 11]);
-    let below = [0, 1, 4, 9, 10];
-    let both = |a: &[usize], b: &[usize]| {
-        let mut both = [a, b].concat();
-        both.sort_unstable();
-        both
-    };
+    // None of them is a numeral.
+    let equal = [2];
     for (sign, due) in [
         ("=", equal.to_vec()),
         ("!=", others(12, &equal)),
-        ("<", below.to_vec()),
-        ("<=", both(&below, &equal)),
-        (">", above.to_vec()),
-        (">=", both(&above, &equal)),
+        ("<", Vec::new()),
+        ("<=", Vec::new()),
+        (">", Vec::new()),
+        (">=", Vec::new()),
     ] {
         let rule = format!("(e{sign}\"{}\")", value(32, "m"));
         assert_marked(sign, &document, rule.as_bytes(), needed(1), &due);
@@ -241,7 +236,36 @@ fn constants_beside_values_that_are_longer_or_shorter() {
         }
     }
     // Among them 6 and 7, and 7 and 8, which differ in their last byte alone.
-    assert_marked("e>r", &document, b"(e>r)", needed(3), &[3, 5, 6, 8]);
+    let all: Vec<usize> = (1..=10).collect();
+    let differing: Vec<usize> = all.into_iter().filter(|v| *v != 9).collect();
+    assert_marked("e!=r", &document, b"(e!=r)", needed(3), &differing);
+}
+
+#[test]
+fn the_longest_constants_as_numerals() {
+    // Blanks and a numeral, 32 bytes in all; digits alone are too many.
+    let before = |text: &str| format!("{text:>32}");
+    let behind = |text: &str| format!("{text:<32}");
+    let values = ["9", "10", "-3", "999999999.9999", "9 9", "a", ""];
+    let document = row(&values);
+    for constant in [before("9.5"), behind("9.5"), format!("{:^32}", "9.5000")] {
+        assert_eq!(constant.len(), 32);
+        for (sign, due) in [
+            ("<", &[1, 3][..]),
+            ("<=", &[1, 3]),
+            (">", &[2, 4]),
+            (">=", &[2, 4]),
+            ("=", &[]),
+        ] {
+            let rule = format!("(e{sign}\"{constant}\")");
+            assert_marked(sign, &document, rule.as_bytes(), needed(1), due);
+        }
+    }
+    for digits in [9, 10, 31, 32] {
+        let due: &[usize] = if digits == 9 { &[2, 4] } else { &[] };
+        let rule = format!("(e>\"{:0>digits$}\")", 9);
+        assert_marked("zeros", &document, rule.as_bytes(), needed(2), due);
+    }
 }
 
 #[test]
@@ -267,11 +291,11 @@ fn values_joined_beyond_the_longest() {
     let cases: [(&str, &[usize]); 7] = [
         ("&:drug(e=.r*r)", &[1]),
         ("&:drug(e=.R*R)", &[6]),
-        ("&:drug(e<r)", &[6, 11]),
-        ("&:drug(e<=r)", &[1, 6, 11]),
-        ("&:drug(e>R)", &[11, 16]),
-        ("(e>..l.rr[:drug])", &[0]),
-        ("&:lib(e<.l.r.rr)", &[0]),
+        ("&:drug(e!=r)", &[6, 11]),
+        ("&:drug(e=r)", &[1]),
+        ("&:drug(e!=R)", &[11, 16]),
+        ("(e!=..l.rr[:drug])", &[0]),
+        ("&:lib(e!=.l.r.rr)", &[0]),
     ];
     for (rule, due) in cases {
         assert_marked("joined", &document, rule.as_bytes(), needed(1), due);

@@ -16,9 +16,9 @@ const SHAPES: [Shape; 4] = [
         "chain",
         chain,
         &[
-            "(.*.l.ll[:text]=\"v\")",
+            "(.*.l.ll[:text]=\"60\")",
             "(.*L[:drug]=.l.l*l)",
-            "&:name(.l.l.ll>=.*L[(.L[:lib]=\"v\")])",
+            "&:name(.l.l.ll>=.*L[(.L[:lib]<\"100\")])",
         ],
     ),
     (
@@ -27,7 +27,7 @@ const SHAPES: [Shape; 4] = [
         &[
             "(.l[:text]=..lr.*.lrl)",
             "(e<.L*+LR)",
-            "|(e=.r.*.lrl)(.R[:text]>\"ab\")",
+            "|(e=.r.*.lrl)(.R[:text]>\"9\")",
         ],
     ),
     (

@@ -87,7 +87,7 @@ fn the_same_longest_text_before_each_of_many_nested_elements() {
         let nodes = 2 * depth;
         // Each drug's value begins as the next one's, and goes on.
         assert_nested(&texts, "(l=e)", &[nodes - 2]);
-        assert_nested(&texts, "(.lr<e)", &every_second(nodes, 0, 1));
+        assert_nested(&texts, "(.lr!=e)", &every_second(nodes, 0, 1));
         assert_nested(&texts, "&:text(e=.rl)", &every_second(nodes, 1, 1));
     }
 }
@@ -155,7 +155,7 @@ fn stretches_in_common_that_lie_in_other_places() {
         assert_eq!(due.len(), equal);
         let document = spell(&beside(&first, &second));
         assert_marked("across", &document, ACROSS.as_bytes(), needed(1), &due);
-        for rule in ["&:drug(e<.lr)", "&:drug(e>=..*.RLr*.lr)", "(e=.*.lrl)"] {
+        for rule in ["&:drug(e!=.lr)", "&:drug(e!=..*.RLr*.lr)", "(e=.*.lrl)"] {
             let outcome = assert_agreement("across", &document, rule.as_bytes(), needed(2));
             assert_eq!(outcome.number, 0, "{rule}");
         }
@@ -181,7 +181,7 @@ fn texts_that_differ_by_blanks_alone() {
         for count in [2, 3, 20, 21, 300] {
             let library = beside(&turns(&first, count), &turns(&second, count));
             let origin = format!("{first:?} and {second:?}, {count}");
-            for rule in [ACROSS, "&:drug(e<..*.RLr*.lr)", "&:drug(l=.lr)"] {
+            for rule in [ACROSS, "&:drug(e!=..*.RLr*.lr)", "&:drug(l=.lr)"] {
                 let document = spell(&library);
                 let outcome = assert_agreement(&origin, &document, rule.as_bytes(), needed(1));
                 assert_eq!(outcome.number, 0, "{rule}");
@@ -192,26 +192,51 @@ fn texts_that_differ_by_blanks_alone() {
     assert!(some >= 20, "{some} marked some nodes");
 }
 
+/// A root with so many attributes of 255 bytes: 40 values by turns, with blanks
+/// around them.
+fn forty_values(count: usize, value: fn(usize) -> String) -> Vec<u8> {
+    let padded = |number: usize| {
+        let left = value(number % 40);
+        let room = VALUE_LIMIT - left.len();
+        let front = number * 7 % (room + 1);
+        format!("{}{left}{}", blanks(front), blanks(room - front))
+    };
+    let entry = |number: usize| attribute(1, &name(number), padded(number));
+    let mut nodes = vec![element(0, "lib")];
+    nodes.extend((0..count).map(entry));
+    spell(&Library { nodes })
+}
+
 #[test]
 fn many_long_values_that_are_equal_when_cut() {
-    // 3,000 attributes of 255 bytes that begin alike, 40 values of 232 bytes
-    // with blanks around, in 24 spellings.
     const COUNT: usize = 3_000;
-    let value = |number: usize| {
-        let left = format!("{}{:02}", "m".repeat(230), number % 40);
-        let front = number % 24;
-        format!("{}{left}{}", blanks(front), blanks(23 - front))
-    };
-    let entry = |number: usize| attribute(1, &name(number), value(number));
-    let mut nodes = vec![element(0, "lib")];
-    nodes.extend((0..COUNT).map(entry));
-    let document = spell(&Library { nodes });
+    // They begin alike, and have 232 bytes.
+    let document = forty_values(COUNT, |number| format!("{}{number:02}", "m".repeat(230)));
     let last: Vec<usize> = (1..=COUNT - 40).collect();
     assert_marked("equal", &document, b"(e=.r*r)", needed(1), &last);
-    // Attribute 1 has the number 0.
-    let rising: Vec<usize> = (1..COUNT).filter(|v| (v - 1) % 40 != 39).collect();
-    assert_marked("rising", &document, b"(e<r)", needed(2), &rising);
+    let all: Vec<usize> = (1..COUNT).collect();
+    assert_marked("not the same", &document, b"(e!=r)", needed(2), &all);
     assert_marked("the same", &document, b"(e=r)", needed(3), &[]);
+    assert_marked("no numerals", &document, b"(e<=.r*r)", needed(4), &[]);
+}
+
+#[test]
+fn many_padded_numerals() {
+    const COUNT: usize = 3_000;
+    // From -19.5 to 19.5, rising by turns; attribute 1 has the first.
+    let document = forty_values(COUNT, |number| format!("{:.1}", number as f64 - 19.5));
+    let last: Vec<usize> = (1..=COUNT - 40).collect();
+    assert_marked("equal", &document, b"(e=.r*r)", needed(1), &last);
+    let before_first = |v: &usize| (v - 1) % 40 != 39;
+    let rising: Vec<usize> = (1..COUNT).filter(before_first).collect();
+    let falling: Vec<usize> = (1..COUNT).filter(|v| !before_first(v)).collect();
+    assert_marked("rising", &document, b"(e<r)", needed(2), &rising);
+    assert_marked("falling", &document, b"(e>=r)", needed(3), &falling);
+    // Half of them are below 0, and the first of each turn is the least.
+    let negative: Vec<usize> = (1..=COUNT).filter(|v| (v - 1) % 40 < 20).collect();
+    assert_marked("negative", &document, b"(e<\"-0\")", needed(4), &negative);
+    let not_least: Vec<usize> = (2..=COUNT).filter(|v| (v - 1) % 40 != 0).collect();
+    assert_marked("above", &document, b"(e>.R*R)", needed(5), &not_least);
 }
 
 /// Asserts that blanks which are cut change nothing: both evaluations of the
@@ -236,7 +261,7 @@ const RULES: [&str; 5] = [
     SESSION,
     "!(.+lr+lr=.+LR+LR)",
     "([(r=+l+RL)]=+r+lL)",
-    "|(+e+lr>\" a \")(.L[(e=r)]<.rr)",
+    "|(+e+lr>\" 9 \")(.L[(e=r)]<.rr)",
     "&(e>=\"1024 \")|(e=.r+re)(e<=+R[(e>\"  4000\")])",
 ];
 

@@ -12,14 +12,14 @@ use yurzhoad::limits::needed_words;
 /// Kind and depth of each node.
 type Shape = Vec<(char, usize)>;
 
-/// The document of a shape: its texts get these values in turn, and each of its
-/// attributes the value `a` with a blank at one end.
+/// The document of a shape: its texts get these values in turn, and its
+/// attributes the values `a` and `1` with a blank at one end.
 fn filled(shape: &Shape, texts: &[&str]) -> Vec<u8> {
     let mut texts = texts.iter();
     let labels = ["n0", "n1", "n2", "n3", "n4", "n5"];
     let row = |(node, (kind, depth)): (usize, &(char, usize))| match kind {
         'e' => ('e', *depth, "drug", ""),
-        'a' => ('a', *depth, labels[node], [" a", "a "][node % 2]),
+        'a' => ('a', *depth, labels[node], [" a", "1 "][node % 2]),
         _ => ('t', *depth, "text", *texts.next().unwrap_or(&"")),
     };
     let rows: Vec<_> = shape.iter().enumerate().map(row).collect();
@@ -70,13 +70,13 @@ fn compare_all(nodes: usize, texts: usize, values: &[&str], rules: &[&str]) -> u
     inputs
 }
 
-const VALUES: [&str; 8] = ["", " ", "  ", "a", " a", "a ", " a ", "a b"];
+const VALUES: [&str; 8] = ["", " ", "1", " 1", "1 ", " 1 ", " a", "a b"];
 
 /// Against constants, and against what stands below, beside and above.
 const RULES: [&str; 7] = [
     "(e=\"a\")",
-    "(e=\" a \")",
-    "(e<\"a b\")",
+    "(e=\" 1 \")",
+    "(e<\" 2\")",
     "(e=.+lr*+lr)",
     "(l=.lr)",
     "(e<=+r+lL)",
@@ -105,13 +105,13 @@ fn every_small_tree_with_three_texts() {
 #[test]
 fn every_small_tree_with_four_texts() {
     let flat = compare_all(5, 4, &VALUES, &RULES[..2]);
-    let nested = compare_all(6, 4, &["", " ", "a", " b"], &RULES[1..4]);
+    let nested = compare_all(6, 4, &["", " ", "1", " b"], &RULES[1..4]);
     println!("{flat} and {nested} inputs");
     assert!(flat > 8_000 && nested > 8_000, "{flat}, {nested}");
 }
 
 /// What is left of values and constants.
-const LEFT: [&str; 6] = ["", "a", "ab", "a b", "a  b", "!"];
+const LEFT: [&str; 9] = ["", "a", "ab", "a b", "a  b", "!", "9", "10", "-0.5"];
 
 /// A text with up to two blanks at each end.
 fn spellings(left: &str) -> Vec<String> {
@@ -130,13 +130,15 @@ fn longest_spellings(left: &str) -> [String; 3] {
 /// Texts with what is left of each, and what is left of them joined.
 type Joined = (&'static [(&'static str, &'static str)], &'static str);
 
-const JOINED: [Joined; 6] = [
+const JOINED: [Joined; 8] = [
     (&[(" ", ""), ("", "")], ""),
     (&[(" ", ""), ("a", "a"), ("  ", "")], "a"),
     (&[("a ", "a"), ("b ", "b")], "a b"),
     (&[(" a", "a"), ("  ", ""), ("b", "b")], "a  b"),
     (&[(" a", "a"), ("b ", "b")], "ab"),
     (&[("", ""), (" !  ", "!")], "!"),
+    (&[(" 1", "1"), ("0 ", "0")], "10"),
+    (&[(" -", "-"), ("0.5", "0.5"), (" ", "")], "-0.5"),
 ];
 
 /// A document with every spelling as an attribute, and elements with these
@@ -177,7 +179,7 @@ fn constants_of_every_spelling_with_every_sign() {
         for spelled in spelled.chain(longest_spellings(constant)) {
             for sign in Sign::ALL {
                 let rule = format!("(e{}\"{spelled}\")", sign_text(sign));
-                let holds = |v: &usize| compare(sign, left[*v], constant);
+                let holds = |v: &usize| compare(sign, left[*v].as_bytes(), constant.as_bytes());
                 let due: Vec<usize> = (0..left.len()).filter(holds).collect();
                 let origin = "every spelling";
                 assert_marked(origin, &document, rule.as_bytes(), needed(calls), &due);
@@ -185,7 +187,7 @@ fn constants_of_every_spelling_with_every_sign() {
             }
         }
     }
-    assert_eq!(calls, 6 * 12 * 6);
+    assert_eq!(calls, LEFT.len() as u64 * 12 * 6);
 }
 
 #[test]
@@ -195,7 +197,7 @@ fn values_of_every_spelling_with_every_sign() {
     let attributes = LEFT.len() * 9;
     for sign in Sign::ALL {
         let rule = format!("&!:text&!:drug(R{}e)", sign_text(sign));
-        let holds = |v: &usize| compare(sign, left[*v - 1], left[*v]);
+        let holds = |v: &usize| compare(sign, left[*v - 1].as_bytes(), left[*v].as_bytes());
         let due: Vec<usize> = (2..=attributes).filter(holds).collect();
         assert_marked("neighbours", &document, rule.as_bytes(), needed(1), &due);
         let rule = format!(

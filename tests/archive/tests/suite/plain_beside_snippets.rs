@@ -57,7 +57,7 @@ const RULES: [&str; 7] = [
     "!(.+lr+lr=.+LR+LR)",
     "([(r=+l+RL)]=+r+lL)",
     "&(+lr!=+rL)(.lr<=+Re)",
-    "|(+e+lr>\"a\")(.L[(e=r)]<.rr)",
+    "|(+e+lr>\"50\")(.L[(e=r)]<.rr)",
     "(..ll[!:name]>=.L[(.*re=l)])",
 ];
 

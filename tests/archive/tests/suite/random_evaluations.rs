@@ -5,10 +5,12 @@ use std::collections::{BTreeMap, BTreeSet};
 
 use crate::evaluation_agreement::{assert_agreement, Buffers, Length, BY_DEFINITION};
 use crate::rules_seen::Seen;
+use evaluator::amount::amount;
 use evaluator::document::{spell, Kind, Library};
 use evaluator::evaluate::{needed_words, Outcome};
-use evaluator::random::{any_library, library, rule, rule_about, Random};
+use evaluator::random::{any_library, library, numeral_or_nearly, rule, rule_about, Random};
 use evaluator::rule::{equalities, parts, Operand, Path, Piece, Test};
+use evaluator::text_order::{self, some_order_holds};
 use evaluator::tree::{trimmed, Tree};
 use evaluator::uncut::{counts_differ, marks_differ};
 
@@ -20,6 +22,10 @@ const ACCEPTED: usize = 30_000;
 /// would be if nothing were cut.
 const OTHER_MARKS: usize = 2_000;
 const OTHER_COUNTS: usize = 3_500;
+/// In at least so many an order sign holds somewhere, and in so many the marks
+/// are others than they would be by the order of texts.
+const ORDERED: usize = 5_000;
+const OTHER_ORDER: usize = 5_000;
 
 /// A pair with the tree of its document, to look into.
 struct Pair {
@@ -61,12 +67,15 @@ fn draw_pair(random: &mut Random) -> Pair {
     }
 }
 
-/// Gives texts and attributes values that are seldom equal.
+/// Gives texts and attributes values that are seldom equal, words and numerals.
 fn scatter_values(random: &mut Random, library: &mut Library) {
     for node in &mut library.nodes {
         if node.kind != Kind::Element {
             let letters = b"abcdefghijklmnopqrstuvwxyz";
-            node.value = (0..2).map(|_| *random.pick(letters)).collect();
+            node.value = match random.percent(50) {
+                true => (0..2).map(|_| *random.pick(letters)).collect(),
+                false => numeral_or_nearly(random),
+            };
         }
     }
 }
@@ -115,6 +124,7 @@ impl Exercise {
             self.add_tree(pair);
             self.add_rule(pair);
             self.add_cuts(pair);
+            self.add_amounts(pair);
         }
     }
 
@@ -199,6 +209,34 @@ impl Exercise {
         self.count("counts differ by cutting", counts);
     }
 
+    /// Whether there are numerals, and whether it matters what is one.
+    fn add_amounts(&mut self, pair: &Pair) {
+        let tree = &pair.tree;
+        let own = |v: usize| amount(tree.compared(v));
+        let (numerals, others): (Vec<usize>, Vec<usize>) =
+            (0..tree.size()).partition(|v| own(*v).is_some());
+        self.count(
+            "several numerals beside words",
+            numerals.len() > 2 && others.len() > 2,
+        );
+        let amounts: BTreeSet<i64> = numerals.iter().filter_map(|v| own(*v)).collect();
+        let texts: BTreeSet<&[u8]> = numerals.iter().map(|v| tree.compared(*v)).collect();
+        self.count("one amount in two spellings", amounts.len() < texts.len());
+        let texts_inside = |v: usize| {
+            let (own, behind) = (&pair.library.nodes[v], &pair.library.nodes[v + 1..]);
+            let inside = behind.iter().take_while(|node| node.depth > own.depth);
+            let texts = inside.filter(|node| node.kind == Kind::Text);
+            texts
+                .filter(|text| !trimmed(&text.value).is_empty())
+                .count()
+        };
+        let joined = |v: &usize| texts_inside(*v) >= 2;
+        self.count("a numeral joined of texts", numerals.iter().any(joined));
+        self.count("an order sign holds", some_order_holds(tree, &pair.rule));
+        let by_text = text_order::marks_differ(&pair.library, &pair.rule);
+        self.count("marks differ by the order of texts", by_text);
+    }
+
     fn assert_not_idle(&self) {
         println!("{:?}", self.cases);
         assert!(self.cases["accepted"] >= ACCEPTED, "{:?}", self.cases);
@@ -212,6 +250,11 @@ impl Exercise {
             self.cases["counts differ by cutting"],
         );
         assert!(marks >= OTHER_MARKS && counts >= OTHER_COUNTS);
+        let (ordered, by_text) = (
+            self.cases["an order sign holds"],
+            self.cases["marks differ by the order of texts"],
+        );
+        assert!(ordered >= ORDERED && by_text >= OTHER_ORDER);
         assert!(
             self.cases.values().all(|cases| *cases >= 200),
             "{:?}",

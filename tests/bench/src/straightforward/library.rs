@@ -1,7 +1,10 @@
-//! The tree of a document, with labels, values as they are compared, and their
-//! ranks.
+//! The tree of a document, with labels, values as they are compared, their
+//! amounts, and the ranks of both.
 
-/// Stands for no node.
+use evaluator::amount::amount;
+use evaluator::rule::Sign;
+
+/// Stands for no node, and for the rank of no amount.
 pub const NONE: u16 = u16::MAX;
 
 pub struct Library<'a> {
@@ -10,8 +13,12 @@ pub struct Library<'a> {
     pub parent: Vec<u16>,
     pub labels: Vec<&'a [u8]>,
     pub values: Vec<Vec<u8>>,
+    /// What is no numeral has no amount.
+    pub amounts: Vec<Option<i64>>,
     /// Equal values have equal ranks, a smaller value a smaller rank.
     pub ranks: Vec<u16>,
+    /// Equal amounts have equal ranks, a smaller amount a smaller rank.
+    amount_ranks: Vec<u16>,
 }
 
 /// A node's lines as they stand.
@@ -41,6 +48,7 @@ impl Library<'_> {
             })
             .collect();
         let values = values(&entries);
+        let amounts: Vec<Option<i64>> = values.iter().map(|value| amount(value)).collect();
         let mut library = Library {
             left: vec![NONE; count],
             right: vec![NONE; count],
@@ -48,6 +56,8 @@ impl Library<'_> {
             labels: entries.iter().map(|entry| entry.label).collect(),
             ranks: ranks(&values),
             values,
+            amount_ranks: amount_ranks(&amounts),
+            amounts,
         };
         library.link(&entries);
         library
@@ -55,6 +65,14 @@ impl Library<'_> {
 
     pub fn size(&self) -> usize {
         self.labels.len()
+    }
+
+    /// The ranks by which a sign compares.
+    pub fn ranks_for(&self, sign: Sign) -> &[u16] {
+        match sign {
+            Sign::Equal | Sign::Unequal => &self.ranks,
+            _ => &self.amount_ranks,
+        }
     }
 
     /// Of a node that has a parent, whether it is the left child.
@@ -115,7 +133,7 @@ pub fn cut(value: &[u8]) -> &[u8] {
     }
 }
 
-fn ranks(values: &[Vec<u8>]) -> Vec<u16> {
+fn ranks<T: Ord>(values: &[T]) -> Vec<u16> {
     let mut nodes: Vec<usize> = (0..values.len()).collect();
     nodes.sort_by_key(|node| &values[*node]);
     let mut ranks = vec![0; values.len()];
@@ -124,4 +142,11 @@ fn ranks(values: &[Vec<u8>]) -> Vec<u16> {
         ranks[pair[1]] = ranks[pair[0]] + rise;
     }
     ranks
+}
+
+fn amount_ranks(amounts: &[Option<i64>]) -> Vec<u16> {
+    let ranked = amounts.iter().zip(ranks(amounts));
+    ranked
+        .map(|(amount, rank)| amount.map_or(NONE, |_| rank))
+        .collect()
 }

@@ -2,7 +2,7 @@
 //! against: the same algorithms without a proof.
 //!
 //! A set of positions at a node is one word of 16 bits, and values are compared
-//! by their ranks. Document and rule are taken as accepted and not checked, and
+//! by the ranks of their texts or of their amounts. Document and rule are taken as accepted and not checked, and
 //! memory is allocated as needed, where the proved functions have their scratch.
 
 mod automaton;
@@ -12,7 +12,8 @@ pub mod snippets;
 mod walk;
 
 use automaton::Automaton;
-use evaluator::meaning::compare;
+use evaluator::amount::amount;
+use evaluator::meaning::related;
 use evaluator::reader;
 use evaluator::rule::{Operand, Path, Sign, Test};
 pub use library::cut;
@@ -58,11 +59,21 @@ fn holds(library: &Library, test: &Test, comparing: &dyn Comparing) -> Vec<bool>
             comparing.paths(library, &automaton(p, r), *sign)
         }
         Test::Compare(p, sign, Operand::Constant(c)) => {
-            let hit = |value: &Vec<u8>| compare(*sign, value.as_slice(), cut(c));
-            let hits: Vec<bool> = library.values.iter().map(hit).collect();
+            let hits = hits(library, *sign, cut(c));
             comparing.hits(library, &automaton(p, &Path::Empty), &hits)
         }
     }
+}
+
+/// For each node whether its value is in the relation to a constant.
+fn hits(library: &Library, sign: Sign, constant: &[u8]) -> Vec<bool> {
+    if let Sign::Equal | Sign::Unequal = sign {
+        let hit = |value: &Vec<u8>| related(sign, value.as_slice(), constant);
+        return library.values.iter().map(hit).collect();
+    }
+    let limit = amount(constant);
+    let hit = |own: &Option<i64>| own.zip(limit).is_some_and(|(a, b)| related(sign, &a, &b));
+    library.amounts.iter().map(hit).collect()
 }
 
 /// The least and the greatest of some ranks.
@@ -74,8 +85,8 @@ fn in_relation(sign: Sign, first: Option<Range>, second: Option<Range>) -> bool 
         return false;
     };
     match sign {
-        Sign::Less | Sign::LessOrEqual => compare(sign, &low, &other_high),
-        Sign::Greater | Sign::GreaterOrEqual => compare(sign, &high, &other_low),
+        Sign::Less | Sign::LessOrEqual => related(sign, &low, &other_high),
+        Sign::Greater | Sign::GreaterOrEqual => related(sign, &high, &other_low),
         Sign::Unequal => low != other_high || high != other_low,
         Sign::Equal => unreachable!("their range does not tell"),
     }

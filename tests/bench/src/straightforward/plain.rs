@@ -2,7 +2,7 @@
 //! comparison's paths.
 
 use super::automaton::Automaton;
-use super::library::Library;
+use super::library::{Library, NONE};
 use super::walk::Walk;
 use super::{in_relation, mark, Answer, Comparing, Range};
 use evaluator::rule::Sign;
@@ -19,13 +19,15 @@ struct Plain;
 impl Comparing for Plain {
     fn paths(&self, library: &Library, automaton: &Automaton, sign: Sign) -> Vec<bool> {
         let mut walk = Walk::new(library, automaton);
+        let column = library.ranks_for(sign);
         let mut ranks = [Vec::new(), Vec::new()];
         // For each rank the last node from which the first path reached it.
         let mut reached_from = vec![usize::MAX; library.size()];
         let compared = |v: usize| {
             for (start, ranks) in [0, automaton.second].into_iter().zip(&mut ranks) {
                 ranks.clear();
-                walk.ends(start, v, |w| ranks.push(library.ranks[w]));
+                walk.ends(start, v, |w| ranks.push(column[w]));
+                ranks.retain(|rank| *rank != NONE);
             }
             let [first, second] = &ranks;
             if let Sign::Equal = sign {

@@ -1,6 +1,7 @@
 //! Random legal libraries of many shapes.
 
-use super::{padded, printable, printable_of, Random, NAMES, VALUES};
+use super::{numeral_or_nearly, padded, printable, printable_of, shared_value};
+use super::{Random, NAMES, NUMERALS, WORDS};
 use crate::document::{Kind, Library, Node, LABEL_LIMIT, VALUE_LIMIT};
 
 /// How the nodes of a library are drawn.
@@ -64,7 +65,11 @@ pub fn repeating_library(random: &mut Random, nodes: usize) -> Library {
         attributes: *random.pick(&[20, 50, 80, 95, 99]),
         texts: *random.pick(&[5, 30]),
         labels: alike_labels(random, pool),
-        values: VALUES.map(|value| value.as_bytes().to_vec()).into(),
+        values: [WORDS, NUMERALS]
+            .concat()
+            .into_iter()
+            .map(Vec::from)
+            .collect(),
         padded: *random.pick(&PADDED),
         repeats: true,
     };
@@ -167,7 +172,7 @@ pub fn branching_library(random: &mut Random, nodes: usize) -> Library {
         attributes: *random.pick(&[10, 20, 30]),
         texts: *random.pick(&[20, 30, 40]),
         labels: NAMES.map(|name| name.as_bytes().to_vec()).into(),
-        values: (0..count).map(|number| few_value(random, number)).collect(),
+        values: (0..count).map(few_value).collect(),
         padded: *random.pick(&PADDED),
         repeats: false,
     };
@@ -220,12 +225,10 @@ impl Branching {
     }
 }
 
-/// Such as rules name too as long as there are any.
-fn few_value(random: &mut Random, number: usize) -> Vec<u8> {
-    match VALUES.get(number) {
-        Some(value) => value.as_bytes().to_vec(),
-        None => printable(random, 3),
-    }
+/// Such as rules name too, each of them once, words and numerals by turns.
+fn few_value(number: usize) -> Vec<u8> {
+    let shared = [WORDS, NUMERALS][number % 2];
+    Vec::from(shared[number / 2])
 }
 
 /// A depth and a kind that the tree rules allow behind the previous node.
@@ -248,15 +251,17 @@ fn draw_place(random: &mut Random, shape: &Shape, previous: &Node) -> (usize, Ki
 }
 
 /// Few values, so that they repeat often, or many, so that they repeat seldom;
-/// either such as rules name too, or any.
+/// either such as rules name too, or any; and few numerals among them, or many.
 fn draw_values(random: &mut Random) -> Vec<Vec<u8>> {
     let count = *random.pick(&[1, 2, 3, 200]);
     let known = random.percent(60);
+    let numerals = *random.pick(&[40, 70, 95]);
     let mut values = Vec::new();
     while values.len() < count {
         values.push(match known {
-            true => random.pick(&VALUES).as_bytes().to_vec(),
-            false if random.percent(2) => printable(random, VALUE_LIMIT),
+            true => shared_value(random, numerals),
+            false if random.percent(numerals) => numeral_or_nearly(random),
+            false if random.percent(4) => printable(random, VALUE_LIMIT),
             false => printable(random, 3),
         });
     }
@@ -296,8 +301,12 @@ fn alike_labels(random: &mut Random, count: usize) -> Vec<Vec<u8>> {
     labels
 }
 
-/// Short values, values of any length, and the longest.
+/// What looks like a numeral, short values, values of any length, and the
+/// longest.
 fn any_value(random: &mut Random) -> Vec<u8> {
+    if random.percent(40) {
+        return numeral_or_nearly(random);
+    }
     let length = match random.below(8) {
         0 => VALUE_LIMIT,
         1 | 2 => random.below(VALUE_LIMIT + 1),

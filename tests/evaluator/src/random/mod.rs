@@ -4,12 +4,14 @@ mod blanks;
 mod damage;
 mod library;
 mod line_damage;
+mod numerals;
 mod rule;
 
 pub use blanks::{padded, padded_ends};
 pub use damage::{damage_document, damage_rule};
 pub use library::{any_library, branching_library, library, repeating_library};
 pub use line_damage::damage_one_line;
+pub use numerals::{nearly_numeral, numeral, numeral_or_nearly};
 pub use rule::{any_rule, deep_rule, large_rule, rule, rule_about, wandering_rule};
 
 use crate::document::NODE_LIMIT;
@@ -73,9 +75,19 @@ impl Random {
     }
 }
 
-/// Names and values that libraries and rules share, so that rules hit.
+/// Names, words and numerals that libraries and rules share, so that rules hit.
 const NAMES: [&str; 5] = ["lib", "drug", "name", "text", "max-dose-rate-16"];
-const VALUES: [&str; 7] = ["", "a", "heparin", "ab", "b", "~ !", "a b"];
+const WORDS: [&str; 7] = ["", "a", "heparin", "ab", "b", "~ !", "a b"];
+const NUMERALS: [&str; 7] = ["10", "9", "-1.5", "9.0", "0", "-0", "10.5"];
+
+/// One of them, in so many cases of a hundred a numeral.
+fn shared_value(random: &mut Random, numerals: usize) -> Vec<u8> {
+    let shared = match random.percent(numerals) {
+        true => NUMERALS,
+        false => WORDS,
+    };
+    random.pick(&shared).as_bytes().to_vec()
+}
 
 /// Up to so many bytes from 0x20 to 0x7E.
 fn printable(random: &mut Random, longest: usize) -> Vec<u8> {

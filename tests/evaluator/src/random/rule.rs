@@ -1,11 +1,14 @@
 //! Random legal rules of all constructs, and rules beyond the limits.
 
 use super::library::any_label;
-use super::{padded, printable, printable_of, Random, NAMES, VALUES};
+use super::{nearly_numeral, numeral_or_nearly, padded, printable, printable_of, shared_value};
+use super::{Random, NAMES};
+use crate::amount::amount;
 use crate::document::LABEL_LIMIT;
 use crate::grammar::CONSTANT_LIMIT;
 use crate::rule::{parts, Operand, Path, Sign, Test};
 use crate::rule_check::{BYTE_LIMIT, NESTING_LIMIT, STEP_LIMIT, TEST_LIMIT};
+use crate::tree::trimmed;
 
 /// A legal rule with at most about so many parts, its names and constants
 /// such as libraries have.
@@ -170,20 +173,31 @@ impl<'a> Drawing<'a> {
 
     fn comparison(&mut self, nesting: usize) -> Test {
         let mut steps = self.most_steps;
-        let long = nesting < NESTING_LIMIT / 2 && self.seldom(self.words.long_paths());
-        let first = match long {
-            true => self.long_path(nesting + 1, steps, &mut steps),
-            false => self.path(nesting + 1, &mut steps),
-        };
         let sign = match self.seldom(self.words.equalities()) {
             true => Sign::Equal,
             false => *self.random.pick(&Sign::ALL),
         };
+        let long = nesting < NESTING_LIMIT / 2 && self.seldom(self.words.long_paths());
+        let first = match long {
+            true => self.long_path(nesting + 1, steps, &mut steps),
+            false => self.compared_path(sign, nesting + 1, &mut steps),
+        };
         let operand = match self.random.below(5) {
-            0 => Operand::Constant(self.constant()),
-            _ => Operand::Path(self.path(nesting + 1, &mut steps)),
+            0 => Operand::Constant(self.constant(sign)),
+            _ => Operand::Path(self.compared_path(sign, nesting + 1, &mut steps)),
         };
         Test::Compare(first, sign, operand)
+    }
+
+    /// Before an order sign and behind it often one that leads to many nodes, so
+    /// that there is a numeral among them.
+    fn compared_path(&mut self, sign: Sign, nesting: usize, steps: &mut usize) -> Path {
+        let room = *steps >= 2 && nesting + 2 <= NESTING_LIMIT;
+        if !is_order(sign) || !room || !self.random.percent(60) {
+            return self.path(nesting, steps);
+        }
+        let [first, second] = [0, 1].map(|_| Box::new(self.plain_step(steps)));
+        Path::Repeat(Box::new(Path::Either(first, second)))
     }
 
     /// True in so many cases of a hundred. Nothing is drawn if it never is, so
@@ -192,9 +206,14 @@ impl<'a> Drawing<'a> {
         cases > 0 && self.random.percent(cases)
     }
 
-    /// One in three is padded.
-    fn constant(&mut self) -> Vec<u8> {
-        let text = self.bare_constant();
+    /// One in three is padded. Behind an order sign most are numerals.
+    fn constant(&mut self, sign: Sign) -> Vec<u8> {
+        let mut text = self.bare_constant();
+        for _ in 0..3 {
+            if is_order(sign) && amount(trimmed(&text)).is_none() {
+                text = self.bare_constant();
+            }
+        }
         match self.random.percent(33) {
             true => padded(self.random, &text, CONSTANT_LIMIT),
             false => text,
@@ -210,12 +229,15 @@ impl<'a> Drawing<'a> {
             }
             _ => {}
         }
-        if self.random.percent(70) {
-            return self.random.pick(&VALUES).as_bytes().to_vec();
+        match self.random.below(100) {
+            0..=69 => shared_value(self.random, 50),
+            70..=84 => numeral_or_nearly(self.random),
+            _ => {
+                let mut text = printable(self.random, CONSTANT_LIMIT);
+                text.retain(|byte| *byte != b'"');
+                text
+            }
         }
-        let mut text = printable(self.random, CONSTANT_LIMIT);
-        text.retain(|byte| *byte != b'"');
-        text
     }
 
     /// So many paths joined two and two, to come near the most steps.
@@ -285,8 +307,16 @@ impl<'a> Drawing<'a> {
     }
 }
 
-/// Short constants, constants of any length, and the longest.
+fn is_order(sign: Sign) -> bool {
+    !matches!(sign, Sign::Equal | Sign::Unequal)
+}
+
+/// What looks like a numeral, short constants, constants of any length, and the
+/// longest.
 fn any_constant(random: &mut Random) -> Vec<u8> {
+    if random.percent(30) {
+        return numeral_or_nearly(random);
+    }
     let length = match random.below(8) {
         0 => CONSTANT_LIMIT,
         1 | 2 => random.below(CONSTANT_LIMIT + 1),
@@ -307,9 +337,13 @@ fn nearly_label(random: &mut Random, mut label: Vec<u8>) -> Vec<u8> {
 }
 
 /// A value as a constant, cut to the longest that there may be. One in three
-/// is changed at its end, to one that lies just before or behind it.
+/// is changed at its end, and a numeral as often to one that is close to it or
+/// has its amount.
 fn nearly_value(random: &mut Random, mut value: Vec<u8>) -> Vec<u8> {
     value.truncate(CONSTANT_LIMIT);
+    if amount(trimmed(&value)).is_some() && random.percent(33) {
+        return nearly_numeral(random, trimmed(&value));
+    }
     match random.below(12) {
         0 if value.len() < CONSTANT_LIMIT => value.push(*random.pick(b" a~")),
         1 => {

@@ -33,7 +33,7 @@ pub fn text(depth: usize, value: impl Into<String>) -> Node {
     node(Kind::Text, depth, "text", value)
 }
 
-const VALUES: [&str; 7] = ["", "a", "ab", "b", "heparin", "5000", "~"];
+const VALUES: [&str; 7] = ["", "70", "ab", "-0.5", "heparin", "5000", "~"];
 
 /// The first so many nodes of a list, the root before all of them.
 fn grown(nodes: usize, behind: impl Iterator<Item = Node>) -> Library {
@@ -48,7 +48,7 @@ pub fn chain(nodes: usize) -> Library {
     let labels = ["lib", "drug", "name"];
     let mut library = grown(nodes, (1..).map(|depth| element(depth, labels[depth % 3])));
     if nodes > 1 {
-        library.nodes[nodes - 1] = text(nodes - 1, "v");
+        library.nodes[nodes - 1] = text(nodes - 1, "60");
     }
     library
 }

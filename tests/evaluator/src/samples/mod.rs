@@ -1,6 +1,7 @@
 //! Documents and shorthands for rules that the tests share, also those of
 //! other packages.
 
+pub mod amounts;
 pub mod attributes;
 pub mod blanks;
 pub mod counts;

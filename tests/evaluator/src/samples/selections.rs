@@ -1,8 +1,8 @@
 //! Fixed documents and rules with the nodes that must be marked: document 01's
-//! cases on X, where a reading of it slips, what each construct means, and
-//! blanks at the ends of values.
+//! cases on X, where a reading of it slips, what each construct means, blanks at
+//! the ends of values, and the order of amounts.
 
-use super::{blanks, document, X};
+use super::{amounts, blanks, document, X};
 
 pub struct SelectionCase {
     pub document: Vec<u8>,
@@ -15,7 +15,7 @@ pub struct SelectionCase {
 pub type Group = (&'static str, fn() -> Vec<SelectionCase>);
 
 /// All fixed cases.
-pub const GROUPS: [Group; 23] = [
+pub const GROUPS: [Group; 35] = [
     ("the ten cases on X mark what is written", cases_on_x),
     ("= and != both fail at node 3 of X", both_fail),
     ("= and != may both hold, or one, or neither", both_hold),
@@ -25,7 +25,7 @@ pub const GROUPS: [Group; 23] = [
     ("an element may be labelled text", labelled_text),
     ("l is the first child and r the next sibling", children),
     ("the signs quantify over reached nodes", quantified),
-    ("a prefix is smaller", prefixes),
+    ("no order sign holds of words", words),
     ("connectives mean what is written", connectives),
     ("every comparison of a rule is settled", several),
     ("blanks at the ends of a value are cut", blanks::at_the_ends),
@@ -42,6 +42,30 @@ pub const GROUPS: [Group; 23] = [
     ("joined texts are compared cut", blanks::drugs_compared),
     ("the longest values are cut", blanks::longest),
     ("X with padded names marks the same", blanks::on_padded_x),
+    ("limits are ordered as amounts", amounts::limits),
+    (
+        "the order signs quantify over reached numerals",
+        amounts::quantified,
+    ),
+    (
+        "an order sign and its opposite may both fail",
+        amounts::opposites,
+    ),
+    ("a numeral is what is written", amounts::forms),
+    ("the boundaries of numerals", amounts::boundaries),
+    (
+        "constants that are no numerals have no order",
+        amounts::other_constants,
+    ),
+    ("10 is more than 9", amounts::by_amount),
+    ("one amount in several spellings", amounts::spellings),
+    ("<= fails between equal words", amounts::equal_words),
+    ("numerals and words side by side", amounts::mixed_kinds),
+    (
+        "joined texts may be a numeral or none",
+        amounts::joined_texts,
+    ),
+    ("the longest values as numerals", amounts::longest),
 ];
 
 /// The session of document 01.
@@ -54,7 +78,7 @@ pub const CASES_ON_X: [(&str, &[usize]); 10] = [
     ("(e=e)", &[0, 1, 2, 3, 4]),
     ("(e!=e)", &[]),
     ("(l=\"heparin\")", &[1, 3]),
-    ("(e<\"a\")", &[0, 1, 3]),
+    ("(e<\"a\")", &[]),
     ("(*l=\"heparin\")", &[0, 1, 2, 3, 4]),
     ("(.R*R=\"\")", &[3]),
     ("(r=e)", &[1]),
@@ -134,11 +158,7 @@ fn upward() -> Vec<SelectionCase> {
 
 fn attributes_apart() -> Vec<SelectionCase> {
     let mut cases = on_x(&[("(e=\"heparin\")", &[2, 4]), ("(e=\"\")", &[0, 1, 3])]);
-    cases.extend(on_mixed(&[
-        ("(e=\"zz\")", &[2]),
-        ("(e>=\"zz\")", &[2]),
-        ("(e=l)", &[0, 4]),
-    ]));
+    cases.extend(on_mixed(&[("(e=\"zz\")", &[2]), ("(e=l)", &[0, 4])]));
     cases
 }
 
@@ -169,29 +189,38 @@ fn children() -> Vec<SelectionCase> {
 fn quantified() -> Vec<SelectionCase> {
     // From node 2 its right siblings have "a", "b" and "c".
     on_mixed(&[
-        ("(.r*r<\"b\")", &[1, 2]),
-        ("(.r*r>=\"c\")", &[2, 3, 4]),
-        ("(.r*r!=.r*r)", &[2, 3]),
-        ("(+er<=\"\")", &[1, 7]),
-        ("(.l[!:name]>e)", &[]),
+        ("(.r*r=\"b\")", &[2, 3]),
+        ("(.r*r=\"c\")", &[2, 3, 4]),
+        ("(+er=\"\")", &[1, 7]),
         // Some of 3, 4, 6 against some of 3, 4, 6.
-        ("(.r*r<.r*r)", &[2, 3]),
-        ("(.r*r<=.r*r)", &[1, 2, 3, 4]),
-        ("(r>e)", &[3, 4]),
-        ("(r>=e)", &[3, 4]),
-        ("(e>r)", &[1, 2]),
+        ("(.r*r!=.r*r)", &[2, 3]),
+        ("(.r*r=.r*r)", &[1, 2, 3, 4]),
+        ("(r!=e)", &[1, 2, 3, 4]),
+        ("(.l[!:name]!=e)", &[]),
+        ("(.l[!:name]=e)", &[0, 4]),
     ])
 }
 
-fn prefixes() -> Vec<SelectionCase> {
-    on_mixed(&[
-        ("(e<\"abc\")", &[3, 7]),
-        ("(e<=\"abc\")", &[0, 1, 3, 7]),
-        ("(e>\"ab\")", &[0, 1, 2, 4, 5, 6]),
-        ("(e>=\"abcd\")", &[2, 4, 5, 6]),
-        ("(e>\"\")", &[0, 1, 2, 3, 4, 5, 6]),
-        ("(.*r[:text]<.Le)", &[1, 2]),
-    ])
+fn words() -> Vec<SelectionCase> {
+    let mut cases = on_mixed(&[
+        ("(e<\"abc\")", &[]),
+        ("(e<=\"abc\")", &[]),
+        ("(e>\"ab\")", &[]),
+        ("(e>=\"abcd\")", &[]),
+        ("(e>\"\")", &[]),
+        ("(e<=e)", &[]),
+        ("(.r*r<=.r*r)", &[]),
+        ("!(e>=e)", &[0, 1, 2, 3, 4, 5, 6, 7]),
+    ]);
+    cases.extend(on_x(&[
+        ("(e<\"a\")", &[]),
+        ("(e<=\"\")", &[]),
+        ("(e>=e)", &[]),
+        ("(e<=e)", &[]),
+        ("(l>=\"heparin\")", &[]),
+        ("!(e<\"a\")", &[0, 1, 2, 3, 4]),
+    ]));
+    cases
 }
 
 fn connectives() -> Vec<SelectionCase> {
@@ -211,7 +240,7 @@ fn several() -> Vec<SelectionCase> {
         // Inside brackets, and behind the comparison around them.
         ("([(l=\"zz\")]=\"abc\")", &[1]),
         ("(e=[(e=\"c\")])", &[6]),
-        ("(.r*r!=.*r[(.L[(l=\"zz\")]<e)])", &[2]),
+        ("(.r*r!=.*r[(.L[(l=\"zz\")]!=e)])", &[2]),
         ("(*l=*.l[(r=\"a\")])", &[0, 1, 2, 3, 4, 5, 6, 7]),
         ("&([(l=e)]=e)!(L=e)", &[0, 4]),
     ])

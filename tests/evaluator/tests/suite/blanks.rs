@@ -123,7 +123,7 @@ fn spellings(text: &str) -> [String; 4] {
 
 #[test]
 fn every_sign_compares_cut_values_with_cut_constants() {
-    let texts = ["", "a", "ab", "a b", "a  b", "!"];
+    let texts = ["", "a", "ab", "a b", "a  b", "!", "9", "10", "-0.5"];
     let pairs = texts.iter().flat_map(|a| texts.map(|b| (*a, b)));
     for (value, constant) in pairs {
         for (front, spelled) in spellings(value).iter().enumerate() {
@@ -135,7 +135,7 @@ fn every_sign_compares_cut_values_with_cut_constants() {
                 let shown = String::from_utf8_lossy(sign.spell()).into_owned();
                 let rule = format!("(e{shown}\"{constant_as}\")");
                 let test = reader::read(rule.as_bytes());
-                let due = compare(sign, value, constant);
+                let due = compare(sign, value.as_bytes(), constant.as_bytes());
                 for holds in [meaning::holds, backward::holds] {
                     assert_eq!(holds(&tree, &test)[1], due, "{spelled:?}: {rule}");
                 }
@@ -202,14 +202,22 @@ fn blanks_that_are_cut_change_no_mark_and_no_count() {
 
 #[test]
 fn what_would_hold_uncut_is_told_apart() {
-    let rows = [('e', 0, "lib", ""), ('a', 1, "n", "a"), ('a', 1, "m", " a")];
+    let rows = [
+        ('e', 0, "lib", ""),
+        ('a', 1, "n", "9"),
+        ('a', 1, "m", " 9"),
+        ('a', 1, "k", "10"),
+    ];
     let library = document::read(&document(&rows)).expect("a legal document");
     for (rule, marks, counts) in [
         ("(e=r)", true, true),
-        ("(e<r)", false, false),
-        ("(e>r)", true, false),
-        ("(e=\"a\")", true, false),
-        ("(l=\"a \")", true, false),
+        // With its blank the second is no numeral.
+        ("(e<r)", true, false),
+        ("(e>=r)", true, false),
+        ("(e>r)", false, false),
+        ("(e=\"9\")", true, false),
+        ("(l=\"9 \")", true, false),
+        ("(e>\"9\")", false, false),
         ("(e<\"b\")", false, false),
         (":n", false, false),
     ] {

@@ -1,7 +1,8 @@
-//! What document 01 and the requests (b) and (d) of document 02 say, tried on
-//! this evaluator: the examples, every row of the table of refusals, and the
+//! What document 01 and the requests (b), (d) and (f) of document 02 say, tried
+//! on this evaluator: the examples, every row of the table of refusals, and the
 //! promises on random documents and rules.
 
+mod amounts;
 mod blanks;
 mod calls;
 mod document_refusals;

@@ -1,9 +1,7 @@
-//! What rules mark, and the order of values.
+//! What rules mark.
 
 use crate::samples::run;
-use evaluator::meaning::compare;
 use evaluator::random::{branching_library, library, rule, rule_about, Random};
-use evaluator::rule::Sign;
 use evaluator::samples::selections::GROUPS;
 use evaluator::tree::Tree;
 use evaluator::{backward, meaning, reader};
@@ -77,20 +75,4 @@ fn backward_goes_as_far_as_a_library_does() {
     assert_eq!(holding("(.*l[:text]=\"v\")"), 4_096);
     assert_eq!(holding("(.l.l.l*l=\"v\")"), 4_093);
     assert_eq!(holding("(.*L[!(L=e)]=.*l[:text])"), 4_096);
-}
-
-#[test]
-fn strings_compare_by_bytes_with_a_prefix_smaller() {
-    let rising = ["", " ", "0", "10", "9", "A", "Z", "a", "aa", "ab", "b", "~"];
-    for (i, a) in rising.iter().enumerate() {
-        for (j, b) in rising.iter().enumerate() {
-            let holds = |sign| compare(sign, a.as_bytes(), b.as_bytes());
-            assert_eq!(holds(Sign::Equal), i == j);
-            assert_eq!(holds(Sign::Unequal), i != j);
-            assert_eq!(holds(Sign::Less), i < j);
-            assert_eq!(holds(Sign::LessOrEqual), i <= j);
-            assert_eq!(holds(Sign::Greater), i > j);
-            assert_eq!(holds(Sign::GreaterOrEqual), i >= j);
-        }
-    }
 }

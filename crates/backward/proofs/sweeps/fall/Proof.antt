@@ -13,7 +13,7 @@ abbrev μ-loop : tie.MeasureT-loop
 μ-loop p₀ n m len₀ r₀ p len r = r
 
 loop-holds : tie.Need-loop-holds Inv-loop μ-loop
-loop-holds c = let x = c .before .pre in (omega arith, falling-none (x .3) (x .0) (x .1))
+loop-holds c = let x = c .before .pre in (omega arith, falling-none (x .0) (x .1))
 
 sub-seed-rank : tie.Need-sub-seed-rank Inv-loop μ-loop
 sub-seed-rank c = let l = c .before .loop-test .taken in omega arith
@@ -21,7 +21,7 @@ sub-seed-rank c = let l = c .before .loop-test .taken in omega arith
 seed-rank-requires : tie.Need-seed-rank-requires Inv-loop μ-loop
 seed-rank-requires c κs =
     let b = c .before .before .loop .inv in let s = b .1 in let i = b .0 in let x = c .before .before .before .before .pre in let few = s .added .work .space .few in let l = c .before .loop-test .taken in
-    (s .added .work, s .linked, s .closed, spared-buckets ABOVE (omega arith) (s .added .spared) (x .2), omega arith, x .4, (omega arith, omega arith), omega arith)
+    (s .added .work, s .linked, s .closed, spared-buckets ABOVE (omega arith) (s .added .spared) (x .2), omega arith, x .3, (omega arith, omega arith), omega arith)
 
 sub-r : tie.Need-sub-r Inv-loop μ-loop
 sub-r c = let l = c .before .before .before .before .loop-test .taken in omega arith
@@ -32,7 +32,7 @@ loop-less c = let l = c .before .before .before .before .loop-test .taken in ome
 loop-again : tie.Need-loop-again Inv-loop μ-loop
 loop-again c =
     let b = c .before .before .before .before .before in let i = b .loop .inv .0 in let x = b .before .before .pre in let l = c .before .before .before .before .loop-test .taken in
-    (omega arith, falling-step (x .4) (x .0 .work) (b .loop .inv .1) (omega arith) (c .before .before .seed-rank .ensures))
+    (omega arith, falling-step (x .3) (x .0 .work) (b .loop .inv .1) (omega arith) i (c .before .before .seed-rank .ensures))
 
 same-length : tie.Need-same-length Inv-loop μ-loop
 same-length c = c .before .loop .inv .1 .added .spared .same .long

@@ -12,8 +12,8 @@ blank-requires c κs = search needs
 rise-requires : tie.Need-rise-requires
 rise-requires c κs =
     let a = c .before .before .before in let x = a .before .before .before .pre in let b = a .blank .ensures in
-    let r = spared-ready LEAST (omega arith) (b .spared) (x .1, x .2, x .3) in
-    (b .made, r .0, r .1, r .2, x .4)
+    let r = spared-ready LEAST (omega arith) (b .spared) (x .1, x .2) in
+    (b .made, r .0, r .1, x .3)
 
 blank-requires-2 : tie.Need-blank-requires-2
 blank-requires-2 c κs = search needs
@@ -21,8 +21,8 @@ blank-requires-2 c κs = search needs
 fall-requires : tie.Need-fall-requires
 fall-requires c κs =
     let d = c .before .before .before in let b = d .before .before .before .before in let a = b .before .before .before .before in let x = a .before .before .before .pre in
-    let r = ready-again (a .blank .ensures) (b .rise .ensures) (d .blank2 .ensures) (x .1, x .2, x .3) in
-    (d .blank2 .ensures .made, r .0, r .1, r .2, x .4)
+    let r = ready-again (a .blank .ensures) (b .rise .ensures) (d .blank2 .ensures) (x .1, x .2) in
+    (d .blank2 .ensures .made, r .0, r .1, x .3)
 
 same-length : tie.Need-same-length
 same-length c = search needs

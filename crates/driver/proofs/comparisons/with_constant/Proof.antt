@@ -54,17 +54,17 @@ sub-compare-constant c = let r = scratch-room (c .before .before .before .before
 part-compare-constant-start : tie.Need-part-compare-constant-start
 part-compare-constant-start c =
     let x = c .before .before .before .before .before .before .before .before .before .before .before .before .before .before .before .before .before .before .pre in let h = x .2 in let r = h .task .scene .room in let e = c .needed .ensures in let p = c .before .before .before .before .before .before .before .before .before .before .before .draw .ensures in let q = c .before .before .before .before .before .before .before .draw-tests .ensures in
-    let j = (c .before .before .before .draw-hits .ensures (x .0) (h .sign) (h .task .scene .library) (drawn-scene (h .task) p q .ranked) (h .told)) .within .long in let l = q .within .long in let m = p .within .long in let f = few-nodes (h .task) in let g = scratch-room (c .before .before .before .before .before .before .before .before .before .before .before .before .before .before .before .before .before .before .args .n) (some-nodes (h .task)) in omega arith
+    let j = (c .before .before .before .draw-hits .ensures (x .0) (h .sign) (h .task .scene .library) (drawn-scene (h .task) p q .ranked) (drawn-scene (h .task) p q .weighed) (h .told)) .within .long in let l = q .within .long in let m = p .within .long in let f = few-nodes (h .task) in let g = scratch-room (c .before .before .before .before .before .before .before .before .before .before .before .before .before .before .before .before .before .before .args .n) (some-nodes (h .task)) in omega arith
 
 part-compare-constant-end : tie.Need-part-compare-constant-end
 part-compare-constant-end c =
     let x = c .before .before .before .before .before .before .before .before .before .before .before .before .before .before .before .before .before .before .pre in let h = x .2 in let r = h .task .scene .room in let e = c .needed .ensures in let p = c .before .before .before .before .before .before .before .before .before .before .before .draw .ensures in let q = c .before .before .before .before .before .before .before .draw-tests .ensures in
-    let j = (c .before .before .before .draw-hits .ensures (x .0) (h .sign) (h .task .scene .library) (drawn-scene (h .task) p q .ranked) (h .told)) .within .long in let l = q .within .long in let m = p .within .long in let f = few-nodes (h .task) in let g = scratch-room (c .before .before .before .before .before .before .before .before .before .before .before .before .before .before .before .before .before .before .args .n) (some-nodes (h .task)) in omega arith
+    let j = (c .before .before .before .draw-hits .ensures (x .0) (h .sign) (h .task .scene .library) (drawn-scene (h .task) p q .ranked) (drawn-scene (h .task) p q .weighed) (h .told)) .within .long in let l = q .within .long in let m = p .within .long in let f = few-nodes (h .task) in let g = scratch-room (c .before .before .before .before .before .before .before .before .before .before .before .before .before .before .before .before .before .before .args .n) (some-nodes (h .task)) in omega arith
 
 compare-constant-requires : tie.Need-compare-constant-requires
 compare-constant-requires c κs =
     let x = c .before .before .before .before .before .before .before .before .before .before .before .before .before .before .before .before .before .before .before .pre in let h = x .2 in let p = c .before .before .before .before .before .before .before .before .before .before .before .before .draw .ensures in let q = c .before .before .before .before .before .before .before .before .draw-tests .ensures in
-    constant-asked h (c .before .before .before .before .before .before .before .before .before .before .before .before .before .before .before .machine-of-one .ensures) (c .before .before .before .before .before .before .before .before .before .before .before .before .before .before .bracket-tests-of-one .ensures) p q (c .before .before .before .before .draw-hits .ensures (x .0) (h .sign) (h .task .scene .library) (drawn-scene (h .task) p q .ranked) (h .told)) (c .before .needed .ensures)
+    constant-asked h (c .before .before .before .before .before .before .before .before .before .before .before .before .before .before .before .machine-of-one .ensures) (c .before .before .before .before .before .before .before .before .before .before .before .before .before .before .bracket-tests-of-one .ensures) p q (c .before .before .before .before .draw-hits .ensures (x .0) (h .sign) (h .task .scene .library) (drawn-scene (h .task) p q .ranked) (drawn-scene (h .task) p q .weighed) (h .told)) (c .before .needed .ensures)
 
 -- ── What is returned ──
 same-length : tie.Need-same-length
@@ -73,7 +73,7 @@ same-length c = search needs
 returns : tie.Need-returns
 returns c ns T h =
     let p = c .before .before .before .before .before .before .before .before .before .before .before .before .before .before .before .draw .ensures in let q = c .before .before .before .before .before .before .before .before .before .before .before .draw-tests .ensures in
-    constant-compared h (c .before .before .before .before .before .before .before .before .before .before .before .before .before .before .before .before .before .before .machine-of-one .ensures) (c .before .before .before .before .before .before .before .before .before .before .before .before .before .before .before .before .before .bracket-tests-of-one .ensures) p q (c .before .before .before .before .before .before .before .draw-hits .ensures ns (h .sign) (h .task .scene .library) (drawn-scene (h .task) p q .ranked) (h .told)) (c .before .before .before .before .needed .ensures) (c .before .before .compare-constant .ensures)
+    constant-compared h (c .before .before .before .before .before .before .before .before .before .before .before .before .before .before .before .before .before .before .machine-of-one .ensures) (c .before .before .before .before .before .before .before .before .before .before .before .before .before .before .before .before .before .bracket-tests-of-one .ensures) p q (c .before .before .before .before .before .before .before .draw-hits .ensures ns (h .sign) (h .task .scene .library) (drawn-scene (h .task) p q .ranked) (drawn-scene (h .task) p q .weighed) (h .told)) (c .before .before .before .before .needed .ensures) (c .before .before .compare-constant .ensures)
 
 pub with-constant-spec : {M : Type 1} → statement M
 with-constant-spec =

@@ -1,14 +1,14 @@
 -- `group_marks::marks::mark_group` meets its contract.
-use Prim.Native.Nat.{_-_}
-use mathlib.Core.Path.{_≡_, _∙_}
+use Prim.Native.Nat.{suc, _-_}
+use mathlib.Core.Path.{_∙_}
 use native.Mathlib.Omega.{arith}
 use Rattle.layout.specs.Groups.{NEXT}
-use Rattle.layout.specs.Words.{word}
 use Rattle.layout.proofs.Frames.{within-then, before-within, room-within}
-use Rattle.buckets.specs.Buckets.{Buckets}
+use Rattle.table.specs.Links.{Points}
+use Rattle.buckets.specs.Buckets.{Least}
 use Rattle.machine.proofs.Shape.{shape-within}
 use Rattle.buckets.proofs.Least.{buckets-within, next-behind}
-use Rattle.group_marks.proofs.Grouping.{Grouping, grouping-none, grouping-step, grouping-all}
+use Rattle.group_marks.proofs.Grouping.{Grouping, grouping-none, grouping-next, grouping-step, grouping-all}
 use Rattle.group_marks.proofs.marks.mark_group.Statement.{statement}
 use Rattle.group_marks.proofs.marks.mark_group.Tie as tie
 
@@ -39,19 +39,18 @@ get-requires-2 c κs =
     let w = within-then (c .before .before .before .before .before .before .before .before .before .before .before .fill .ensures .within) (within-then (c .before .before .before .before .before .before .loop .inv .within) (c .before .before .before .mark-member .ensures .raised .within)) in
     (omega arith, c .before .before .before .before .before .loop-test .taken, room-within w (c .before .before .before .before .before .before .before .before .before .before .before .before .before .before .pre .1))
 
--- the buckets were written before
-filed : (c : tie.After-get2 Inv-loop μ-loop) → Buckets (c .before .before .before .before .before .before .before .before .before .before .before .before .before .before .before .args .n) (c .before .before .before .before .before .before .before .before .before .before .before .before .fill .last .0)
-filed c = buckets-within (omega arith) (c .before .before .before .before .before .before .before .before .before .before .before .before .fill .ensures .within) (c .before .before .before .before .before .before .before .before .before .before .before .before .before .before .before .pre .2)
-
-next : (c : tie.After-get2 Inv-loop μ-loop) → c .get2 .result ≡ word (c .before .before .before .before .before .before .before .before .before .before .before .before .fill .last .0) (c .before .before .before .before .before .before .before .before .before .before .before .before .before .before .before .args .n) NEXT (c .before .before .before .before .before .before .before .loop .w)
+-- the next node of the bucket, as it was written before
+next : (c : tie.After-get2 Inv-loop μ-loop) → Points (Least (c .before .before .before .before .before .before .before .before .before .before .before .before .before .before .before .args .n) (c .before .before .before .before .before .before .before .before .before .before .before .before .fill .last .0) (suc (c .before .before .before .before .before .before .before .loop .w)) (c .before .before .before .before .before .before .before .before .before .before .before .before .before .before .before .args .r)) (c .get2 .result)
 next c =
-    c .get2 .ensures .0 ∙ before-within (within-then (c .before .before .before .before .before .before .before .loop .inv .within) (c .before .before .before .before .mark-member .ensures .raised .within)) NEXT (c .before .before .before .before .before .before .before .loop .w) (omega arith) (c .before .before .before .before .before .before .loop-test .taken)
+    let j = c .before .before .before .before in let t = j .before .before in let b = t .before in let f = b .before .before .before .before .before in let x = f .before .before .before .pre in
+    grouping-next (x .0 .1 .few) (x .3) (buckets-within (omega arith) (f .fill .ensures .within) (x .2)) (b .loop .inv) (t .loop-test .taken)
+    (c .get2 .ensures .0 ∙ before-within (within-then (b .loop .inv .within) (j .mark-member .ensures .raised .within)) NEXT (b .loop .w) (omega arith) (t .loop-test .taken))
 
 loop-less : tie.Need-loop-less Inv-loop μ-loop
-loop-less c = next-behind (c .before .before .before .before .before .before .before .before .before .before .before .before .before .before .before .pre .0 .1 .few) (c .before .before .before .before .before .before .loop-test .taken) (filed c) (next c)
+loop-less c = next-behind (c .before .before .before .before .before .before .before .before .before .before .before .before .before .before .before .pre .0 .1 .few) (c .before .before .before .before .before .before .loop-test .taken) (next c)
 
 loop-again : tie.Need-loop-again Inv-loop μ-loop
-loop-again c = grouping-step (c .before .before .before .before .before .before .before .before .before .before .before .before .before .before .before .pre .0 .1 .few) (filed c) (c .before .before .before .before .before .before .before .loop .inv) (c .before .before .before .before .before .before .loop-test .taken) (c .before .before .before .before .mark-member .ensures) (next c)
+loop-again c = grouping-step (c .before .before .before .before .before .before .before .before .before .before .before .before .before .before .before .pre .0 .1 .few) (c .before .before .before .before .before .before .before .loop .inv) (c .before .before .before .before .before .before .loop-test .taken) (c .before .before .before .before .mark-member .ensures) (next c)
 
 same-length : tie.Need-same-length Inv-loop μ-loop
 same-length c = c .before .loop .inv .within .long ∙ c .before .before .before .before .before .before .fill .ensures .within .long

@@ -6,7 +6,6 @@ use mathlib.Core.Bool.{true}
 use native.Mathlib.Omega.{arith}
 use Rattle.rank_sets.specs.Ranges.{Across}
 use Rattle.rank_sets.proofs.Telling.{tells-no}
-use Rattle.rank_sets.proofs.Steady.{held-small}
 use Rattle.rank_sets.proofs.Ranged.{ranged-fits}
 use Rattle.plain.proofs.Steady.{steady-reached}
 use Rattle.plain.proofs.Compared.{none-told, ordered-steady, ordered-told}
@@ -26,7 +25,7 @@ same-length c = search needs
 returns : tie.Need-returns
 returns c =
     let f = c .before .before .before .before .before .before .reach .ensures in
-    (steady-reached f, λ q d e. tells-no (none-told (omega arith) (c .before .before .before .before .before .before .before .before .before .pre .3) f (c .before .before .rank-range .ensures) (c .if1 .taken) q))
+    (steady-reached f, λ q d e. tells-no (none-told (omega arith) (c .before .before .before .before .before .before .before .before .before .pre .2) f (c .before .before .rank-range .ensures) (c .if1 .taken) q))
 
 reach-requires-2 : tie.Need-reach-requires-2
 reach-requires-2 c κs = search needs
@@ -36,8 +35,8 @@ rank-range-requires-2 c κs = search needs
 
 ordered-requires : tie.Need-ordered-requires
 ordered-requires c κs =
-    let x = c .before .before .before .before .before .before .before .before .before .before .before .before .before .before .before .pre in let f = c .before .before .before .before .before .before .before .before .before .before .before .before .reach .ensures in let s = c .before .before .before .before .reach2 .ensures in
-    (ranged-fits (x .0 .few) (held-small (steady-reached f .held) (x .1)) (c .before .before .before .before .before .before .before .before .rank-range .ensures), ranged-fits (x .0 .few) (held-small (ordered-steady f s .held) (x .1)) (c .rank-range2 .ensures))
+    let x = c .before .before .before .before .before .before .before .before .before .before .before .before .before .before .before .pre in
+    (ranged-fits (x .0 .few) (c .before .before .before .before .before .before .before .before .rank-range .ensures), ranged-fits (x .0 .few) (c .rank-range2 .ensures))
 
 same-length-2 : tie.Need-same-length-2
 same-length-2 c = search needs
@@ -48,7 +47,7 @@ returns-2 c =
     let f = c .before .before .before .before .before .before .before .before .before .before .before .before .before .reach .ensures in let s = c .before .before .before .before .before .reach2 .ensures in
     let a = c .before .before .before .before .before .before .before .before .before .rank-range in let b = c .before .rank-range2 in (
       ordered-steady f s,
-      λ q d e. Iff·trans (subst (λ o. (c .ordered .result ≡ true) ↔ Across o (a .result) (b .result)) e (c .ordered .ensures)) (ordered-told fits (x .pre .3) f (a .ensures) s (b .ensures) (x .pre .0) (x .pre .1) q d),
+      λ q d e. Iff·trans (subst (λ o. (c .ordered .result ≡ true) ↔ Across o (a .result) (b .result)) e (c .ordered .ensures)) (ordered-told fits (x .pre .2) f (a .ensures) s (b .ensures) (x .pre .0) q d),
     )
 
 pub ordered-at-spec : {M : Type 1} → statement M

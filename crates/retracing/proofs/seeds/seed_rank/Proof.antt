@@ -28,13 +28,13 @@ get-requires-2 c κs = let r = c .before .before .before .seed .ensures .added .
 loop-less : tie.Need-loop-less Inv-loop μ-loop
 loop-less c =
     let s = c .before .before .before .before in let t = s .before .before in let b = t .before in let x = b .before .before .before .before .pre in
-    let l = t .loop-test .taken in let k = seeding-on (x .5) (x .6) (x .3) (b .loop .inv) l (s .seed .ensures) (c .get2 .ensures .0) in
+    let l = t .loop-test .taken in let k = seeding-on (x .5) (x .6) (x .3) (x .4) (b .loop .inv) l (s .seed .ensures) (c .get2 .ensures .0) in
     omega arith
 
 loop-again : tie.Need-loop-again Inv-loop μ-loop
 loop-again c =
     let s = c .before .before .before .before in let t = s .before .before in let b = t .before in let x = b .before .before .before .before .pre in
-    seeding-step (x .5) (x .6) (x .3) (b .loop .inv) (t .loop-test .taken) (s .seed .ensures) (c .get2 .ensures .0)
+    seeding-step (x .5) (x .6) (x .3) (x .4) (b .loop .inv) (t .loop-test .taken) (s .seed .ensures) (c .get2 .ensures .0)
 
 same-length : tie.Need-same-length Inv-loop μ-loop
 same-length c = c .before .loop .inv .seeded .added .spared .same .long

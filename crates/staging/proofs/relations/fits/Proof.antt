@@ -1,7 +1,10 @@
 -- `staging::relations::fits` meets its contract.
+use mathlib.Core.Path.{_≡_}
+use mathlib.Core.Logic.{_↔_}
+use mathlib.Core.Bool.{true, not}
 use Rattle.xpath.specs.Syntax.{eq, ne, lt, le, gt, ge}
-use Rattle.xpath.proofs.Decide.{trans}
-use Rattle.staging.proofs.Operators.{told-not, not-greater, not-smaller, told-by}
+use Rattle.staging.specs.Signs.{Stands}
+use Rattle.staging.proofs.Signs.{told-not, said-by}
 use borrow.Author.Needs.{needs}
 use Rattle.staging.proofs.relations.fits.Statement.{statement}
 use Rattle.staging.proofs.relations.fits.Tie as tie
@@ -45,22 +48,22 @@ is-less-requires-2 c κs = search needs
 
 -- ── What is returned for each operator ──
 returns : tie.Need-returns
-returns c = λ bs cs q h e. told-by eq q bs cs (c .before .enum-told .given .1) e (c .is-same .ensures bs cs h)
+returns c = λ q e. said-by (λ x. (c .is-same .result ≡ true) ↔ Stands x (c .before .before .before .args .c)) eq q (c .before .enum-told .given .1) e (c .is-same .ensures)
 
 returns-2 : tie.Need-returns-2
-returns-2 c = λ bs cs q h e. told-by ne q bs cs (c .before .enum-told2 .given .1) e (told-not (c .is-same2 .result) (c .is-same2 .ensures bs cs h))
+returns-2 c = λ q e. said-by (λ x. (not (c .is-same2 .result) ≡ true) ↔ Stands x (c .before .before .before .args .c)) ne q (c .before .enum-told2 .given .1) e (told-not (c .is-same2 .result) (c .is-same2 .ensures))
 
 returns-3 : tie.Need-returns-3
-returns-3 c = λ bs cs q h e. told-by lt q bs cs (c .before .enum-told3 .given .1) e (c .is-less .ensures bs cs h)
+returns-3 c = λ q e. said-by (λ x. (c .is-less .result ≡ true) ↔ Stands x (c .before .before .before .args .c)) lt q (c .before .enum-told3 .given .1) e (c .is-less .ensures)
 
 returns-4 : tie.Need-returns-4
-returns-4 c = λ bs cs q h e. told-by le q bs cs (c .before .enum-told4 .given .1) e (trans (told-not (c .is-greater .result) (c .is-greater .ensures bs cs h)) (not-greater bs cs))
+returns-4 c = λ q e. said-by (λ x. (not (c .is-greater .result) ≡ true) ↔ Stands x (c .before .before .before .args .c)) le q (c .before .enum-told4 .given .1) e (told-not (c .is-greater .result) (c .is-greater .ensures))
 
 returns-5 : tie.Need-returns-5
-returns-5 c = λ bs cs q h e. told-by gt q bs cs (c .before .enum-told5 .given .1) e (c .is-greater2 .ensures bs cs h)
+returns-5 c = λ q e. said-by (λ x. (c .is-greater2 .result ≡ true) ↔ Stands x (c .before .before .before .args .c)) gt q (c .before .enum-told5 .given .1) e (c .is-greater2 .ensures)
 
 returns-6 : tie.Need-returns-6
-returns-6 c = λ bs cs q h e. told-by ge q bs cs (c .before .enum-told6 .given .1) e (trans (told-not (c .is-less2 .result) (c .is-less2 .ensures bs cs h)) (not-smaller bs cs))
+returns-6 c = λ q e. said-by (λ x. (not (c .is-less2 .result) ≡ true) ↔ Stands x (c .before .before .before .args .c)) ge q (c .before .enum-told6 .given .1) e (told-not (c .is-less2 .result) (c .is-less2 .ensures))
 
 pub fits-spec : {M : Type 1} → statement M
 fits-spec =

@@ -10,7 +10,7 @@ mod yields;
 use std::cell::Cell;
 
 use super::automaton::Automaton;
-use super::library::Library;
+use super::library::{Library, NONE};
 use super::{in_relation, mark, Answer, Comparing, Range};
 use evaluator::rule::Sign;
 use retrace::Retrace;
@@ -56,11 +56,13 @@ impl Comparing for Snippets {
 
 /// By the least and the greatest rank that each path comes to.
 fn ordered(library: &Library, automaton: &Automaton, sign: Sign) -> Vec<bool> {
-    let mut nodes: Vec<usize> = (0..library.size()).collect();
-    nodes.sort_by_key(|node| library.ranks[*node]);
-    let low = first_ranks(library, automaton, &nodes);
-    nodes.reverse();
-    let high = first_ranks(library, automaton, &nodes);
+    let column = library.ranks_for(sign);
+    let mut ends: Vec<(u16, usize)> = column.iter().copied().zip(0..).collect();
+    ends.retain(|(rank, _)| *rank != NONE);
+    ends.sort_unstable();
+    let low = first_ranks(library, automaton, &ends);
+    ends.reverse();
+    let high = first_ranks(library, automaton, &ends);
     let range = |v: usize, start: usize| -> Option<Range> { low[v][start].zip(high[v][start]) };
     (0..library.size())
         .map(|v| in_relation(sign, range(v, 0), range(v, 1)))
@@ -69,14 +71,18 @@ fn ordered(library: &Library, automaton: &Automaton, sign: Sign) -> Vec<bool> {
 
 /// For each node and for both paths the rank of the first of the given nodes
 /// that the path leads to.
-fn first_ranks(library: &Library, automaton: &Automaton, nodes: &[usize]) -> Vec<[Option<u16>; 2]> {
+fn first_ranks(
+    library: &Library,
+    automaton: &Automaton,
+    ends: &[(u16, usize)],
+) -> Vec<[Option<u16>; 2]> {
     let mut ranks = vec![[None; 2]; library.size()];
     let mut retrace = Retrace::new(library, automaton);
-    for &w in nodes {
+    for &(end_rank, w) in ends {
         retrace.end(w, |v, new| {
             for (start, rank) in [0, automaton.second].into_iter().zip(&mut ranks[v]) {
                 if new >> start & 1 == 1 {
-                    *rank = Some(library.ranks[w]);
+                    *rank = Some(end_rank);
                 }
             }
         });
