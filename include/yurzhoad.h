@@ -49,6 +49,10 @@
  * 1.50, and between -0 and 0, though = does not. Where a value or a constant is
  * no numeral, all four fail, <= between two equal texts too.
  *
+ * A count, #nP with n from 0 to YURZHOAD_MAX_COUNT in base ten without leading
+ * zeros, holds at a node from which the path P reaches at least n different
+ * nodes; one that is reached in two ways counts once. #0P holds everywhere.
+ *
  * WHAT A CALL ASKS OF ITS BUFFERS
  *
  * A buffer is a pointer and a length. The length counts bytes, and words of
@@ -148,11 +152,17 @@ extern "C" {
 /* The nesting of a part of a rule. The whole rule has nesting 1. */
 #define YURZHOAD_MAX_NESTING 32
 
-/* The steps of a comparison, those of both paths together. */
+/* The steps of a comparison, those of both paths together, and of a count. */
 #define YURZHOAD_MAX_STEPS 14
 
 /* The bytes of a constant in a rule. */
 #define YURZHOAD_MAX_CONSTANT 32
+
+/*
+ * The number that a count in a rule may ask for. A rule with a greater one does
+ * not read: YURZHOAD_UNREADABLE.
+ */
+#define YURZHOAD_MAX_COUNT 4096
 
 /*
  * The digits of a numeral, before its point and behind it. What has more is not
@@ -214,8 +224,9 @@ extern "C" {
 #define YURZHOAD_TESTS 8
 
 /*
- * A comparison has more than YURZHOAD_MAX_STEPS steps. Place: the offset of
- * the opening bracket of the first such comparison.
+ * A comparison or a count has more than YURZHOAD_MAX_STEPS steps. Place: the
+ * offset of the first byte of the first such test, which is the opening bracket
+ * of a comparison and the # of a count.
  */
 #define YURZHOAD_STEPS 9
 
@@ -263,7 +274,7 @@ static inline const char *yurzhoad_words(uint16_t number)
     case YURZHOAD_UNREADABLE: return "rule does not read";
     case YURZHOAD_NESTING: return "rule nested too deep";
     case YURZHOAD_TESTS: return "too many tests in the rule";
-    case YURZHOAD_STEPS: return "too many steps in a comparison";
+    case YURZHOAD_STEPS: return "too many steps in a comparison or a count";
     case YURZHOAD_SCRATCH_LENGTH: return "scratch too short";
     case YURZHOAD_MARKS_LENGTH: return "too few marks";
     case YURZHOAD_DUPLICATE_ATTRIBUTE: return "duplicate attribute";
@@ -387,6 +398,8 @@ yurzhoad_rule_answer yurzhoad_check_rule(const uint8_t *rule, size_t rule_length
  *   at worst S * N * B bytes, for values that agree over long stretches;
  * - each test of a name: S; each !, & and |: N + R;
  * - each comparison: up to N * N * 16;
+ * - each count of two nodes or more: up to N * N * 16, less where they are soon
+ *   found; each count of one node: N * 256; each other count: N;
  * - the scratch set to 0: N * (64 * B + 128) words.
  */
 YURZHOAD_EVALUATES
@@ -403,7 +416,7 @@ yurzhoad_evaluation yurzhoad_evaluate_plain(
  * The count is that of docs/FORMAT.md, section 7. It is at most 128 * N * B
  * for each equality of two paths in the rule.
  *
- * Cost: as above, but for the comparisons:
+ * Cost: as above, that of counts too, but for the comparisons:
  *
  * - each equality of two paths: N * B * 256, and at most 4 * N for each value
  *   that two nodes or more have;

@@ -1,8 +1,8 @@
 /*
  * The archive through include/yurzhoad.h: records, the ten cases M on document X, blanks at the ends of
- * values, the order of amounts, a refusal of each number, lengths of the buffers, misuse, and a document
- * of the most nodes. It compiles as C99 and as C++11. Prints each check that failed with its line, and at the end how many were
- * made.
+ * values, the order of amounts, counts of nodes, a refusal of each number, lengths of the buffers, misuse,
+ * and a document of the most nodes. It compiles as C99 and as C++11. Prints each check that failed with its
+ * line, and at the end how many were made.
  */
 #include "yurzhoad.h"
 #include <stdio.h>
@@ -381,6 +381,36 @@ static void test_limits(void)
     }
 }
 
+/* ---- counts of nodes, on document X ---- */
+
+static const selection counts[] = {
+    {"#0l", "11111", 0},
+    {"#1l", "11010", 0},
+    {"!#1l", "00101", 0},
+    {"#2+lr", "01000", 0},
+    /* A node that is reached in two ways counts once. */
+    {"#2+ll", "00000", 0},
+    {"#2.+lr+LR", "00000", 0},
+    /* Nodes directly inside, and all nodes from each. */
+    {"#1.l*r", "11010", 0},
+    {"#2.l*r", "10000", 0},
+    {"#5*+l+r+LR", "11111", 0},
+    {"#6*+l+r+LR", "00000", 0},
+    {"#4096*+l+r+LR", "00000", 0},
+    /* In each other's brackets; the equality inside has its snippets. */
+    {"#2..l*r[#1l]", "10000", 0},
+    {"([#1l]=\"\")", "11010", 0},
+    {"#1[(e=e)]", "11111", 4},
+};
+
+static void test_counts(void)
+{
+    size_t i;
+    for (i = 0; i < sizeof counts / sizeof counts[0]; i++) {
+        select_lent(&counts[i], X, X_NODES);
+    }
+}
+
 /* ---- refusals ---- */
 
 /* The numbers that a call of the archive hands back. 12 and 13 are not among them yet. */
@@ -525,6 +555,9 @@ static void test_rules(void)
     refuse_rule("", YURZHOAD_UNREADABLE, 0);
     refuse_rule(":a!", YURZHOAD_UNREADABLE, 2);
     refuse_rule("(e=\"c)", YURZHOAD_UNREADABLE, 6);
+    refuse_rule("#4097e", YURZHOAD_UNREADABLE, 4);
+    refuse_rule("#01e", YURZHOAD_UNREADABLE, 2);
+    refuse_rule("#", YURZHOAD_UNREADABLE, 1);
     rule[0] = 0;
     append(rule, YURZHOAD_MAX_NESTING, "!");
     append(rule, 1, ":a");
@@ -542,6 +575,10 @@ static void test_rules(void)
     append(rule, YURZHOAD_MAX_STEPS, ".");
     append(rule, YURZHOAD_MAX_STEPS + 1, "l");
     append(rule, 1, "=e)");
+    refuse_rule(rule, YURZHOAD_STEPS, 1);
+    strcpy(rule, "!#3");
+    append(rule, YURZHOAD_MAX_STEPS, ".");
+    append(rule, YURZHOAD_MAX_STEPS + 1, "l");
     refuse_rule(rule, YURZHOAD_STEPS, 1);
 }
 
@@ -907,11 +944,41 @@ static void test_large(void)
     expect(&c, YURZHOAD_SCRATCH_LENGTH, 0);
 }
 
+/* So many nodes are selected of the same document: the root has all others inside. */
+static void count_large(const char *rule, size_t selected)
+{
+    call c = on_x(rule);
+    int evaluation;
+    c.document = bytes_of(long_document);
+    c.document_length = write_large(long_document);
+    c.scratch_words = YURZHOAD_MAX_WORDS;
+    c.marks_length = YURZHOAD_MAX_NODES;
+    for (evaluation = PLAIN; evaluation < EVALUATIONS; evaluation++) {
+        yurzhoad_evaluation e;
+        fill();
+        e = evaluate(evaluation, &c);
+        subject = rule;
+        CHECK(e.number == YURZHOAD_ACCEPTED && e.place == 0);
+        CHECK(e.selected == selected && e.snippets == 0);
+        CHECK(marks[0] == (selected > 0 ? 1 : 0));
+    }
+}
+
+MUST(most_counted, YURZHOAD_MAX_COUNT == 4096 && YURZHOAD_MAX_NODES == 4096);
+
+static void test_large_counts(void)
+{
+    count_large("#4095.l*r", 1);
+    count_large("#4096.l*r", 0);
+    count_large("#4096*+lr", 1);
+}
+
 int main(void)
 {
     test_cases();
     test_padded();
     test_limits();
+    test_counts();
     test_documents();
     test_duplicates();
     test_rules();
@@ -926,6 +993,7 @@ int main(void)
     test_words();
     test_needed_words();
     test_large();
+    test_large_counts();
     printf("c: %lu checks, %lu failed\n", checks, failures);
     return failures > 0 || checks == 0;
 }

@@ -11,6 +11,7 @@ use Rattle.machine.specs.declared.Machine.{Machine}
 use Rattle.machine.specs.Walks.{Stops, Hits}
 use Rattle.reach.specs.Work.{Seen, Work, Added}
 use Rattle.plain.specs.Plain.{Answered}
+use Rattle.plain.proofs.Answering.{answered-from}
 use Rattle.retracing.specs.Backward.{LinkedBothWays, Closed, Ends, Backed}
 use Rattle.backward.specs.Constants.{IsHit, HitAt}
 use Rattle.reach.proofs.Adding.{spared-front, added-same, added-into}
@@ -73,10 +74,7 @@ hitting-all h l = ends-as (λ x r. (λ b. b .1, λ e. (omega arith, e))) (h .add
 pub hits-answered : {m : Machine} {n len : ℕ} {p p₁ p₂ p₃ : List ℕ} → Filled n SEEN 0 n p p₁ → Added (Ends m n p₁ (IsHit p₁ n)) n NODES 0 len p₁ p₂
     → Answered n (λ v. Seen p₂ n v 0) p₂ p₃ → Answered n (Hits m n p) p p₃
 hits-answered {m} {n} {len} {p} {p₁} {p₂} {p₃} f g a =
-    record {
-      long = a .long ∙ g .spared .same .long ∙ f .within .long;
-      answers = λ v l. ⊎-elim (λ (s, e). inl (to v l (g .seen v 0 l (omega arith) .0 s), e)) (λ (s, e). inr (λ h. s (from v l h), e)) (a .answers v l);
-    }
+    answered-from (g .spared .same .long ∙ f .within .long) (λ v l. (λ s. to v l (g .seen v 0 l (omega arith) .0 s), from v l)) a
   where
     hit : (w : ℕ) → w < n → word p₁ n HIT w ≡ word p n HIT w
     hit w l = f .within .front (cell n HIT w) (omega arith)
@@ -84,9 +82,9 @@ hits-answered {m} {n} {len} {p} {p₁} {p₂} {p₃} f g a =
     to : (v : ℕ) → v < n → Seen p₁ n v 0 ⊎ Ends m n p₁ (IsHit p₁ n) v 0 → Hits m n p v
     to v l (inl s) = absurd (cleared-unseen n p₁ (f .filled) v 0 l s)
     to v l (inr s) =
-        let (w, r, e, t) = ends-same {p = p₁} {q = p} (λ k h q. sym (f .within .front k q)) {F = IsHit p n} (λ w r e. sym (hit w r) ∙ e) l s in
+        let (w, r, e, t) = ends-same {p = p₁} {q = p} (λ k h q. sym (f .within .front k (omega arith))) {F = IsHit p n} (λ w r e. sym (hit w r) ∙ e) l s in
         (w, r, t, e)
 
     from : (v : ℕ) → v < n → Hits m n p v → Seen p₂ n v 0
     from v l (w, r, t, e) =
-        g .seen v 0 l (omega arith) .1 (inr (ends-same {p = p} {q = p₁} (λ k h q. f .within .front k q) {E = IsHit p n} {F = IsHit p₁ n} (λ w r e. hit w r ∙ e) l (w, r, e, t)))
+        g .seen v 0 l (omega arith) .1 (inr (ends-same {p = p} {q = p₁} (λ k h q. f .within .front k (omega arith)) {E = IsHit p n} {F = IsHit p₁ n} (λ w r e. hit w r ∙ e) l (w, r, e, t)))

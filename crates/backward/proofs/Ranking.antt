@@ -12,7 +12,7 @@ use Rattle.layout.specs.Groups.{FIRST, NEXT, MARKED}
 use Rattle.layout.specs.Sweeps.{LEAST, ABOVE}
 use Rattle.layout.specs.Table.{RANK}
 use Rattle.layout.specs.Words.{cell, word, Within}
-use Rattle.layout.proofs.Frames.{within-frame, frame-same, same-wider}
+use Rattle.layout.proofs.Frames.{within-frame, frame-same}
 use Rattle.rule_parts.specs.Kinds.{operator}
 use Rattle.rule_parts.specs.declared.kinds.Operator.{Operator}
 use Rattle.machine.specs.declared.Machine.{Machine}
@@ -25,6 +25,8 @@ use Rattle.rank_sets.specs.Ranges.{Ranged, Across}
 use Rattle.rank_sets.proofs.Ranged.{across-some}
 use Rattle.rank_sets.proofs.Steady.{held-then, held-word}
 use Rattle.plain.specs.Plain.{Answered}
+use Rattle.plain.proofs.Answering.{answered-from}
+use Rattle.plain.proofs.Steady.{steady-spared}
 use Rattle.plain.proofs.Walks.{stops-same, meets-same}
 use Rattle.reach.specs.Work.{Work, Spared}
 use Rattle.reach.proofs.Adding.{spared-front, spared-aside}
@@ -85,9 +87,6 @@ pub falling-all : {m : Machine} {n r len : ℕ} {p₀ p : List ℕ} → Falling 
 falling-all s l = sweeping-all s (λ w h. (λ (d, k). k, λ k. (omega arith, k)))
 
 -- ── What the sweeps leave ──
-spared-held : {n c : ℕ} {p q : List ℕ} → Spared n c p q → Held n p q
-spared-held s = record { middle = same-wider (λ k (l, h). inl h) (s .same) }
-
 pub spared-buckets : {n : ℕ} (c : ℕ) {p q : List ℕ} → LEAST ≤ c → Spared n c p q → Buckets n p → Buckets n q
 spared-buckets {n} c l s =
     let low : LEAST * n ≤ c * n = mul-le-mul-right n l in
@@ -98,7 +97,7 @@ abbrev pub Ready : ℕ → List ℕ → Type 0
 Ready n p = LinkedBothWays n p × Buckets n p
 
 pub spared-ready : {n : ℕ} (c : ℕ) {p q : List ℕ} → LEAST ≤ c → Spared n c p q → Ready n p → Ready n q
-spared-ready c l s (linked, buckets) = (linked-same (λ k l h. spared-front s k h) linked, spared-buckets c l s buckets)
+spared-ready c l s (linked, buckets) = (linked-same (λ k l h. spared-front s k (omega arith)) linked, spared-buckets c l s buckets)
 
 -- ── The ranges ──
 ranged-of : {n : ℕ} {E : ℕ → Type 0} {rank : ℕ → ℕ} (a : Range) → Extreme (λ x y. x ≤ y) 65_535 n rank E (a .least) → Extreme (λ x y. y ≤ x) 0 n (λ w. suc (rank w)) E (a .above) → Ranged n E rank a
@@ -126,10 +125,10 @@ module _ {m : Machine} {n : ℕ} {p p₁ p₂ p₃ : List ℕ} (a : Blanked n LE
 
 module _ {m : Machine} {n : ℕ} {p p₁ p₂ p₃ p₄ : List ℕ} (a : Blanked n LEAST 65_535 p p₁) (b : Risen m n p₁ p₂) (c : Blanked n ABOVE 0 p₂ p₃) (d : Fallen m n p₃ p₄) where
   held₁ : Held n p p₁
-  held₁ = spared-held (a .spared)
+  held₁ = steady-spared (a .spared) .held
 
   held₃ : Held n p p₃
-  held₃ = held-then (held-then held₁ (spared-held (b .spared))) (spared-held (c .spared))
+  held₃ = held-then (held-then held₁ (steady-spared (b .spared) .held)) (steady-spared (c .spared) .held)
 
   -- the least ranks stay while the greatest are found
   kept : (k : ℕ) → LEAST * n ≤ k → k < ABOVE * n → getD p₄ k 0 ≡ getD p₂ k 0
@@ -150,7 +149,7 @@ module _ {m : Machine} {n : ℕ} {p p₁ p₂ p₃ p₄ : List ℕ} (a : Blanked
   pub ranges-all : Ranges m n p p₄
   ranges-all =
       record {
-        held = held-then held₃ (spared-held (d .spared));
+        held = held-then held₃ (steady-spared (d .spared) .held);
         first = λ v l. ranged-of (rangeOf p₄ n 0 v) (least 0 v l _ _ (kept (cell n LEAST v) (omega arith) (omega arith)) (b .first v l)) (above 0 v l _ (d .first v l));
         second = λ v l. ranged-of (rangeOf p₄ n 1 v) (least (m .second) v l _ _ (kept (cell n (LEAST + 1) v) (omega arith) (omega arith)) (b .second v l)) (above (m .second) v l _ (d .second v l));
       }
@@ -164,10 +163,7 @@ bucketed-held w = record { middle = frame-same (λ k h. inl (omega arith)) (with
 pub order-answered : {m : Machine} {n : ℕ} {o : Operator} {p p₁ p₂ p₃ : List ℕ} → n ≤ 4096 → Within n FIRST MARKED p p₁ → Ranges m n p₁ p₂
     → Answered n (λ v. Across o (rangeOf p₂ n 0 v) (rangeOf p₂ n 1 v)) p₂ p₃ → (q : Op) → q ≢ eq → o ≡ operator q → Answered n (Meets m n p q) p p₃
 order-answered {m} {n} {o} {p} {p₁} {p₂} {p₃} few w g a q d e =
-    record {
-      long = a .long ∙ g .held .middle .long ∙ w .long;
-      answers = λ v l. ⊎-elim (λ (s, z). inl (tells v l .0 s, z)) (λ (s, z). inr (λ h. s (tells v l .1 h), z)) (a .answers v l);
-    }
+    answered-from (g .held .middle .long ∙ w .long) tells a
   where
     held : Held n p p₁
     held = bucketed-held w

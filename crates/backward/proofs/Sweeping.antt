@@ -10,12 +10,13 @@ use Rattle.machine.specs.declared.Machine.{Machine}
 use Rattle.machine.specs.Walks.{Stops}
 use Rattle.reach.specs.Work.{Seen, Work, Added}
 use Rattle.reach.proofs.Adding.{spared-front, added-same}
+use Rattle.reach.proofs.Clearing.{unseen}
 use Rattle.reach.proofs.Walks.{walk-same}
 use Rattle.retracing.specs.Backward.{LinkedBothWays, New, Closed, Ends}
 use Rattle.retracing.specs.Notes.{Noted, Seeded}
 use Rattle.backward.specs.Sweeps.{Extreme, Blank, StopsRanked, Swept}
 use Rattle.retracing.proofs.Spreading.{added-linked}
-use Rattle.retracing.proofs.Ending.{unseen, closed-none, ends-closed, ends-as, ends-then}
+use Rattle.retracing.proofs.Ending.{closed-none, ends-closed, ends-as, ends-then}
 
 -- ── One start at one node ──
 module _ {m : Machine} {n d a b : ℕ} {D E : ℕ → Type 0} {p₀ p p′ : List ℕ} (Order : ℕ → ℕ → Type 0) (blank : ℕ) (key : ℕ → ℕ) (empty : Work n 0 p₀)
@@ -23,10 +24,10 @@ module _ {m : Machine} {n d a b : ℕ} {D E : ℕ → Type 0} {p₀ p p′ : Lis
     (keyed : (w : ℕ) → w < n → E w → key w ≡ x) (same : Order x x) (ordered : (w u : ℕ) → w < n → u < n → D w → E u → Order (key w) (key u)) where
   -- where a path from v ends, by the words at the start
   back : {v w : ℕ} → v < n → Stops m n p i v w → Stops m n p₀ i v w
-  back l (j, e, s) = (j, e, walk-same (λ k r h. sym (spared-front (f .spared) k h)) l s)
+  back l (j, e, s) = (j, e, walk-same (λ k r h. sym (spared-front (f .spared) k (omega arith))) l s)
 
   forth : {v w : ℕ} → v < n → Stops m n p₀ i v w → Stops m n p i v w
-  forth l (j, e, s) = (j, e, walk-same (λ k r h. spared-front (f .spared) k h) l s)
+  forth l (j, e, s) = (j, e, walk-same (λ k r h. spared-front (f .spared) k (omega arith)) l s)
 
   -- it was seen before
   was : {v w : ℕ} → v < n → w < n → D w → Stops m n p₀ i v w → Seen p n v i

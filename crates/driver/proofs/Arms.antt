@@ -8,7 +8,7 @@ use mathlib.Core.Bool.{true}
 use mathlib.Core.List.{List}
 use lib.ListN.{length}
 use lib.Seq.{slice}
-use Rattle.xpath.specs.Syntax.{Test, named, not, and, or, compare, compareTo}
+use Rattle.xpath.specs.Syntax.{Test, named, not, and, or, compare, compareTo, atLeast}
 use Rattle.document_spec.specs.Library.{Node}
 use Rattle.document_spec.specs.Library as Library
 use Rattle.rule_spec.specs.Spelling.{spellTest}
@@ -37,6 +37,7 @@ shape (and T U) = (T, U, refl)
 shape (or T U) = (T, U, refl)
 shape (compare o P R) = inl (o, P, R, refl)
 shape (compareTo o P c) = inr (o, P, c, refl)
+shape (atLeast m P) = (m, P, refl)
 
 pub shaped : {k l : TestKind} → k ≡ l → (T : Test) → k ≡ testKind T → Shape l T
 shaped e T h = subst (λ l. Shape l T) (sym h ∙ e) (shape T)
@@ -74,14 +75,14 @@ module _ {s rule : List ℕ} {ns : List Node} {T : Test} {n at k : ℕ} {t : Lis
   unfolding spellTest
   named-decided {t′} {stop} (a, e) q p =
       let w : slice (at + 1) stop rule ≡ a = ap (λ j. slice (at + 1) j rule) q ∙ spans-slice (spans-next rule 58 (subst (λ U. Spans rule (spellTest U) at (task .end)) e (task .stands .spans))) in
-      subst (λ U. Decided ns n k U t t′) (sym e) (decided (named a) (some-nodes task) p (λ v l. (λ x. x ∙ w, λ x. x ∙ sym w)))
+      subst (λ U. Decided ns n k U t t′) (sym e) (decided (named a) (some-nodes (task .scene)) p (λ v l. (λ x. x ∙ w, λ x. x ∙ sym w)))
 
   -- !T
   pub not-decided : {t′ : List ℕ} → Shape Not due → Settled n k (λ v. ¬ (held t n (k + 1) v ≡ true)) t t′ → Decided ns n k due t t′
   not-decided {t′} (U, e) p =
       let (l, q) = inner-not T k e in
       let tells = subst (λ j. Tells ns n j U t) (sym (add-one k)) (subst (λ W. Tells ns n (suc k) W t) q (task .inner (suc k) (omega arith) l)) in
-      subst (λ W. Decided ns n k W t t′) (sym e) (decided (not U) (some-nodes task) p (λ v r. (λ f h. f (tells v r .1 h), λ f h. f (tells v r .0 h))))
+      subst (λ W. Decided ns n k W t t′) (sym e) (decided (not U) (some-nodes (task .scene)) p (λ v r. (λ f h. f (tells v r .1 h), λ f h. f (tells v r .0 h))))
 
   pub not-small : Shape Not due → k + 1 < 64
   not-small (U, e) = let (l, q) = inner-not T k e in let f = tests-few (task .accepts) in omega arith
@@ -105,13 +106,13 @@ module _ {s rule : List ℕ} {ns : List Node} {T : Test} {n at k : ℕ} {t : Lis
     both-decided {t′} e p =
         let (l, m, x, y) = two-told (inl e) in
         subst (λ A. Decided ns n k A t t′) (sym e)
-        (decided (and U W) (some-nodes task) p (λ v r. (λ h. (x v r .0 (h .0), y v r .0 (h .1)), λ h. (x v r .1 (h .0), y v r .1 (h .1)))))
+        (decided (and U W) (some-nodes (task .scene)) p (λ v r. (λ h. (x v r .0 (h .0), y v r .0 (h .1)), λ h. (x v r .1 (h .0), y v r .1 (h .1)))))
 
     pub either-decided : {t′ : List ℕ} → due ≡ or U W → Settled n k (λ v. (held t n (k + 1) v ≡ true) ⊎ (held t n b v ≡ true)) t t′ → Decided ns n k due t t′
     either-decided {t′} e p =
         let (l, m, x, y) = two-told (inr e) in
         subst (λ A. Decided ns n k A t t′) (sym e)
-        (decided (or U W) (some-nodes task) p (λ v r. (⊎-map (x v r .0) (y v r .0), ⊎-map (x v r .1) (y v r .1))))
+        (decided (or U W) (some-nodes (task .scene)) p (λ v r. (⊎-map (x v r .0) (y v r .0), ⊎-map (x v r .1) (y v r .1))))
 
   -- what second_test says of b, for a test of two
   abbrev pub Second : ℕ → Type 0

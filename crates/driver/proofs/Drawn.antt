@@ -1,4 +1,4 @@
--- What is drawn for a comparison stands in its part.
+-- What is drawn for a comparison or a count stands in its part.
 use Prim.Native.Nat.{ℕ, _+_, _*_, _≤_, _<_}
 use native.Mathlib.Nat.{mul-le-mul-right}
 use native.Mathlib.Decide.{decLt}
@@ -7,25 +7,26 @@ use mathlib.Core.Path.{_≡_, sym, ap, _∙_, subst}
 use mathlib.Core.Logic.{_≢_, _↔_}
 use mathlib.Core.Bool.{Bool, true, false}
 use mathlib.Core.List.{List}
-use lib.ListN.{length, getD}
+use lib.ListN.{length, getD, drop}
 use Rattle.lists.specs.Blanks.{trim}
 use Rattle.limits.specs.Limits.{scratchWords}
 use Rattle.bits.specs.Sets.{bit, and}
 use Rattle.xpath.specs.Syntax.{Op, Test, XPath, stay}
 use Rattle.xpath.specs.Meaning.{Rel, Holds}
-use Rattle.xpath.specs.Tree.{Child}
+use Rattle.xpath.specs.Tree.{Tree, Child}
 use Rattle.document_spec.specs.Library.{Node}
 use Rattle.document_spec.specs.Binary.{comparedOf, treeOf}
 use Rattle.layout.specs.Part.{STAYS, HIT}
-use Rattle.layout.specs.Table.{COLUMNS, LEFT, PARENT, column}
+use Rattle.layout.specs.Table.{COLUMNS, LEFT, PARENT, RANK, column}
 use Rattle.layout.proofs.Frames.{before-within}
 use Rattle.layout.specs.Words.{word, Within}
 use Rattle.table.specs.Links.{Points, IsParent}
 use Rattle.test_bits.specs.Columns.{held}
 use Rattle.machine.specs.Meaning.{IsStep, Drawn, Judges}
+use Rattle.machine.proofs.Kept.{drawn-same}
 use Rattle.staging.specs.Drawing.{Copied, Stayed, Judged}
 use Rattle.driver.specs.Tasks.{Scene}
-use Rattle.driver.proofs.Parts.{part, part-word}
+use Rattle.driver.proofs.Parts.{behind-word, part, part-word}
 
 column-low : (side : Bool) → (LEFT ≤ column side) × (column side ≤ PARENT)
 column-low true = (omega arith, omega arith)
@@ -39,17 +40,12 @@ aside-within {n} {c} {t} {t′} w a v d l = go (decLt a c)
     go (yes h) = before-within w a v h l
     go (no h) = let k : (c + 1) * n ≤ a * n = mul-le-mul-right n (omega arith) in w .behind (a * n + v) (omega arith)
 
--- the links copied, then the bracketed tests, and then one more column behind the links: the ranks, or the hits of a constant
-module _ {s : List ℕ} {ns : List Node} {n : ℕ} {t t₁ t₂ t₃ : List ℕ} {b d : ℕ} {numbers : List ℕ}
-    (scene : Scene s ns n t) (pos : 0 < n) (room : scratchWords n ≤ length t₃)
-    (copied : Copied n t t₁) (stayed : Stayed n b numbers t₁ t₂) (late : PARENT < d) (other : STAYS ≢ d) (within : Within n (COLUMNS + d) (COLUMNS + d + 1) t₂ t₃) where
-  abbrev p : List ℕ
-  p = part n t₃ pos room
-
+-- the links copied, and then the bracketed tests: p has what stands behind the table then, but for the ranks
+module _ {s : List ℕ} {ns : List Node} {n : ℕ} {t t₁ t₂ : List ℕ} {b : ℕ} {numbers : List ℕ} (p : List ℕ)
+    (scene : Scene s ns n t) (copied : Copied n t t₁) (stayed : Stayed n b numbers t₁ t₂)
+    (same : (c v : ℕ) → c ≤ STAYS → c ≢ RANK → v < n → word p n c v ≡ word t₂ n (COLUMNS + c) v) where
   link : (c v : ℕ) → LEFT ≤ c → c ≤ PARENT → v < n → word t n c v ≡ word p n c v
-  link c v h k l =
-      sym (part-word n t₃ pos room c v (omega arith) l
-      ∙ before-within within (COLUMNS + c) v (omega arith) l ∙ before-within (stayed .within) (COLUMNS + c) v (omega arith) l ∙ copied .copied c v h k l)
+  link c v h k l = sym (same c v (omega arith) (λ e. absurd (omega arith)) l ∙ before-within (stayed .within) (COLUMNS + c) v (omega arith) l ∙ copied .copied c v h k l)
 
   -- the words of a node are told at the library's length
   told : (A : ℕ → Type 0) (c v : ℕ) → LEFT ≤ c → c ≤ PARENT → v < n → A (word t (length ns) c v) → A (word p n c v)
@@ -71,7 +67,17 @@ module _ {s : List ℕ} {ns : List Node} {n : ℕ} {t t₁ t₂ t₃ : List ℕ}
       inside v l = subst (λ m. v < m) (sym (scene .size)) l
 
       stays : (v j : ℕ) → v < n → j < 16 → bit (word p n STAYS v) j ≡ and (bit b j) (held t₁ n (getD numbers j 0) v)
-      stays v j l h = ap (λ w. bit w j) (part-word n t₃ pos room STAYS v (omega arith) l ∙ aside-within within (COLUMNS + STAYS) v (λ e. other (omega arith)) l) ∙ stayed .done v j l h
+      stays v j l h = ap (λ w. bit w j) (same STAYS v (omega arith) (λ e. absurd (omega arith)) l) ∙ stayed .done v j l h
+
+-- ── In the part ──
+module _ {n : ℕ} {t t′ : List ℕ} (pos : 0 < n) (room : scratchWords n ≤ length t′) where
+  -- the ranks are drawn last
+  pub drawn-but-ranks : Within n (COLUMNS + RANK) (COLUMNS + RANK + 1) t t′ → (c v : ℕ) → c ≤ STAYS → c ≢ RANK → v < n → word (part n t′ pos room) n c v ≡ word t n (COLUMNS + c) v
+  drawn-but-ranks within c v h d l = part-word n t′ pos room c v (omega arith) l ∙ aside-within within (COLUMNS + c) v (λ e. d (omega arith)) l
+
+  -- what is drawn behind the table stands there, also where the hits of a constant are drawn
+  pub drawn-lent : {P R : XPath} {u : Tree} → Within n (COLUMNS + HIT) (COLUMNS + HIT + 1) t t′ → Drawn P R u n (drop (COLUMNS * n) t) → Drawn P R u n (part n t′ pos room)
+  drawn-lent within = drawn-same (λ c v h l. part-word n t′ pos room c v (omega arith) l ∙ before-within within (COLUMNS + c) v (omega arith) l ∙ sym (behind-word n t c v))
 
 -- the hits stand there too
 pub judges : {ns : List Node} {n : ℕ} {t t′ : List ℕ} {o : Op} {c : List ℕ} (pos : 0 < n) (room : scratchWords n ≤ length t′)

@@ -1,40 +1,47 @@
--- The middle of the scratch, lent to the evaluator of a comparison: what it asks of it, and what it leaves. The end is told by the function that counts the words.
+-- The middle of the scratch, lent to be evaluated in: what is asked of it, and what is left there. The end is told by the function that counts the words.
 use Prim.Native.Nat.{ℕ, _+_, _-_, _*_, _≤_}
-use native.Mathlib.Nat.{mul-comm, add-mul}
+use native.Mathlib.Nat.{mul-comm, add-mul, mul-le-mul-right}
 use native.Mathlib.Omega.{arith}
-use mathlib.Core.Path.{_≡_, sym, _∙_, subst}
+use mathlib.Core.Path.{_≡_, sym, subst}
 use mathlib.Core.List.{List, _++_}
 use lib.ListN.{length, take, drop}
 use lib.Seq.{slice}
 use Rattle.lists.specs.Text.{binaryDigits}
 use Rattle.limits.specs.Limits.{scratchWords}
-use Rattle.xpath.specs.Syntax.{Op, Test, compare, compareTo, XPath, empty}
+use Rattle.xpath.specs.Syntax.{Op, Test, atLeast, XPath, empty}
 use Rattle.xpath.specs.Tree.{Tree}
 use Rattle.xpath.specs.Meaning.{Holds}
 use Rattle.document_spec.specs.Library.{Node}
 use Rattle.document_spec.specs.Binary.{treeOf}
 use Rattle.document_spec.proofs.Binary.{tree-formed}
-use Rattle.layout.specs.Part.{HIT}
-use Rattle.layout.specs.Table.{COLUMNS, RANK}
+use Rattle.layout.specs.Part.{Space}
+use Rattle.layout.specs.Table.{COLUMNS}
+use Rattle.layout.specs.Words.{Within}
+use Rattle.layout.proofs.Frames.{frame-then, within-none}
 use Rattle.rule_parts.specs.Kinds.{operator}
 use Rattle.rule_parts.specs.declared.kinds.Operator.{Operator}
 use Rattle.test_numbers.specs.Tests.{testsOf, test}
-use Rattle.test_numbers.specs.Numbering.{NumbersTwo, NumbersOne}
-use Rattle.compiler.specs.Machines.{Machined, MachinedAlone}
+use Rattle.test_numbers.specs.Numbering.{NumbersTwo}
+use Rattle.compiler.specs.Machines.{Machined}
 use Rattle.machine.specs.declared.Machine.{Machine}
+use Rattle.machine.specs.Walks.{Several}
+use Rattle.machine.specs.Meaning.{Drawn}
+use Rattle.machine.proofs.Comparing.{several-holds}
 use Rattle.plain.specs.Plain.{Answered}
+use Rattle.retracing.specs.Backward.{LinkedBothWays}
+use Rattle.retracing.proofs.Linked.{linked-drawn}
 use Rattle.evaluators.specs.Evaluators.{PartRoom, Posed, PosedTo, Staged, StagedTo, Adds, Compared, Hit}
 use Rattle.evaluators.specs.declared.Evaluator.{Evaluator}
+use Rattle.evaluators.proofs.Staging.{drawn-space, answered-as}
 use Rattle.staging.specs.Signs.{ranksOf}
 use Rattle.staging.specs.Drawing.{Copied, RanksCopied, Stayed, Judged}
-use Rattle.driver.specs.Tasks.{Scene, Task, Paths, Constant, Apart, Answers, Compares}
-use Rattle.layout.proofs.Frames.{frame-then}
+use Rattle.driver.specs.Tasks.{Scene, Paths, Constant, PathDrawn, Apart, Answers, Compares}
 use Rattle.driver.proofs.Frames.{scratch-room, scene-same, within-apart}
-use Rattle.driver.proofs.Parts.{part, part-long}
-use Rattle.driver.proofs.Answers.{some-nodes, drawn-apart, drawn-part, answered}
-use Rattle.driver.proofs.Drawn.{judges}
+use Rattle.driver.proofs.Parts.{part, part-long, back-apart}
+use Rattle.driver.proofs.Answers.{some-nodes, drawn-within, drawn-apart, drawn-paths, answered}
+use Rattle.driver.proofs.Drawn.{drawn-but-ranks, drawn-lent, judges}
 use Rattle.driver.proofs.Ranks.{ranks-tell}
-use Rattle.driver.proofs.Asked.{is-machine, has-brackets, among, is-machine-alone, has-brackets-alone, among-alone}
+use Rattle.driver.proofs.Asked.{is-machine, has-brackets, both-settled}
 
 -- the words of a scratch of n nodes from behind the table up to b
 abbrev pub middle : ℕ → ℕ → List ℕ → List ℕ
@@ -44,25 +51,45 @@ middle n b t = take (b - COLUMNS * n) (drop (COLUMNS * n) t)
 abbrev pub returned : ℕ → ℕ → List ℕ → List ℕ → List ℕ
 returned n b t p = take (COLUMNS * n) t ++ (p ++ drop (b - COLUMNS * n) (drop (COLUMNS * n) t))
 
-module _ {s rule : List ℕ} {ns : List Node} {T : Test} {n at k : ℕ} {t : List ℕ} (task : Task s rule ns T n at k t) where
+module _ {s : List ℕ} {ns : List Node} {n : ℕ} {t : List ℕ} (scene : Scene s ns n t) where
   pub few-nodes : n ≤ 4096
-  few-nodes = subst (λ m. m ≤ 4096) (task .scene .size) (task .scene .library .legal .few)
-
-  -- the part is as long as an evaluator asks
-  pub part-room : (t′ : List ℕ) (room : scratchWords n ≤ length t′) → PartRoom n (part n t′ (some-nodes task) room)
-  unfolding scratchWords
-  part-room t′ room =
-      let l = part-long n t′ (some-nodes task) room in let c = mul-comm n (64 * binaryDigits n + 128) in let d = add-mul (64 * binaryDigits n) 128 n in let e = add-mul 112 (64 * binaryDigits n) n in
-      omega arith
+  few-nodes = subst (λ m. m ≤ 4096) (scene .size) (scene .library .legal .few)
 
   -- the table has room for what is drawn
   pub draw-room : (t′ : List ℕ) → length t′ ≡ length t → 24 * n ≤ length t′
-  draw-room t′ e = let r = scratch-room n (some-nodes task) in let h = task .scene .room in omega arith
+  draw-room t′ e = let r = scratch-room n (some-nodes scene) in let h = scene .room in omega arith
 
   -- what is drawn leaves the tree
-  pub drawn-scene : {b : ℕ} {numbers t₁ t₂ : List ℕ} → Copied n t t₁ → Stayed n b numbers t₁ t₂ → Scene s ns n t₂
-  drawn-scene p q =
-      scene-same (task .scene) (q .within .long ∙ p .within .long) (λ i l. q .within .front i (omega arith) ∙ p .within .front i (omega arith))
+  pub drawn-scene : {c d : ℕ} {t′ : List ℕ} → COLUMNS ≤ c → Within n c d t t′ → Scene s ns n t′
+  drawn-scene {c} late w = scene-same scene (w .long) (λ i l. let k : COLUMNS * n ≤ c * n = mul-le-mul-right n late in w .front i (omega arith))
+
+  -- ── Of any test ──
+  module _ {t′ : List ℕ} {b : ℕ} (apart : Apart n t t′) (ends : b ≡ scratchWords n) where
+    pub lent-room : scratchWords n ≤ length t′
+    lent-room = let r = scene .room in let e = apart .long in omega arith
+
+    -- the part is what an evaluator gets
+    pub lent-is : (A : List ℕ → Type 0) → A (part n t′ (some-nodes scene) lent-room) → A (middle n b t′)
+    lent-is A = subst (λ c. A (middle n c t′)) (sym ends)
+
+    -- it is as long as an evaluator asks
+    pub lent-long : PartRoom n (middle n b t′)
+    unfolding scratchWords
+    lent-long = lent-is (PartRoom n)
+        (let l = part-long n t′ (some-nodes scene) lent-room in let c = mul-comm n (64 * binaryDigits n + 128) in let d = add-mul (64 * binaryDigits n) 128 n in let e = add-mul 112 (64 * binaryDigits n) n in
+        omega arith)
+
+    -- what comes back differs there alone
+    pub lent-apart : {A : ℕ → Type 0} {p : List ℕ} → Answered n A (middle n b t′) p → Apart n t (returned n b t′ p)
+    lent-apart {A} {p} =
+        subst (λ c. Answered n A (middle n c t′) p → Apart n t (returned n c t′ p)) (sym ends)
+        (λ a. frame-then apart (back-apart n t′ (some-nodes scene) lent-room p (a .long)))
+
+    -- and has the answers of the test that is due
+    pub lent-answers : {U W : Test} {p : List ℕ} → W ≡ U → Answered n (Holds (treeOf ns) U) (middle n b t′) p → Answers ns n W t (returned n b t′ p)
+    lent-answers {U} {W} {p} is =
+        subst (λ X. Answered n (Holds (treeOf ns) U) (middle n b t′) p → Answers ns n X t (returned n b t′ p)) (sym is)
+        (subst (λ c. Answered n (Holds (treeOf ns) U) (middle n c t′) p → Answers ns n U t (returned n c t′ p)) (sym ends) (answered (some-nodes scene) lent-room apart))
 
 -- ── Two paths ──
 module _ {s rule : List ℕ} {ns : List Node} {T : Test} {n at k : ℕ} {t : List ℕ} {behind : ℕ} {o : Operator} (h : Paths s rule ns T n at k t behind o)
@@ -70,31 +97,20 @@ module _ {s rule : List ℕ} {ns : List Node} {T : Test} {n at k : ℕ} {t : Lis
     (machined : Machined rule (at + 1) behind m) (numbered : NumbersTwo rule (at + 1) behind (k + 1) numbers)
     (copied : Copied n t t₁) (stayed : Stayed n (m .brackets) numbers t₁ t₂) (chosen : (q : Op) → o ≡ operator q → c ≡ ranksOf q) (ranks : RanksCopied n c t₂ t₃) (ends : b ≡ scratchWords n) where
   paths-apart : Apart n t t₃
-  paths-apart =
-      frame-then (drawn-apart (h .task) (h .first) (h .second) (among h) (is-machine h machined) (has-brackets h numbered) copied stayed)
-      (within-apart (some-nodes (h .task)) (omega arith) (omega arith) (ranks .within))
-
-  paths-room : scratchWords n ≤ length t₃
-  paths-room = let r = h .task .scene .room in let e = paths-apart .long in omega arith
+  paths-apart = frame-then (drawn-apart (h .task .scene) copied stayed) (within-apart (some-nodes (h .task .scene)) (omega arith) (omega arith) (ranks .within))
 
   paths-posed : Posed (h .sign) (h .first) (h .second) (treeOf ns) m n (middle n b t₃)
-  paths-posed = subst (λ c. Posed (h .sign) (h .first) (h .second) (treeOf ns) m n (middle n c t₃)) (sym ends) (record {
+  paths-posed = lent-is (h .task .scene) paths-apart ends (λ p. Posed (h .sign) (h .first) (h .second) (treeOf ns) m n p) (record {
     formed = tree-formed (h .task .scene .library .legal);
     machine = is-machine h machined;
-    drawn = drawn-part (h .task) (h .first) (h .second) (among h) (is-machine h machined) (has-brackets h numbered) copied stayed RANK paths-room (omega arith) (λ e. absurd (omega arith)) (ranks .within);
-    ranks = let scene = drawn-scene (h .task) copied stayed in
-        ranks-tell (some-nodes (h .task)) paths-room (few-nodes (h .task)) (h .task .scene .size) (scene .ranked) (scene .weighed) (h .sign) (subst (λ d. RanksCopied n d t₂ t₃) (chosen (h .sign) (h .told)) ranks);
+    drawn = drawn-paths (h .task .scene) _ (h .first) (h .second) (both-settled h) (is-machine h machined) (has-brackets h numbered) copied stayed
+        (drawn-but-ranks (some-nodes (h .task .scene)) (lent-room (h .task .scene) paths-apart ends) (ranks .within));
+    ranks = let scene = drawn-scene (h .task .scene) (omega arith) (drawn-within (h .task .scene) copied stayed) in
+        ranks-tell (some-nodes (h .task .scene)) (lent-room (h .task .scene) paths-apart ends) (few-nodes (h .task .scene)) (h .task .scene .size) (scene .ranked) (scene .weighed) (h .sign) (subst (λ d. RanksCopied n d t₂ t₃) (chosen (h .sign) (h .told)) ranks);
   })
 
   pub paths-asked : Staged o m n (middle n b t₃) × PartRoom n (middle n b t₃)
-  paths-asked = ((h .first, h .second, treeOf ns, h .sign, h .told, paths-posed), subst (λ c. PartRoom n (middle n c t₃)) (sym ends) (part-room (h .task) t₃ paths-room))
-
-  paths-done : {p : List ℕ} → Answered n (Holds (treeOf ns) (compare (h .sign) (h .first) (h .second))) (middle n b t₃) p
-      → Answers ns n (test (testsOf T) k) t (returned n b t₃ p)
-  paths-done {p} =
-      subst (λ U. Answered n (Holds (treeOf ns) (compare (h .sign) (h .first) (h .second))) (middle n b t₃) p → Answers ns n U t (returned n b t₃ p)) (sym (h .is))
-      (subst (λ c. Answered n (Holds (treeOf ns) (compare (h .sign) (h .first) (h .second))) (middle n c t₃) p → Answers ns n (compare (h .sign) (h .first) (h .second)) t (returned n c t₃ p)) (sym ends)
-      (answered (some-nodes (h .task)) paths-room paths-apart))
+  paths-asked = ((h .first, h .second, treeOf ns, h .sign, h .told, paths-posed), lent-long (h .task .scene) paths-apart ends)
 
   -- what the evaluator tells of any comparison on any tree is told of this one
   pub paths-compared : {e : Evaluator} {p : List ℕ} {r : ℕ}
@@ -102,38 +118,42 @@ module _ {s rule : List ℕ} {ns : List Node} {T : Test} {n at k : ℕ} {t : Lis
       → Compares e ns n (test (testsOf T) k) t (returned n b t₃ p) r
   paths-compared {e} {p} {r} f =
       let x = f (h .first) (h .second) (treeOf ns) (h .sign) paths-posed (h .told) in
-      record { answers = paths-done (x .answered); adds = subst (λ U. Adds e (treeOf ns) U r) (sym (h .is)) (x .adds) }
+      record { answers = lent-answers (h .task .scene) paths-apart ends (h .is) (x .answered); adds = subst (λ U. Adds e (treeOf ns) U r) (sym (h .is)) (x .adds) }
 
--- ── A path and a constant ──
+-- ── One path ──
+pub path-apart : {s : List ℕ} {ns : List Node} {P : XPath} {n : ℕ} {m : Machine} {t t′ : List ℕ} → Scene s ns n t → PathDrawn ns n P m t t′ → Apart n t t′
+path-apart scene d = within-apart (some-nodes scene) (omega arith) (omega arith) (d .within)
+
+-- and a constant
 module _ {s rule : List ℕ} {ns : List Node} {T : Test} {n at k : ℕ} {t : List ℕ} {start stop : ℕ} {o : Operator} (h : Constant s rule ns T n at k t start stop o)
-    {m : Machine} {numbers t₁ t₂ t₃ : List ℕ} {b : ℕ}
-    (machined : MachinedAlone rule (at + 1) m) (numbered : NumbersOne rule (at + 1) (k + 1) numbers)
-    (copied : Copied n t t₁) (stayed : Stayed n (m .brackets) numbers t₁ t₂) (judged : Judged ns n (h .sign) (slice start stop rule) t₂ t₃) (ends : b ≡ scratchWords n) where
-  constant-apart : Apart n t t₃
-  constant-apart =
-      frame-then (drawn-apart (h .task) (h .first) empty (among-alone h) (is-machine-alone h machined) (has-brackets-alone h numbered) copied stayed)
-      (within-apart (some-nodes (h .task)) (omega arith) (omega arith) (judged .within))
+    {m : Machine} {t₁ t₂ : List ℕ} {b : ℕ}
+    (path : PathDrawn ns n (h .first) m t t₁) (judged : Judged ns n (h .sign) (slice start stop rule) t₁ t₂) (ends : b ≡ scratchWords n) where
+  constant-apart : Apart n t t₂
+  constant-apart = frame-then (path-apart (h .task .scene) path) (within-apart (some-nodes (h .task .scene)) (omega arith) (omega arith) (judged .within))
 
-  constant-room : scratchWords n ≤ length t₃
-  constant-room = let r = h .task .scene .room in let e = constant-apart .long in omega arith
-
-  constant-posed : PosedTo (h .sign) (h .first) (slice start stop rule) (treeOf ns) m n (middle n b t₃)
-  constant-posed = subst (λ c. PosedTo (h .sign) (h .first) (slice start stop rule) (treeOf ns) m n (middle n c t₃)) (sym ends) (record {
+  constant-posed : PosedTo (h .sign) (h .first) (slice start stop rule) (treeOf ns) m n (middle n b t₂)
+  constant-posed = lent-is (h .task .scene) constant-apart ends (λ p. PosedTo (h .sign) (h .first) (slice start stop rule) (treeOf ns) m n p) (record {
     formed = tree-formed (h .task .scene .library .legal);
-    machine = is-machine-alone h machined;
-    drawn = drawn-part (h .task) (h .first) empty (among-alone h) (is-machine-alone h machined) (has-brackets-alone h numbered) copied stayed HIT constant-room (omega arith) (λ e. absurd (omega arith)) (judged .within);
-    hits = judges (some-nodes (h .task)) constant-room judged;
+    machine = path .machine;
+    drawn = drawn-lent (some-nodes (h .task .scene)) (lent-room (h .task .scene) constant-apart ends) (judged .within) (path .drawn);
+    hits = judges (some-nodes (h .task .scene)) (lent-room (h .task .scene) constant-apart ends) judged;
   })
 
-  pub constant-asked : StagedTo m n (middle n b t₃) × PartRoom n (middle n b t₃)
-  constant-asked = ((h .first, treeOf ns, h .sign, slice start stop rule, constant-posed), subst (λ c. PartRoom n (middle n c t₃)) (sym ends) (part-room (h .task) t₃ constant-room))
+  pub constant-asked : StagedTo m n (middle n b t₂) × PartRoom n (middle n b t₂)
+  constant-asked = ((h .first, treeOf ns, h .sign, slice start stop rule, constant-posed), lent-long (h .task .scene) constant-apart ends)
 
-  constant-done : {p : List ℕ} → Answered n (Holds (treeOf ns) (compareTo (h .sign) (h .first) (slice start stop rule))) (middle n b t₃) p
-      → Answers ns n (test (testsOf T) k) t (returned n b t₃ p)
-  constant-done {p} =
-      subst (λ U. Answered n (Holds (treeOf ns) (compareTo (h .sign) (h .first) (slice start stop rule))) (middle n b t₃) p → Answers ns n U t (returned n b t₃ p)) (sym (h .is))
-      (subst (λ c. Answered n (Holds (treeOf ns) (compareTo (h .sign) (h .first) (slice start stop rule))) (middle n c t₃) p → Answers ns n (compareTo (h .sign) (h .first) (slice start stop rule)) t (returned n c t₃ p)) (sym ends)
-      (answered (some-nodes (h .task)) constant-room constant-apart))
+  pub constant-compared : {p : List ℕ} → Hit m n (middle n b t₂) p → Answers ns n (test (testsOf T) k) t (returned n b t₂ p)
+  constant-compared f = lent-answers (h .task .scene) constant-apart ends (h .is) (f (h .first) (treeOf ns) (h .sign) (slice start stop rule) constant-posed)
 
-  pub constant-compared : {p : List ℕ} → Hit m n (middle n b t₃) p → Answers ns n (test (testsOf T) k) t (returned n b t₃ p)
-  constant-compared f = constant-done (f (h .first) (treeOf ns) (h .sign) (slice start stop rule) constant-posed)
+-- and a number
+module _ {s : List ℕ} {ns : List Node} {P : XPath} {n : ℕ} {m : Machine} {t t₁ : List ℕ} {b : ℕ} (scene : Scene s ns n t) (path : PathDrawn ns n P m t t₁) (ends : b ≡ scratchWords n) where
+  count-drawn : Drawn P empty (treeOf ns) n (middle n b t₁)
+  count-drawn = lent-is scene (path-apart scene path) ends (Drawn P empty (treeOf ns) n)
+      (drawn-lent (some-nodes scene) (lent-room scene (path-apart scene path) ends) (within-none t₁) (path .drawn))
+
+  pub count-asked : Space n (middle n b t₁) × LinkedBothWays n (middle n b t₁)
+  count-asked = (drawn-space (tree-formed (scene .library .legal)) count-drawn (lent-long scene (path-apart scene path) ends), linked-drawn count-drawn)
+
+  pub count-answers : {T : Test} {c : ℕ} {p : List ℕ} → T ≡ atLeast c P → Answered n (Several m n (middle n b t₁) c) (middle n b t₁) p → Answers ns n T t (returned n b t₁ p)
+  count-answers {c = c} is a =
+      lent-answers scene (path-apart scene path) ends is (answered-as (several-holds (tree-formed (scene .library .legal)) (path .machine) count-drawn c) a)

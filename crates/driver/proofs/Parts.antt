@@ -1,4 +1,4 @@
--- The part of the scratch that is lent to a comparison: what it holds, and what comes back of it.
+-- The part of the scratch that is lent to an evaluator: what it holds, and what comes back of it.
 use Prim.Native.Nat.{ℕ, _+_, _-_, _*_, _≤_, _<_}
 use native.Mathlib.Nat.{mul-le-mul-right, add-mul}
 use native.Mathlib.Omega.{arith}
@@ -12,6 +12,10 @@ use Rattle.layout.specs.Words.{word}
 use Rattle.driver.specs.Tasks.{Apart}
 use Rattle.driver.proofs.Frames.{scratch-room}
 
+-- column c behind the table is column 16 + c of the scratch
+pub behind-word : (n : ℕ) (t : List ℕ) (c v : ℕ) → word (drop (COLUMNS * n) t) n c v ≡ word t n (COLUMNS + c) v
+behind-word n t c v = let m = add-mul COLUMNS c n in let e : COLUMNS * n + (c * n + v) ≡ (COLUMNS + c) * n + v = omega arith in getD-drop (COLUMNS * n) t (c * n + v) 0 ∙ ap (λ i. getD t i 0) e
+
 module _ (n : ℕ) (t : List ℕ) (pos : 0 < n) (room : scratchWords n ≤ length t) where
   -- how many words are lent
   abbrev pub lent : ℕ
@@ -23,12 +27,11 @@ module _ (n : ℕ) (t : List ℕ) (pos : 0 < n) (room : scratchWords n ≤ lengt
   pub part-long : length part ≡ lent
   part-long = length-take-le lent (drop (COLUMNS * n) t) (subst (λ m. lent ≤ m) (sym (length-drop (COLUMNS * n) t)) (omega arith))
 
-  -- column c of the part is column 16 + c of the scratch
+  -- the part begins behind the table
   pub part-word : (c v : ℕ) → c < 48 → v < n → word part n c v ≡ word t n (COLUMNS + c) v
   part-word c v h l =
-      let r = scratch-room n pos in let k : c * n ≤ 47 * n = mul-le-mul-right n (omega arith) in let m = add-mul COLUMNS c n in
-      let e : COLUMNS * n + (c * n + v) ≡ (COLUMNS + c) * n + v = omega arith in
-      getD-take lent (drop (COLUMNS * n) t) (c * n + v) 0 (omega arith) ∙ getD-drop (COLUMNS * n) t (c * n + v) 0 ∙ ap (λ i. getD t i 0) e
+      let r = scratch-room n pos in let k : c * n ≤ 47 * n = mul-le-mul-right n (omega arith) in
+      getD-take lent (drop (COLUMNS * n) t) (c * n + v) 0 (omega arith) ∙ behind-word n t c v
 
   module _ (p : List ℕ) (same : length p ≡ length part) where
     -- the scratch when the part comes back

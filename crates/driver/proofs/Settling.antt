@@ -32,7 +32,7 @@ decided {n = n} T pos s f =
       frame = frame-wider (omega arith) (omega arith) (within-frame (s .within));
     }
 
--- a comparison's answers, taken over
+-- the answers of a comparison or a count, taken over
 pub taken : {ns : List Node} {n k : ℕ} {t t₁ t₂ : List ℕ} (T : Test) → 0 < n → Answers ns n T t t₁ → Settled n k (λ v. word t₁ n COLUMNS v ≡ 1) t₁ t₂
     → Decided ns n k T t t₂
 taken {ns} {n} {k} {t} {t₁} {t₂} T pos a s =

@@ -4,10 +4,10 @@ use mathlib.Core.Path.{_≡_}
 use mathlib.Core.Logic.{_⊎_, _≢_, _↔_}
 use mathlib.Core.Bool.{true}
 use mathlib.Core.List.{List}
-use lib.ListN.{length}
+use lib.ListN.{length, drop}
 use lib.Seq.{slice}
-use Rattle.limits.specs.Limits.{scratchWords, ruleTests}
-use Rattle.xpath.specs.Syntax.{Op, Test, named, not, and, or, compare, compareTo, XPath}
+use Rattle.limits.specs.Limits.{scratchWords, ruleTests, comparisonSteps}
+use Rattle.xpath.specs.Syntax.{Op, Test, named, not, and, or, compare, compareTo, atLeast, XPath, empty, size}
 use Rattle.xpath.specs.Tree.{Tree}
 use Rattle.xpath.specs.Meaning.{Holds}
 use Rattle.snippets.specs.Count.{Counted}
@@ -15,8 +15,9 @@ use Rattle.document_spec.specs.Library.{Node}
 use Rattle.document_spec.specs.Binary.{treeOf}
 use Rattle.document_spec.specs.Verdict as Document
 use Rattle.rule_spec.specs.Verdict as Rule
-use Rattle.layout.specs.Table.{COLUMNS, TESTS}
-use Rattle.layout.specs.Words.{word, Frame}
+use Rattle.layout.specs.Part.{STAYS}
+use Rattle.layout.specs.Table.{COLUMNS, LEFT, TESTS}
+use Rattle.layout.specs.Words.{word, Frame, Within}
 use Rattle.table.specs.Links.{Linked}
 use Rattle.value_notes.specs.Notes.{Annotated}
 use Rattle.ranks.specs.Ranks.{Ranked}
@@ -25,9 +26,11 @@ use Rattle.rule_parts.specs.Standing.{TestAt, PathAt}
 use Rattle.rule_parts.specs.Kinds.{operator}
 use Rattle.rule_parts.specs.declared.kinds.Operator.{Operator}
 use Rattle.rule_parts.specs.declared.kinds.TestKind.{TestKind}
-use Rattle.rule_parts.specs.declared.kinds.TestKind.the-variants.{Named, Not, And, Or, Comparison}
+use Rattle.rule_parts.specs.declared.kinds.TestKind.the-variants.{Named, Not, And, Or, Comparison, Count}
+use Rattle.machine.specs.declared.Machine.{Machine}
+use Rattle.machine.specs.Meaning.{IsMachine, Drawn}
 use Rattle.test_bits.specs.Columns.{held}
-use Rattle.test_numbers.specs.Tests.{testsOf, test}
+use Rattle.test_numbers.specs.Tests.{testsOf, pathTests, test}
 use Rattle.test_numbers.specs.Owned.{owned}
 use Rattle.evaluators.specs.declared.Evaluator.{Evaluator}
 use Rattle.evaluators.specs.Evaluators.{Adds}
@@ -65,6 +68,7 @@ Shape Not T = (U : Test) × (T ≡ not U)
 Shape And T = (U W : Test) × (T ≡ and U W)
 Shape Or T = (U W : Test) × (T ≡ or U W)
 Shape Comparison T = ((o : Op) × (P R : XPath) × (T ≡ compare o P R)) ⊎ ((o : Op) × (P : XPath) × (c : List ℕ) × (T ≡ compareTo o P c))
+Shape Count T = (m : ℕ) × (P : XPath) × (T ≡ atLeast m P)
 
 -- test k is the comparison of two paths, the first behind its bracket and the second at an offset
 pub record Paths (s rule : List ℕ) (ns : List Node) (T : Test) (n at k : ℕ) (t : List ℕ) (behind : ℕ) (o : Operator) : Type 0 where
@@ -91,12 +95,28 @@ pub record Constant (s rule : List ℕ) (ns : List Node) (T : Test) (n at k : �
   pub ordered : start ≤ stop
   pub inside : stop ≤ length rule
 
+-- ── One path ──
+-- the path P stands at an offset, and the tests in its brackets, which have the numbers from k on, are settled
+pub record Ready (s rule : List ℕ) (ns : List Node) (P : XPath) (n at k : ℕ) (t : List ℕ) : Type 0 where
+  pub scene : Scene s ns n t
+  pub end : ℕ
+  pub stands : PathAt rule P at end
+  pub light : size P ≤ comparisonSteps
+  pub room : k + length (pathTests P) ≤ ruleTests
+  pub settled : (e : ℕ) → e < length (pathTests P) → Tells ns n (k + e) (test (pathTests P) e) t
+
+-- m is its machine, with an empty second path, and the tree and the tests in its brackets are drawn behind the table
+pub record PathDrawn (ns : List Node) (n : ℕ) (P : XPath) (m : Machine) (t t′ : List ℕ) : Type 0 where
+  pub machine : IsMachine P empty m
+  pub within : Within n (COLUMNS + LEFT) (COLUMNS + STAYS + 1) t t′
+  pub drawn : Drawn P empty (treeOf ns) n (drop (COLUMNS * n) t′)
+
 -- ── What a test leaves ──
 -- only the part behind the tree's own words may be different
 abbrev pub Apart : ℕ → List ℕ → List ℕ → Type 0
 Apart n t t′ = Frame (COLUMNS * n) (scratchWords n) t t′
 
--- the comparison's answers stand in the first column of its part
+-- the answers of a comparison or a count stand in the first column of its part
 pub record Answers (ns : List Node) (n : ℕ) (T : Test) (t t′ : List ℕ) : Type 0 where
   pub apart : Apart n t t′
   pub answers : (v : ℕ) → v < n → (word t′ n COLUMNS v ≡ 1) ↔ Holds (treeOf ns) T v

@@ -1,6 +1,6 @@
 // A comparison: what its evaluator needs is drawn in its part of the scratch, and that part alone is lent to it.
+use crate::paths::draw_path;
 use compiler::machine_of;
-use compiler::machine_of_one;
 use evaluators::Evaluator;
 use evaluators::compare_constant;
 use evaluators::compare_paths;
@@ -15,7 +15,6 @@ use staging::draw_ranks;
 use staging::draw_tests;
 use staging::ranks_of;
 use test_numbers::bracket_tests;
-use test_numbers::bracket_tests_of_one;
 use tokens::stands;
 ghost use mathlib.Core.List.{List};
 ghost use Rattle.xpath.specs.Syntax.{Test};
@@ -65,10 +64,7 @@ fn with_constant(
     requires { ⌜ ((ns : List Library.Node) × (T : Test) × Constant (now s) (now rule) ns T n at k (now t) from to o) ⌝ }
     ensures { λ _. ⌜ ((ns : List Library.Node) (T : Test) → Constant (now (s .entry)) (now (rule .entry)) ns T n at k (now (t .entry)) from to o → Answers ns n (test (testsOf T) k) (now (t .entry)) (now (t .exit))) ⌝ }
 {
-    let m = machine_of_one(rule, at + 1);
-    let numbers = bracket_tests_of_one(rule, at + 1, k + 1);
-    draw(t, n);
-    draw_tests(t, n, m.brackets, numbers);
+    let m = draw_path(rule, t, n, at + 1, k + 1);
     draw_hits(s, rule, t, n, from, to, o);
     let end = Scratch::needed(n);
     compare_constant(e, &mut t[Table::COLUMNS * n..end], n, m);

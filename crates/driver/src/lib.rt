@@ -1,8 +1,11 @@
 // The driver over a rule's tests, inner ones first: test after test is settled, from the last to the first.
 // Which evaluation it is goes along as an argument, and shows only where `evaluators` answers a comparison.
 mod comparisons;
+mod counts;
+mod paths;
 
 use comparisons::compare;
+use counts::count;
 use evaluators::Evaluator;
 use labels::named;
 use limits::Rule;
@@ -76,6 +79,10 @@ fn settle(
             0
         }
         TestKind::Comparison => comparison(e, s, rule, t, n, at, k),
+        TestKind::Count => {
+            count(rule, t, n, at, k);
+            0
+        }
     }
 }
 

@@ -8,15 +8,16 @@ use native.Mathlib.Omega.{arith}
 use native.Mathlib.Decide.{decLt}
 use Rattle.lists.specs.Lists.{Occurs}
 use Rattle.lists.proofs.Lists.{occurs-left, occurs-right, occurs-append}
+use Rattle.lists.specs.Text.{decimal}
 use Rattle.limits.specs.Limits.{comparisonSteps}
-use Rattle.xpath.specs.Syntax.{Op, eq, ne, lt, le, gt, ge, Test, named, not, and, or, compare, compareTo, XPath, empty, one, seq, union, star, Step, toLeft, toRight, fromLeft, fromRight, stay, size}
+use Rattle.xpath.specs.Syntax.{Op, eq, ne, lt, le, gt, ge, Test, named, not, and, or, compare, compareTo, atLeast, XPath, empty, one, seq, union, star, Step, toLeft, toRight, fromLeft, fromRight, stay, size}
 use Rattle.snippets.specs.Count.{Pair, comparisons, inPath, inStep, Counted, SnippetCount}
 use Rattle.snippets.proofs.Counting.{snippet-count}
 use Rattle.document_spec.specs.Library.{Node}
 use Rattle.document_spec.specs.Binary.{treeOf}
 use Rattle.document_spec.proofs.Binary.{tree-formed}
 use Rattle.rule_spec.specs.Spelling.{sign, spellTest, spellPath}
-use Rattle.rule_spec.specs.Parts.{Part, comparison, testParts, pathParts, stepParts, parts}
+use Rattle.rule_spec.specs.Parts.{Part, stepped, testParts, pathParts, stepParts, parts}
 use Rattle.rule_spec.specs.Verdict as Rule
 use Rattle.evaluation_spec.specs.Buffers.{Accepted}
 
@@ -24,7 +25,7 @@ use Rattle.evaluation_spec.specs.Buffers.{Accepted}
 record Is (c : Pair) (ps : List Part) : Type 0 where
   part : Part
   among : Occurs part ps
-  same : part .sort ≡ comparison (size (c .first) + size (c .second))
+  same : part .sort ≡ stepped (size (c .first) + size (c .second))
 
 later : {c : Pair} {p : Part} {ps : List Part} → Is c ps → Is c (p ∷ ps)
 later i = record { part = i .part; among = inr (i .among); same = i .same }
@@ -59,10 +60,11 @@ mutual
   in-test (and T U) o n c h = later (split c (comparisons T) (comparisons U) _ _ (λ i. in-test T (suc o) (suc n) c i) (λ i. in-test U (suc o + length (spellTest T)) (suc n) c i) h)
   in-test (or T U) o n c h = later (split c (comparisons T) (comparisons U) _ _ (λ i. in-test T (suc o) (suc n) c i) (λ i. in-test U (suc o + length (spellTest T)) (suc n) c i) h)
   in-test (compare s P Q) o n c h =
-      ⊎-elim (λ e. record { part = record { offset = o; nesting = n; sort = comparison (size P + size Q) }; among = inl refl; same = ap comparison (sym e) })
+      ⊎-elim (λ e. record { part = record { offset = o; nesting = n; sort = stepped (size P + size Q) }; among = inl refl; same = ap stepped (sym e) })
       (λ h. later (split c (inPath P) (inPath Q) _ _ (λ i. in-path P (suc o) (suc n) c i) (λ i. in-path Q (suc o + length (spellPath P) + length (sign s)) (suc n) c i) h))
       (itself-or-inside s P Q c h)
   in-test (compareTo s P a) o n c h = later (in-path P (suc o) (suc n) c h)
+  in-test (atLeast k P) o n c h = later (in-path P (suc o + length (decimal k)) (suc n) c h)
 
   in-path : (P : XPath) (o n : ℕ) (c : Pair) → Occurs c (inPath P) → Is c (pathParts P o n)
   in-path empty o n c h = absurd h
@@ -83,7 +85,7 @@ pub few-steps : (s : List ℕ) (T : Test) → Rule.Accepts s T → (c : Pair) �
 unfolding parts
 few-steps s T a c h = let i = in-test T 0 1 c h in go (i .part) (i .same) (a .light (i .part) (i .among)) (decLt comparisonSteps (size (c .first) + size (c .second)))
   where
-    go : (p : Part) → p .sort ≡ comparison (size (c .first) + size (c .second)) → ¬ Rule.Heavy p → Dec (comparisonSteps < size (c .first) + size (c .second)) → size (c .first) + size (c .second) ≤ comparisonSteps
+    go : (p : Part) → p .sort ≡ stepped (size (c .first) + size (c .second)) → ¬ Rule.Heavy p → Dec (comparisonSteps < size (c .first) + size (c .second)) → size (c .first) + size (c .second) ≤ comparisonSteps
     go p e f (yes r) = absurd (f (size (c .first) + size (c .second), e, r))
     go p e f (no r) = omega arith
 

@@ -1,4 +1,4 @@
--- Document X of 01 and the ten rules marked on it (M), as one fact about their bytes, computed together.
+-- Document X of 01 and the ten rules marked on it (M), as one fact about their bytes, computed together; and rules that count.
 use Prim.Native.Nat.{ℕ, _<_}
 use mathlib.Core.Path.{_≡_, refl, sym, subst}
 use mathlib.Core.Logic.{_↔_}
@@ -7,7 +7,7 @@ use mathlib.Core.Option.{Option, none, some}
 use mathlib.Core.List.{List, [], _∷_, map}
 use lib.Dec.{T, eqb, ltb, ltb→lt}
 use Rattle.lists.specs.Lists.{Occurs}
-use Rattle.lists.specs.Text.{binaryDigits, digits, digitsBy}
+use Rattle.lists.specs.Text.{decimal, binaryDigits, digits, digitsBy}
 use Rattle.lists.specs.Blanks.{trim, trimEnd, trimStart}
 use Rattle.limits.specs.Limits.{scratchWords}
 use Rattle.refusals.specs.Refusals.{Refusal}
@@ -28,7 +28,7 @@ use Rattle.rule_spec.specs.Parts.{testParts, pathParts, stepParts, parts}
 use Rattle.rule_spec.specs.Parts as Parts
 use Rattle.rule_spec.specs.Spelling.{spellTest, spellPath, spellStep}
 use Rattle.rule_spec.specs.Verdict as Rule
-use Rattle.rule_spec.specs.Bytes.{isLetter, isNameByte, isPrintable}
+use Rattle.rule_spec.specs.Bytes.{isLetter, isNameByte, isDigit, isPrintable}
 use Rattle.rule_spec.specs.Machine.{Answer, read, stopped, move, rest, over}
 use Rattle.rule_spec.proofs.Machine.{answer, ruleStart}
 use Rattle.rule_spec.proofs.Begins.{answer-reads}
@@ -38,7 +38,7 @@ use Rattle.rule_spec.proofs.Earliest.{earliest, earlier}
 use Rattle.rule_spec.proofs.Accepted as Grammar
 use Rattle.rule_spec.proofs.Judged.{grounds, verdict, Judged, verdict-judged}
 use Rattle.evaluation_spec.specs.Evaluation.{Selects}
-use Rattle.evaluation_spec.specs.Marked.{Case, cases}
+use Rattle.evaluation_spec.specs.Marked.{Case, cases, counts}
 
 -- ── A test that computes ──
 abbrev occursb : ℕ → List ℕ → Bool
@@ -65,9 +65,9 @@ rightly (stopped ks o) v ms = false
 abbrev rightb : Case → Bool
 rightb c = rightly (answer ruleStart (c .rule)) (verdict (c .rule)) (c .marks)
 
-computed : T (allb rightb cases)
-unfolding verdict grounds earliest earlier unreadAt deepAt manyTestsAt manyStepsAt leastOf over move rest isLetter isNameByte isPrintable parts testParts pathParts stepParts Parts.tests spellTest spellPath spellStep comparedOf trim trimEnd trimStart amountOf wholeFrom decimalsFrom
-computed = tt
+computed : T (allb rightb cases) × T (allb rightb counts)
+unfolding verdict grounds earliest earlier unreadAt deepAt manyTestsAt manyStepsAt leastOf over move rest isLetter isNameByte isDigit isPrintable decimal digits digitsBy parts testParts pathParts stepParts Parts.tests spellTest spellPath spellStep comparedOf trim trimEnd trimStart amountOf wholeFrom decimalsFrom
+computed = (tt, tt)
 
 -- ── What it shows ──
 pub record Right (c : Case) : Type 0 where
@@ -105,16 +105,28 @@ right-by c = go (answer ruleStart (c .rule)) refl (verdict (c .rule)) (verdict-j
     go (stopped ks o) e v j h = absurd h
 
 pub right : (c : Case) → Occurs c cases → Right c
-right = each-by rightb Right right-by cases computed
+right = each-by rightb Right right-by cases (computed .0)
 
--- 01, M: each of the ten rules is accepted (`right`), and selects on document X exactly the nodes that 01 marks.
-pub marked-on-X : (c : Case) → Occurs c cases → (ns : List Node) (U : Test) → Document.Accepts textX ns → Rule.Accepts (c .rule) U
-    → (v : ℕ) → Selects ns U v ↔ Occurs v (c .marks)
-marked-on-X c o ns U a b v =
-    let r = right c o in
+pub right-count : (c : Case) → Occurs c counts → Right c
+right-count = each-by rightb Right right-by counts (computed .1)
+
+-- however X and the rule are read, the nodes selected are those that the case marks
+abbrev pub MarkedOnX : Case → Type 0
+MarkedOnX c = (ns : List Node) (U : Test) → Document.Accepts textX ns → Rule.Accepts (c .rule) U → (v : ℕ) → Selects ns U v ↔ Occurs v (c .marks)
+
+on-X : (c : Case) → Right c → MarkedOnX c
+on-X c r ns U a b v =
     let i = Library.accepts-one textX X ns accepted a in
     let j = Grammar.accepts-one (c .rule) (r .accepts) b in
     rw (← i, ← j) (λ s. r .marked v (s .0) .0 (s .1), λ m. (r .inside v m, r .marked v (r .inside v m) .1 m))
+
+-- 01, M: each of the ten rules is accepted (`right`), and selects on document X exactly the nodes that 01 marks.
+pub marked-on-X : (c : Case) → Occurs c cases → MarkedOnX c
+marked-on-X c o = on-X c (right c o)
+
+-- 02 (h): so does each of the rules that count.
+pub counted-on-X : (c : Case) → Occurs c counts → MarkedOnX c
+counted-on-X c o = on-X c (right-count c o)
 
 -- 01, buffers: N = 1, 63 and 64 need 192, 32,256 and 36,864 words.
 pub sizes : map scratchWords (1 ∷ 63 ∷ 64 ∷ []) ≡ 192 ∷ 32_256 ∷ 36_864 ∷ []

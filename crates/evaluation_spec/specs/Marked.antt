@@ -23,3 +23,17 @@ cases =
     ∷ case (bytes "(r=e)") (1 ∷ [])
     ∷ case (bytes "(.l[:name]=..r*rl)") (1 ∷ [])
     ∷ []
+
+-- 02 (h): rules that count, with the nodes that they mark on X; `+ll` reaches one node only, on two ways
+abbrev pub counts : List Case
+counts =
+    case (bytes "#0l") (0 ∷ 1 ∷ 2 ∷ 3 ∷ 4 ∷ [])
+    ∷ case (bytes "#1l") (0 ∷ 1 ∷ 3 ∷ [])
+    ∷ case (bytes "#2+ll") []
+    ∷ case (bytes "#2+lr") (1 ∷ [])
+    ∷ case (bytes "#2.l*r") (0 ∷ [])
+    ∷ case (bytes "#3*+LR") (2 ∷ 3 ∷ 4 ∷ [])
+    ∷ case (bytes "#5*+lr") (0 ∷ [])
+    ∷ case (bytes "#6*+lr") []
+    ∷ case (bytes "#1.*+lr[#2+lr]") (0 ∷ 1 ∷ [])
+    ∷ []

@@ -26,6 +26,10 @@ HIT = 7
 abbrev pub SEEN : ℕ
 SEEN = 8
 
+-- 1 where the walk of a count has found the node
+abbrev pub FOUND : ℕ
+FOUND = 9
+
 -- the work list, behind the columns of single words: a column for each position for the nodes of its entries, and one for their positions
 abbrev pub NODES : ℕ
 NODES = COLUMNS

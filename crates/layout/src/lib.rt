@@ -97,6 +97,9 @@ impl Part {
     // The positions that were come to at the node.
     pub const SEEN: usize = 8;
 
+    // 1 where the walk of a count has found the node.
+    pub const FOUND: usize = 9;
+
     // The work list behind the columns of single words: the nodes of its entries, and their positions. No node has more entries than there are positions.
     pub const NODES: usize = Table::COLUMNS;
 

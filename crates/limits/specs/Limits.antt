@@ -33,7 +33,7 @@ ruleTests = 64
 abbrev pub ruleNesting : ℕ
 ruleNesting = 32
 
--- a comparison has at most 14 steps in its paths together; with the two starts these are its positions, at most 16
+-- a comparison has at most 14 steps in its paths together, and a count, 02 (h), in its path; with the two starts these are its positions, at most 16
 abbrev pub comparisonSteps : ℕ
 comparisonSteps = 14
 
@@ -43,6 +43,10 @@ positions = comparisonSteps + 2
 -- c is 0 to 32 bytes
 abbrev pub constantBytes : ℕ
 constantBytes = 32
+
+-- 02 (h): the n of a count is 0 to 4,096
+abbrev pub ruleCount : ℕ
+ruleCount = 4096
 
 -- 02 (f): a numeral has 1 to 9 digits, and 1 to 4 behind a point
 abbrev pub numeralDigits : ℕ

@@ -2,7 +2,7 @@
 ghost use mathlib.Core.Path.{_≡_};
 ghost use Prim.Native.Nat.{_<_, _≤_};
 ghost use Rattle.lists.specs.Text.{binaryDigits};
-ghost use Rattle.limits.specs.Limits.{documentBytes, documentNodes, countDigits, depthDigits, labelBytes, valueBytes, ruleBytes, ruleTests, ruleNesting, comparisonSteps, positions, constantBytes, numeralDigits, numeralDecimals, wordsPerDigit, wordsPerNode, treeWords, partWords, wordBits, wordValues, scratchWords, programInput, programWords, programMarks};
+ghost use Rattle.limits.specs.Limits.{documentBytes, documentNodes, countDigits, depthDigits, labelBytes, valueBytes, ruleBytes, ruleTests, ruleNesting, comparisonSteps, positions, constantBytes, ruleCount, numeralDigits, numeralDecimals, wordsPerDigit, wordsPerNode, treeWords, partWords, wordBits, wordValues, scratchWords, programInput, programWords, programMarks};
 
 pub struct Document {
     pub nodes: usize,
@@ -60,6 +60,9 @@ impl Rule {
     pub const MAX_POSITIONS: usize = Rule::MAX_STEPS + 2;
 
     pub const MAX_CONSTANT: usize = 32;
+
+    // The number in a test that counts nodes.
+    pub const MAX_COUNT: usize = 4096;
 }
 
 impl Numeral {
@@ -118,6 +121,7 @@ fn rule_agrees()
     ensures { λ _. do ⌜ (← ⟦Rule::MAX_STEPS⟧ .entry) ≡ comparisonSteps ⌝ }
     ensures { λ _. do ⌜ (← ⟦Rule::MAX_POSITIONS⟧ .entry) ≡ positions ⌝ }
     ensures { λ _. do ⌜ (← ⟦Rule::MAX_CONSTANT⟧ .entry) ≡ constantBytes ⌝ }
+    ensures { λ _. do ⌜ (← ⟦Rule::MAX_COUNT⟧ .entry) ≡ ruleCount ⌝ }
 {}
 
 fn numeral_agrees()

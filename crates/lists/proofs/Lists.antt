@@ -1,4 +1,4 @@
--- Laws of All, Occurs, Distinct and Number.
+-- Laws of All, Occurs, Distinct, AtLeast and Number.
 use Prim.Native.Nat.{ℕ, zero, suc, _+_, _*_, _≤_, _<_}
 use mathlib.Core.Path.{_≡_, refl, sym, ap, ap₂, _∙_, subst}
 use mathlib.Core.Logic.{_⊎_, inl, inr, _↔_, ⊎-map, ⊎-elim, Dec·and}
@@ -7,7 +7,7 @@ use lib.ListN.{length, length-append, length-map}
 use native.Mathlib.Omega.{arith}
 use native.Mathlib.Decide.{ℕ-discrete}
 use Rattle.lists.proofs.Decide.{dec-or}
-use Rattle.lists.specs.Lists.{All, Occurs, Distinct, Number}
+use Rattle.lists.specs.Lists.{All, Occurs, Distinct, AtLeast, Number}
 
 -- ── Every element ──
 module _ {A : Type 0} (B : A → Type 0) where
@@ -144,6 +144,40 @@ module _ {A : Type 0} where
           go (yes e) = inr (subst (λ j. B j a) e b)
           go (no g) = inl (i, omega arith, b)
 
+-- ── At least so many ──
+module _ {A : Type 0} where
+  -- the first n of a list without repetition
+  first-of : (B : A → Type 0) (n : ℕ) (xs : List A) → n ≤ length xs → Distinct xs → All B xs → (h : AtLeast n B) × ((a : A) → Occurs a (h .0) → Occurs a xs)
+  first-of B zero xs l d h = (([], refl, tt, tt), λ a o. absurd o)
+  first-of B (suc n) [] l d h = absurd (omega arith)
+  first-of B (suc n) (x ∷ xs) l d h =
+      let ((ys, e, c, k), sub) = first-of B n xs (omega arith) (d .1) (h .1) in
+      ((x ∷ ys, ap suc e, (λ o. d .0 (sub x o), c), (h .0, k)), λ a o. ⊎-map (λ p. p) (sub a) o)
+
+  -- of exactly m things there are at least n if n is at most m, and only then
+  pub at-least-number : {B : A → Type 0} {n m : ℕ} → Number B m → AtLeast n B ↔ (n ≤ m)
+  at-least-number {B} {n} {m} g = (to, λ l. first-of B n (g .list) (let e = g .long in omega arith) (g .distinct) (all-occurs B (g .list) .1 (g .only)) .0)
+    where
+      to : AtLeast n B → n ≤ m
+      to (xs, e, d, h) =
+          let l = pigeon (λ (a : A). a) xs (g .list) d (λ a o. g .all a (all-occurs B xs .0 h a o)) (λ a b o p i. i) in
+          let j = g .long in
+          omega arith
+
+  pub at-least-imp : {B D : A → Type 0} {n : ℕ} → ((a : A) → B a → D a) → AtLeast n B → AtLeast n D
+  at-least-imp {B} {D} f (xs, e, d, h) = (xs, e, d, all-imp B D f xs h)
+
+  pub at-least-iff : {B D : A → Type 0} {n : ℕ} → ((a : A) → B a ↔ D a) → AtLeast n B ↔ AtLeast n D
+  at-least-iff f = (at-least-imp (λ a. f a .0), at-least-imp (λ a. f a .1))
+
+  -- at least one is some
+  pub at-least-one : {B : A → Type 0} → AtLeast 1 B ↔ ((a : A) × B a)
+  at-least-one {B} = (to, λ (a, b). (a ∷ [], refl, (λ o. o, tt), (b, tt)))
+    where
+      to : AtLeast 1 B → (a : A) × B a
+      to ([], e, d, h) = absurd (omega arith)
+      to (x ∷ xs, e, d, h) = (x, h .0)
+
 -- ── Lists of candidates ──
 unfoldable pub range : ℕ → ℕ → List ℕ
 range lo zero = []
@@ -162,6 +196,13 @@ occurs-range i lo (suc n) h g = go (ℕ-discrete i lo) (λ (q : suc lo ≤ i). o
     go : Dec (i ≡ lo) → (suc lo ≤ i → Occurs i (range (suc lo) n)) → (i ≡ lo) ⊎ Occurs i (range (suc lo) n)
     go (yes e) ih = inl e
     go (no f) ih = inr (ih (omega arith))
+
+-- of the numbers below m there are m at most
+pub at-least-below : {B : ℕ → Type 0} {n m : ℕ} → ((a : ℕ) → B a → a < m) → AtLeast n B → n ≤ m
+at-least-below {B} {n} {m} f (xs, e, d, h) =
+    let l = pigeon (λ (a : ℕ). a) xs (range 0 m) d (λ a o. let r = f a (all-occurs B xs .0 h a o) in occurs-range a 0 m (omega arith) (omega arith)) (λ a b o p i. i) in
+    let k = length-range 0 m in
+    omega arith
 
 module _ {A B : Type 0} where
   unfoldable pub prod : List A → List B → List (A × B)

@@ -221,6 +221,10 @@ pub decimal-digits : (n : ℕ) → All Digit (decimal n)
 unfolding decimal
 decimal-digits n = spell-all (digits 10 n) (digits-bounded 10 ten n)
 
+-- the first digit is the number that the others go on with
+pub reading-first : (b : ℕ) (s : List ℕ) → reading (b ∷ s) ≡ valueFrom 10 (b - 48) (map unspell s)
+reading-first b s = let e : 0 * 10 + (b - 48) ≡ b - 48 = omega arith in ap (λ n. valueFrom 10 n (map unspell s)) e
+
 pub reading-below : (s : List ℕ) → All Digit s → reading s < 10 ^ length s
 reading-below s h =
     subst (λ (j : ℕ). reading s < 10 ^ j) (length-map s unspell)

@@ -19,6 +19,10 @@ module _ {A : Type 0} where
   Distinct [] = Unit {0}
   Distinct (x ∷ xs) = (¬ Occurs x xs) × Distinct xs
 
+  -- at least n things are B: there is a list without repetition of n of them
+  abbrev pub AtLeast : ℕ → (A → Type 0) → Type 0
+  AtLeast n B = (xs : List A) × (length xs ≡ n) × Distinct xs × All B xs
+
   -- exactly n things are B: a list without repetition holds them all and nothing else, and n is its length
   pub record Number (B : A → Type 0) (n : ℕ) : Type 0 where
     pub list : List A

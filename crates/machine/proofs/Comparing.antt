@@ -5,7 +5,8 @@ use mathlib.Core.Logic.{_⊎_, inl, inr, _↔_}
 use mathlib.Core.List.{List}
 use native.Mathlib.Omega.{arith}
 use native.Mathlib.Nat.{eq-or-lt-of-le}
-use Rattle.xpath.specs.Syntax.{Op, eq, lt, le, compare, compareTo, XPath, empty}
+use Rattle.lists.proofs.Lists.{at-least-iff}
+use Rattle.xpath.specs.Syntax.{Op, eq, lt, le, compare, compareTo, atLeast, XPath, empty}
 use Rattle.xpath.specs.Tree.{Tree, WellFormed}
 use Rattle.xpath.specs.Meaning.{Reaches, Holds}
 use Rattle.xpath.proofs.Booleans.{trans}
@@ -14,7 +15,7 @@ use Rattle.positions.proofs.Chains.{first-ends, second-ends}
 use Rattle.layout.specs.Table.{RANK, SmallRanks}
 use Rattle.layout.specs.Words.{word}
 use Rattle.machine.specs.declared.Machine.{Machine}
-use Rattle.machine.specs.Walks.{Compares, Stops, Meets, Hits}
+use Rattle.machine.specs.Walks.{Compares, Stops, Meets, Hits, Several}
 use Rattle.machine.specs.Meaning.{IsMachine, Drawn, RanksTell, Judges}
 use Rattle.machine.proofs.Walking.{walk-inside, stops-ends}
 
@@ -77,3 +78,8 @@ hits-holds {P} {t} {n} {p} {m} wf machine drawn o c judges v r = (to, from)
     from (w, f, h) =
         let x = first-stops wf machine drawn v w r .1 f in let a = walk-inside r (x .2) in
         (w, a, x, judges w a .1 h)
+
+-- the count of the nodes that a path reaches, whose second path is empty too
+pub several-holds : {P : XPath} {t : Tree} {n : ℕ} {p : List ℕ} {m : Machine} → WellFormed t → IsMachine P empty m → Drawn P empty t n p
+    → (k v : ℕ) → v < n → Several m n p k v ↔ Holds t (atLeast k P) v
+several-holds {P} {t} {n} {p} {m} wf machine drawn k v r = at-least-iff (λ w. (λ (a, x). first-stops wf machine drawn v w r .0 x, λ f. let x = first-stops wf machine drawn v w r .1 f in (walk-inside r (x .2), x)))

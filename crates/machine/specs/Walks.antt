@@ -5,6 +5,7 @@ use mathlib.Core.Logic.{_≢_}
 use mathlib.Core.Bool.{true}
 use mathlib.Core.List.{List}
 use lib.ListN.{getD}
+use Rattle.lists.specs.Lists.{AtLeast}
 use Rattle.limits.specs.Limits.{positions}
 use Rattle.bits.specs.Sets.{bit}
 use Rattle.xpath.specs.Syntax.{Op, eq, ne, lt, le, gt, ge}
@@ -51,3 +52,7 @@ module _ (m : Machine) (n : ℕ) (p : List ℕ) where
   -- the comparison of the first path with a constant at v
   abbrev pub Hits : ℕ → Type 0
   Hits v = (w : ℕ) × (w < n) × Stops 0 v w × (word p n HIT w ≡ 1)
+
+  -- the first path ends at k different nodes or more from v
+  abbrev pub Several : ℕ → ℕ → Type 0
+  Several k v = AtLeast k (λ w. (w < n) × Stops 0 v w)

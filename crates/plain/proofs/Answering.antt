@@ -1,9 +1,10 @@
 -- The loop that answers node after node.
 use Prim.Native.Nat.{ℕ, _+_, _≤_, _<_}
 use mathlib.Core.Path.{_≡_, refl, sym, _∙_, subst}
-use mathlib.Core.Logic.{_⊎_, inl, inr, _↔_}
+use mathlib.Core.Logic.{_⊎_, inl, inr, ⊎-map, _↔_}
 use mathlib.Core.Bool.{Bool, true, false}
 use mathlib.Core.List.{List, [], _∷_}
+use lib.ListN.{length}
 use native.Mathlib.Decide.{ℕ-discrete}
 use native.Mathlib.Omega.{arith}
 use Rattle.bits.specs.Sets.{one}
@@ -39,3 +40,7 @@ answers-step {n} {i} {A} {p} {p₁} {p₂} b l g s t w = record { done = λ v r.
 
 pub answers-all : {n i : ℕ} {A : ℕ → Type 0} {p₀ p : List ℕ} → n ≤ i → Held n p₀ p → Answers n A i p → Answered n A p₀ p
 answers-all l h g = record { long = h .middle .long; answers = λ v r. g .done v (omega arith) }
+
+-- the same answers, said otherwise, of a part that was as long
+pub answered-from : {n : ℕ} {A B : ℕ → Type 0} {p p₁ p₂ : List ℕ} → length p₁ ≡ length p → ((v : ℕ) → v < n → A v ↔ B v) → Answered n A p₁ p₂ → Answered n B p p₂
+answered-from e same a = record { long = a .long ∙ e; answers = λ v l. ⊎-map (λ (h, z). (same v l .0 h, z)) (λ (h, z). (λ b. h (same v l .1 b), z)) (a .answers v l) }

@@ -15,7 +15,7 @@ use Rattle.rank_sets.proofs.Steady.{held-back, held-at, held-word}
 
 module _ {m : Machine} {n : ℕ} {p p′ : List ℕ} (h : Held n p p′) where
   stops-on : {i v w : ℕ} → v < n → Stops m n p i v w → Stops m n p′ i v w
-  stops-on r (j, b, s) = (j, b, walk-same (held-at h) r s)
+  stops-on r (j, b, s) = (j, b, walk-same (λ k l q. held-at h k l (omega arith)) r s)
 
 module _ {m : Machine} {n : ℕ} {p p′ : List ℕ} (h : Held n p p′) where
   pub stops-same : {i v w : ℕ} → v < n → Stops m n p i v w ↔ Stops m n p′ i v w

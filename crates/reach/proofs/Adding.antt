@@ -4,9 +4,10 @@ use mathlib.Core.Path.{_≡_, refl, _∙_}
 use mathlib.Core.Logic.{_⊎_, inl, inr, ⊎-elim, ⊎-map, _↔_}
 use mathlib.Core.List.{List}
 use lib.ListN.{getD}
+use native.Mathlib.Nat.{mul-le-mul-right}
 use native.Mathlib.Omega.{arith}
 use Rattle.layout.specs.Part.{SEEN, Space}
-use Rattle.layout.proofs.Frames.{same-none, same-then}
+use Rattle.layout.proofs.Frames.{same-none, same-then, same-wider}
 use Rattle.reach.specs.Work.{Seen, Work, Spared, Added}
 
 -- ── What stays as it was ──
@@ -15,6 +16,12 @@ spared-none n d p = record { same = same-none p }
 
 pub spared-then : {n d : ℕ} {p q r : List ℕ} → Spared n d p q → Spared n d q r → Spared n d p r
 spared-then f g = record { same = same-then (f .same) (g .same) }
+
+-- fewer columns are spared too
+pub spared-fewer : {n c d : ℕ} {p q : List ℕ} → c ≤ d → Spared n d p q → Spared n c p q
+spared-fewer {n} {c} {d} l f =
+    let x : c * n ≤ d * n = mul-le-mul-right n l in
+    record { same = same-wider (λ k. ⊎-map (λ h. h) (λ (r, h). (r, omega arith))) (f .same) }
 
 module _ {n d : ℕ} {p q : List ℕ} (s : Spared n d p q) where
   pub spared-front : (k : ℕ) → k < SEEN * n → getD q k 0 ≡ getD p k 0

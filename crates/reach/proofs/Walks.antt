@@ -6,7 +6,7 @@ use mathlib.Core.List.{List}
 use native.Mathlib.Omega.{arith}
 use lib.ListN.{getD}
 use Rattle.bits.specs.Sets.{bit}
-use Rattle.layout.specs.Part.{STAYS, SEEN}
+use Rattle.layout.specs.Part.{STAYS, HIT}
 use Rattle.layout.specs.Table.{LEFT}
 use Rattle.layout.specs.Words.{cell}
 use Rattle.machine.specs.declared.Machine.{Machine}
@@ -18,8 +18,8 @@ pub walk-on : {m : Machine} {n : ℕ} {p : List ℕ} {i v j u k w : ℕ} → Wal
 walk-on here h b l = on h b l here
 walk-on (on g a s r) h b l = on g a s (walk-on r h b l)
 
--- the columns from LEFT up to SEEN hold all that a step goes by
-module _ {m : Machine} {n : ℕ} {p p′ : List ℕ} (same : (k : ℕ) → LEFT * n ≤ k → k < SEEN * n → getD p′ k 0 ≡ getD p k 0) where
+-- the columns from LEFT up to HIT hold all that a step goes by
+module _ {m : Machine} {n : ℕ} {p p′ : List ℕ} (same : (k : ℕ) → LEFT * n ≤ k → k < HIT * n → getD p′ k 0 ≡ getD p k 0) where
   pub leads-same : {v j u : ℕ} → v < n → Leads m n p v j u → Leads m n p′ v j u
   leads-same h (left a e l) = left a (same _ (omega arith) (omega arith) ∙ e) l
   leads-same h (right a e l) = right a (same _ (omega arith) (omega arith) ∙ e) l

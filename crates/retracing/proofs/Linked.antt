@@ -8,7 +8,7 @@ use native.Mathlib.Omega.{arith}
 use lib.ListN.{getD}
 use Rattle.xpath.specs.Syntax.{XPath}
 use Rattle.xpath.specs.Tree.{Tree, Child}
-use Rattle.layout.specs.Part.{SEEN}
+use Rattle.layout.specs.Part.{HIT}
 use Rattle.layout.specs.Table.{LEFT, PARENT, column}
 use Rattle.layout.specs.Words.{NONE, word}
 use Rattle.table.specs.Links.{Points}
@@ -29,7 +29,7 @@ linked-drawn {t = t} {n = n} {p = p} drawn = record { left = back true; right = 
     back : (side : Bool) (v u : ℕ) → v < n → u < n → word p n (column side) v ≡ u → word p n PARENT u ≡ v
     back side v u r l e = above v u (drawn .parents u l) side (child side v u l (drawn .children side v r) e)
 
-pub linked-same : {n : ℕ} {p p′ : List ℕ} → ((k : ℕ) → LEFT * n ≤ k → k < SEEN * n → getD p′ k 0 ≡ getD p k 0) → LinkedBothWays n p → LinkedBothWays n p′
+pub linked-same : {n : ℕ} {p p′ : List ℕ} → ((k : ℕ) → LEFT * n ≤ k → k < HIT * n → getD p′ k 0 ≡ getD p k 0) → LinkedBothWays n p → LinkedBothWays n p′
 linked-same same g =
     record {
       left = λ v u r l e. same _ (omega arith) (omega arith) ∙ g .left v u r l (sym (same _ (omega arith) (omega arith)) ∙ e);

@@ -9,12 +9,12 @@ use native.Mathlib.Nat.{mul-le-mul-right}
 use native.Mathlib.Omega.{arith}
 use lib.ListN.{length, getD}
 use Rattle.bits.specs.Sets.{bit}
-use Rattle.layout.specs.Part.{SEEN, NODES, POSITIONS}
+use Rattle.layout.specs.Part.{SEEN, POSITIONS}
 use Rattle.layout.specs.Sweeps.{LEAST, ABOVE}
 use Rattle.layout.specs.Words.{cell, word}
 use Rattle.layout.proofs.Frames.{frame-none, frame-then}
-use Rattle.reach.specs.Work.{Seen, Has, nodeOf, Work}
-use Rattle.reach.proofs.Totals.{total-same}
+use Rattle.reach.specs.Work.{nodeOf, Work}
+use Rattle.reach.proofs.Keeping.{Untouched, untouched-beside, untouched-node, untouched-set, untouched-has, untouched-work}
 use Rattle.retracing.specs.Backward.{OfEntry, OfEntries}
 use Rattle.retracing.specs.Notes.{Paired, PutIf, put, skip, Noted, Notes}
 
@@ -106,41 +106,23 @@ module _ {n c x : ℕ} {A B : ℕ → Type 0} {p q : List ℕ} (paired : Paired 
   pub notes-front : (k : ℕ) → k < LEAST * n → getD q k 0 ≡ getD p k 0
   notes-front k h = let l = low in g .frame .front k (omega arith)
 
-  notes-behind : (k : ℕ) → NODES * n ≤ k → getD q k 0 ≡ getD p k 0
-  notes-behind k h = let l = high in g .frame .behind k (omega arith)
-
   pub notes-seen : (v : ℕ) → v < n → word q n SEEN v ≡ word p n SEEN v
   notes-seen v l = notes-front (cell n SEEN v) (omega arith)
 
+  untouched : Untouched n p q
+  untouched = let l = low in let h = high in untouched-beside (g .frame) (omega arith) (omega arith)
+
   pub notes-node : (k : ℕ) → nodeOf q n k ≡ nodeOf p n k
-  notes-node k = notes-behind (cell n NODES k) (omega arith)
+  notes-node = untouched-node untouched
 
   pub notes-set : (k : ℕ) → word q n POSITIONS k ≡ word p n POSITIONS k
-  notes-set k = notes-behind (cell n POSITIONS k) (omega arith)
-
-  has-after : (k j : ℕ) → Has p n k j → Has q n k j
-  has-after k j h = ap (λ (y : ℕ). bit y j) (notes-set k) ∙ h
-
-  has-before : (k j : ℕ) → Has q n k j → Has p n k j
-  has-before k j h = ap (λ (y : ℕ). bit y j) (sym (notes-set k)) ∙ h
+  notes-set = untouched-set untouched
 
   notes-entry : (i k v : ℕ) → OfEntry q n i k v ↔ OfEntry p n i k v
-  notes-entry i k v = (λ (e, h). (e ∙ notes-node k, has-before k i h), λ (e, h). (e ∙ sym (notes-node k), has-after k i h))
+  notes-entry i k v = (λ (e, h). (e ∙ notes-node k, untouched-has untouched k i .0 h), λ (e, h). (e ∙ sym (notes-node k), untouched-has untouched k i .1 h))
 
   pub notes-work : {len : ℕ} → Work n len p → Work n len q
-  notes-work w =
-      record {
-        space = record { some = w .space .some; few = w .space .few; room = let r = w .space .room in let e = g .frame .long in omega arith };
-        nodes = λ k l. subst (λ (y : ℕ). y < n) (sym (notes-node k)) (w .nodes k l);
-        told = λ k j l h b.
-            ap (λ (y : ℕ). bit y j) (notes-seen (nodeOf q n k) (subst (λ (y : ℕ). y < n) (sym (notes-node k)) (w .nodes k l)))
-            ∙ subst (λ (y : ℕ). Seen p n y j) (sym (notes-node k)) (w .told k j l h (has-before k j b));
-        listed = λ u j l h s.
-            let (k, r, e, b) = w .listed u j l h (ap (λ (y : ℕ). bit y j) (sym (notes-seen u l)) ∙ s) in
-            (k, r, notes-node k ∙ e, has-after k j b);
-        once = λ k l j h r s e a b. w .once k l j h r s (sym (notes-node k) ∙ e ∙ notes-node l) (has-before k j a) (has-before l j b);
-        count = let z = w .count in let e = total-same p q n n (λ v l d. notes-seen v l) n (omega arith) (omega arith) in omega arith;
-      }
+  notes-work = untouched-work untouched
 
 -- ── The loop ──
 -- the entries from a up to h are noted

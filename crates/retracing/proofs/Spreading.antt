@@ -21,14 +21,14 @@ use Rattle.retracing.proofs.Linked.{linked-same}
 -- ── What an addition leaves ──
 module _ {R : ℕ → ℕ → Type 0} {n d a b : ℕ} {p q : List ℕ} (g : Added R n d a b p q) where
   pub added-linked : LinkedBothWays n p → LinkedBothWays n q
-  added-linked = linked-same (λ k l h. spared-front (g .spared) k h)
+  added-linked = linked-same (λ k l h. spared-front (g .spared) k (omega arith))
 
   module _ {m : Machine} where
     leads-before : {v j u : ℕ} → v < n → Leads m n q v j u → Leads m n p v j u
-    leads-before = leads-same (λ k l h. sym (spared-front (g .spared) k h))
+    leads-before = leads-same (λ k l h. sym (spared-front (g .spared) k (omega arith)))
 
     leads-after : {v j u : ℕ} → v < n → Leads m n p v j u → Leads m n q v j u
-    leads-after = leads-same (λ k l h. spared-front (g .spared) k h)
+    leads-after = leads-same (λ k l h. spared-front (g .spared) k (omega arith))
 
     -- what comes to an entry that was there
     before-old : (k v i : ℕ) → k < a → v < n → Before m n q k v i → Before m n p k v i
@@ -99,7 +99,7 @@ module _ {m : Machine} {n w set len a h end : ℕ} {p p₁ p′ : List ℕ} (g :
   backing-all = added-into to from (added-then g (b .grown))
     where
       again : (v i : ℕ) → v < n → Towards m n p₁ w set v i → Towards m n p w set v i
-      again v i l (j, e, s) = (j, e, walk-same (λ k r q. sym (spared-front (g .spared) k q)) l s)
+      again v i l (j, e, s) = (j, e, walk-same (λ k r q. sym (spared-front (g .spared) k (omega arith))) l s)
 
       seed : (v i : ℕ) → At w set v i → Towards m n p w set v i
       seed v i (z, e) = (i, e, subst (λ (x : ℕ). Walk m n p i v i x) z here)
@@ -109,4 +109,4 @@ module _ {m : Machine} {n w set len a h end : ℕ} {p p₁ p′ : List ℕ} (g :
       to v i l q (inr y) = ⊎-elim (λ s. ⊎-map (λ s. s) (seed v i) (g .seen v i l q .0 s)) (λ s. inr (again v i l s)) (b .sound v i l q y)
 
       from : (v i : ℕ) → v < n → i < 16 → Towards m n p w set v i → Seen p′ n v i
-      from v i l q (j, e, s) = walked (walk-same (λ k r q. spared-front (g .spared) k q) l s) l q refl e
+      from v i l q (j, e, s) = walked (walk-same (λ k r q. spared-front (g .spared) k (omega arith)) l s) l q refl e

@@ -1,4 +1,4 @@
--- What a tally tells of the parts of a rule: the first test too many, and the first comparison of too many steps.
+-- What a tally tells of the parts of a rule: the first test too many, and the first comparison or count of too many steps.
 use Prim.Native.Nat.{ℕ, zero, suc, _≤_, _<_, min}
 use native.Mathlib.Omega.{arith, min-cases}
 use native.Mathlib.Nat.{le-refl}
@@ -33,7 +33,7 @@ crowded-stays (p ∷ ps) c h n = go (p .sort) (λ m. crowded-stays ps c m n)
 
     go : (x : Sort) → ((m : ℕ) → tallied (tally 0 c m) ps .crowded ≡ c) → tallied (noted (tally 0 c h) (p .offset) x) ps .crowded ≡ c
     go Sort.test ih = still ih h
-    go (Sort.comparison m) ih = still ih (heavier h (p .offset) m)
+    go (Sort.stepped m) ih = still ih (heavier h (p .offset) m)
     go Sort.path ih = ih h
 
 pub crowded-is : (ps : List Part) (l h : ℕ) → All (λ p. p .offset < nowhere) ps → tallied (tally l nowhere h) ps .crowded ≡ firstOr nowhere (drop l (tests ps))
@@ -47,11 +47,11 @@ crowded-is (p ∷ ps) l h a = go (p .sort) l (λ m k. crowded-is ps m k (a .1))
 
     go : (x : Sort) (l : ℕ) → ((m k : ℕ) → tallied (tally m nowhere k) ps .crowded ≡ firstOr nowhere (drop m (tests ps)))
         → tallied (noted (tally l nowhere h) (p .offset) x) ps .crowded
-        ≡ firstOr nowhere (drop l (elim x [ Sort.test ↦ p ∷ tests ps | Sort.comparison m ↦ p ∷ tests ps | Sort.path ↦ tests ps ]))
+        ≡ firstOr nowhere (drop l (elim x [ Sort.test ↦ p ∷ tests ps | Sort.stepped m ↦ p ∷ tests ps | Sort.path ↦ tests ps ]))
     go Sort.test zero ih = crowded-stays ps (p .offset) h now
     go Sort.test (suc l) ih = ih l h
-    go (Sort.comparison m) zero ih = crowded-stays ps (p .offset) (heavier h (p .offset) m) now
-    go (Sort.comparison m) (suc l) ih = ih l (heavier h (p .offset) m)
+    go (Sort.stepped m) zero ih = crowded-stays ps (p .offset) (heavier h (p .offset) m) now
+    go (Sort.stepped m) (suc l) ih = ih l (heavier h (p .offset) m)
     go Sort.path l ih = ih l h
 
 pub test-occurs : (p : Part) (ps : List Part) → Occurs p (tests ps) → Occurs p ps
@@ -59,14 +59,14 @@ unfolding tests
 test-occurs p [] o = o
 test-occurs p (q ∷ ps) o = go (q .sort) (test-occurs p ps) o
   where
-    go : (x : Sort) → (Occurs p (tests ps) → Occurs p ps) → Occurs p (elim x [ Sort.test ↦ q ∷ tests ps | Sort.comparison m ↦ q ∷ tests ps | Sort.path ↦ tests ps ])
+    go : (x : Sort) → (Occurs p (tests ps) → Occurs p ps) → Occurs p (elim x [ Sort.test ↦ q ∷ tests ps | Sort.stepped m ↦ q ∷ tests ps | Sort.path ↦ tests ps ])
         → Occurs p (q ∷ ps)
     go Sort.test ih o = ⊎-map (λ e. e) ih o
-    go (Sort.comparison m) ih o = ⊎-map (λ e. e) ih o
+    go (Sort.stepped m) ih o = ⊎-map (λ e. e) ih o
     go Sort.path ih o = inr (ih o)
 
 -- ── Steps ──
--- m is the least of h and of the places of comparisons of too many steps
+-- m is the least of h and of the places of comparisons and counts of too many steps
 pub record Lowest (h : ℕ) (ps : List Part) (m : ℕ) : Type 0 where
   pub below : m ≤ h
   pub first : (p : Part) → Occurs p ps → Heavy p → m ≤ p .offset
@@ -109,14 +109,14 @@ module _ (p : Part) where
   unfolding noted weighed
   lowest-one t = go (p .sort) refl
     where
-      weigh : (m : ℕ) → p .sort ≡ Sort.comparison m → (b : Bool) → leb m comparisonSteps ≡ b → Lowest (t .heavy) (p ∷ []) (choose b (t .heavy) (min (t .heavy) (p .offset)))
+      weigh : (m : ℕ) → p .sort ≡ Sort.stepped m → (b : Bool) → leb m comparisonSteps ≡ b → Lowest (t .heavy) (p ∷ []) (choose b (t .heavy) (min (t .heavy) (p .offset)))
       weigh m e true l = light (t .heavy) (λ (k, f, w). let i : m ≡ k = cc in let j = leb-true m comparisonSteps l in omega arith)
       weigh m e false l = heavy (t .heavy) (m, e, leb-false m comparisonSteps l)
 
       go : (x : Sort) → p .sort ≡ x → Lowest (t .heavy) (p ∷ []) (noted t (p .offset) x .heavy)
       go Sort.test e =
           subst (Lowest (t .heavy) (p ∷ [])) (sym (begun-heavy t (p .offset))) (light (t .heavy) (λ (k, f, w). let z : _≡_ {A = ℕ} 0 1 = cc in omega arith))
-      go (Sort.comparison m) e =
+      go (Sort.stepped m) e =
           subst (λ h. Lowest (t .heavy) (p ∷ []) (heavier h (p .offset) m)) (sym (begun-heavy t (p .offset))) (weigh m e (leb m comparisonSteps) refl)
       go Sort.path e = light (t .heavy) (λ (k, f, w). let z : _≡_ {A = ℕ} 0 1 = cc in omega arith)
 

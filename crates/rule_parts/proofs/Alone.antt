@@ -18,7 +18,7 @@ use Rattle.tokens.specs.Tallies.{tally, tallied}
 use Rattle.tokens.specs.Readers.{partsOf, Back, Reading}
 use Rattle.tokens.proofs.Places.{at-end}
 use Rattle.rule_parts.specs.Standing.{Spans, TestAt}
-use Rattle.rule_parts.proofs.Count.{left-is, count-test}
+use Rattle.rule_parts.proofs.Tallying.{left-is, count-test}
 use Rattle.rule_parts.proofs.Determined.{not-stuck, not-deep, same-end, test-returns}
 
 -- ── The text up to the end of a part ──

@@ -3,7 +3,7 @@ use Prim.Native.Nat.{ℕ, suc}
 use native.Mathlib.Omega.{arith}
 use mathlib.Core.Path.{_≡_, refl, sym, ap, ap₂, _∙_, subst}
 use mathlib.Core.List.{List, [], _∷_, _++_, map, map-append}
-use Rattle.xpath.specs.Syntax.{Test, named, not, and, or, compare, compareTo, XPath, empty, one, seq, union, star, Step, toLeft, toRight, fromLeft, fromRight, stay}
+use Rattle.xpath.specs.Syntax.{Test, named, not, and, or, compare, compareTo, atLeast, XPath, empty, one, seq, union, star, Step, toLeft, toRight, fromLeft, fromRight, stay}
 use Rattle.rule_spec.specs.Parts.{Part, testParts, pathParts, stepParts}
 use Rattle.rule_spec.specs.Readers.{keys}
 use Rattle.tokens.specs.Readers.{Shallow}
@@ -34,6 +34,7 @@ mutual
   test-deeper (or T U) o n = behind _ (beside (test-deeper T (suc o) (suc n)) (test-deeper U _ (suc n)))
   test-deeper (compare s P Q) o n = behind _ (beside (path-deeper P (suc o) (suc n)) (path-deeper Q _ (suc n)))
   test-deeper (compareTo s P c) o n = behind _ (path-deeper P (suc o) (suc n))
+  test-deeper (atLeast k P) o n = behind _ (path-deeper P _ (suc n))
 
   path-deeper : (P : XPath) (o n : ℕ) → Above (pathParts P o (suc n)) (pathParts P o n)
   path-deeper empty o n = behind _ none

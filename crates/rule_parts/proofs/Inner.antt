@@ -1,13 +1,14 @@
 -- Where the inner parts of a test or a path stand.
-use Prim.Native.Nat.{ℕ, suc, _+_}
+use Prim.Native.Nat.{ℕ, suc, _+_, _≤_}
 use native.Mathlib.Omega.{arith}
 use mathlib.Core.Path.{_≡_, refl, sym, ap, _∙_, subst}
 use mathlib.Core.List.{List, [], _∷_, _++_, map-append, append-assoc, append-nil}
 use lib.ListN.{length, drop, length-append}
 use lib.Seq.{drop-at, drop-drop, drop-length}
-use Rattle.lists.specs.Text.{bytes}
+use Rattle.limits.specs.Limits.{ruleCount}
+use Rattle.lists.specs.Text.{bytes, decimal}
 use Rattle.lists.proofs.Lists.{all-append, all-occurs, all-map}
-use Rattle.xpath.specs.Syntax.{Op, Test, not, and, or, compare, compareTo, XPath, empty, one, seq, union, star, toLeft, toRight, fromLeft, fromRight, stay}
+use Rattle.xpath.specs.Syntax.{Op, Test, not, and, or, compare, compareTo, atLeast, XPath, empty, one, seq, union, star, toLeft, toRight, fromLeft, fromRight, stay}
 use Rattle.rule_spec.specs.Spelling.{sign, spellTest, spellPath, spellStep, Constant, LegalTest, LegalPath, LegalStep}
 use Rattle.rule_spec.specs.Parts.{Part, parts, testParts, pathParts, stepParts}
 use Rattle.rule_spec.specs.Verdict.{Accepts}
@@ -130,6 +131,16 @@ module _ (s : List ℕ) where
         a .legal .1,
         t,
       )
+
+  -- ── Counts ──
+  -- # at i, n behind it, and then P up to the end
+  pub count-inner : {n : ℕ} {P : XPath} {i j : ℕ} → TestAt s (atLeast n P) i j
+      → (n ≤ ruleCount) × Spans s (bytes "#") i (i + 1) × Spans s (decimal n) (i + 1) (i + 1 + length (decimal n)) × PathAt s P (i + 1 + length (decimal n)) j
+  unfolding spellTest LegalTest testParts
+  count-inner {n} {P} a =
+      let (m, r) = spans-split (bytes "#") (decimal n ++ spellPath P) (a .spans) in
+      let (d, p) = spans-split (decimal n) (spellPath P) r in
+      (a .legal .0, m, d, record { legal = a .legal .1; shallow = path-moved P (omega arith) (a .shallow .1); spans = p })
 
   -- ── Paths ──
   pub star-inner : {P : XPath} {i j : ℕ} → PathAt s (star P) i j → PathAt s P (i + 1) j

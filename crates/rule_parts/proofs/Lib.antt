@@ -3,5 +3,6 @@ pub mod Deeper
 pub mod Inner
 pub mod Told
 pub mod Alone
-pub mod Count
+pub mod Tallying
 pub mod Sides
+pub mod Counts

@@ -5,7 +5,7 @@ use mathlib.Core.Path.{_≡_, sym, ap, subst}
 use mathlib.Core.List.{List, _++_}
 use lib.ListN.{length}
 use Rattle.lists.specs.Text.{bytes}
-use Rattle.xpath.specs.Syntax.{Op, eq, ne, lt, le, gt, ge, Test, named, not, and, or, compare, compareTo, XPath}
+use Rattle.xpath.specs.Syntax.{Op, eq, ne, lt, le, gt, ge, Test, named, not, and, or, compare, compareTo, atLeast, XPath}
 use Rattle.rule_spec.specs.Spelling.{sign}
 use Rattle.rule_parts.specs.declared.Middle.{Middle}
 use Rattle.rule_parts.specs.declared.kinds.Sign.{Sign}
@@ -38,6 +38,7 @@ module _ (s : List ℕ) (i : ℕ) {m : ℕ} (ends : (P : XPath) (j : ℕ) → Pa
   no-room l (or T U) j h x = tt
   no-room l (compare o P Q) j h x = let (a, b, k, p, g, q, r) = compare-inner s h in let z = inside p g in absurd (omega arith)
   no-room l (compareTo o P c) j h x = let (a, b, p, g, c, r) = compareTo-inner s h in let z = inside p g in absurd (omega arith)
+  no-room l (atLeast n P) j h x = tt
 
   -- ── And is read ──
   module _ (x : Sign) (told : (o : Op) (j : ℕ) → SignAt s o m j → x ≡ signed o j) where
@@ -60,3 +61,4 @@ module _ (s : List ℕ) (i : ℕ) {m : ℕ} (ends : (P : XPath) (j : ℕ) → Pa
     parted (compareTo o P c) j h =
         let (a, b, p, g, l, r) = compareTo-inner s h in let (f, n) = here p g in
         (f, subst (λ d. Spans s (bytes "\"" ++ (c ++ bytes "\")")) d j) (sym n) r)
+    parted (atLeast n P) j h = tt

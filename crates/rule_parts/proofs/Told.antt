@@ -8,12 +8,12 @@ use lib.ListN.{length, getD, drop}
 use lib.Seq.{drop-cons}
 use lib.Dec.{eqb}
 use borrow.Author.Tests.{ne-eqb}
-use Rattle.xpath.specs.Syntax.{Op, eq, ne, lt, le, gt, ge, Test, named, not, and, or, compare, compareTo, XPath, empty, one, seq, union, star, toLeft, toRight, fromLeft, fromRight, stay}
+use Rattle.xpath.specs.Syntax.{Op, eq, ne, lt, le, gt, ge, Test, named, not, and, or, compare, compareTo, atLeast, XPath, empty, one, seq, union, star, toLeft, toRight, fromLeft, fromRight, stay}
 use Rattle.rule_spec.specs.Spelling.{sign, spellTest, spellPath, spellStep}
 use Rattle.rule_spec.proofs.Reading.{Begun}
 use Rattle.rule_spec.specs.Bytes.{choose}
 use Rattle.rule_parts.specs.declared.kinds.TestKind.{TestKind}
-use Rattle.rule_parts.specs.declared.kinds.TestKind.the-variants.{Named, Not, And, Or, Comparison}
+use Rattle.rule_parts.specs.declared.kinds.TestKind.the-variants.{Named, Not, And, Or, Comparison, Count}
 use Rattle.rule_parts.specs.declared.kinds.PathKind.{PathKind}
 use Rattle.rule_parts.specs.declared.kinds.PathKind.the-variants.{Empty, ToLeft, ToRight, FromLeft, FromRight, Stay, Seq, Union, Star}
 use Rattle.rule_parts.specs.declared.kinds.Operator.{Operator}
@@ -24,7 +24,7 @@ use Rattle.rule_parts.specs.Standing.{Spans, TestAt, PathAt, SignAt}
 use Rattle.rule_parts.specs.Kinds.{testKind, pathKind, signed, longer, shorter}
 
 abbrev pub testBy : ℕ → TestKind
-testBy b = choose (eqb b 58) Named (choose (eqb b 33) Not (choose (eqb b 38) And (choose (eqb b 124) Or Comparison)))
+testBy b = choose (eqb b 58) Named (choose (eqb b 33) Not (choose (eqb b 38) And (choose (eqb b 124) Or (choose (eqb b 35) Count Comparison))))
 
 abbrev pub pathBy : ℕ → PathKind
 pathBy b =
@@ -35,8 +35,8 @@ pathBy b =
     (choose (eqb b 82) FromRight (choose (eqb b 91) Stay (choose (eqb b 46) Seq (choose (eqb b 43) Union Star)))))))
 
 -- no other byte begins one
-pub test-rest : (b : ℕ) → b ≢ 58 → b ≢ 33 → b ≢ 38 → b ≢ 124 → Comparison ≡ testBy b
-test-rest b p q r t = rw (ne-eqb b 58 p, ne-eqb b 33 q, ne-eqb b 38 r, ne-eqb b 124 t) refl
+pub test-rest : (b : ℕ) → b ≢ 58 → b ≢ 33 → b ≢ 38 → b ≢ 124 → b ≢ 35 → Comparison ≡ testBy b
+test-rest b p q r t u = rw (ne-eqb b 58 p, ne-eqb b 33 q, ne-eqb b 38 r, ne-eqb b 124 t, ne-eqb b 35 u) refl
 
 pub path-rest : (b : ℕ) → b ≢ 101 → b ≢ 108 → b ≢ 114 → b ≢ 76 → b ≢ 82 → b ≢ 91 → b ≢ 46 → b ≢ 43 → Star ≡ pathBy b
 path-rest b p q r t u v w x =
@@ -56,6 +56,7 @@ test-told (and T U) = (38, _, refl, refl)
 test-told (or T U) = (124, _, refl, refl)
 test-told (compare o P Q) = (40, _, refl, refl)
 test-told (compareTo o P c) = (40, _, refl, refl)
+test-told (atLeast n P) = (35, _, refl, refl)
 
 path-told : (P : XPath) → Begun (λ b. pathBy b ≡ pathKind P) (spellPath P)
 unfolding spellPath spellStep

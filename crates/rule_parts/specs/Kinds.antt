@@ -1,10 +1,10 @@
 -- The kinds of tests and paths, and the signs.
 use Prim.Native.Nat.{ℕ}
 use lib.Dec.{eqb}
-use Rattle.xpath.specs.Syntax.{Op, eq, ne, lt, le, gt, ge, Test, named, not, and, or, compare, compareTo, XPath, empty, one, seq, union, star, toLeft, toRight, fromLeft, fromRight, stay}
+use Rattle.xpath.specs.Syntax.{Op, eq, ne, lt, le, gt, ge, Test, named, not, and, or, compare, compareTo, atLeast, XPath, empty, one, seq, union, star, toLeft, toRight, fromLeft, fromRight, stay}
 use Rattle.rule_spec.specs.Bytes.{choose}
 use Rattle.rule_parts.specs.declared.kinds.TestKind.{TestKind}
-use Rattle.rule_parts.specs.declared.kinds.TestKind.the-variants.{Named, Not, And, Or, Comparison}
+use Rattle.rule_parts.specs.declared.kinds.TestKind.the-variants.{Named, Not, And, Or, Comparison, Count}
 use Rattle.rule_parts.specs.declared.kinds.PathKind.{PathKind}
 use Rattle.rule_parts.specs.declared.kinds.PathKind.the-variants.{Empty, ToLeft, ToRight, FromLeft, FromRight, Stay, Seq, Union, Star}
 use Rattle.rule_parts.specs.declared.kinds.Operator.{Operator}
@@ -18,6 +18,7 @@ testKind (and T U) = And
 testKind (or T U) = Or
 testKind (compare o P Q) = Comparison
 testKind (compareTo o P c) = Comparison
+testKind (atLeast n P) = Count
 
 abbrev pub pathKind : XPath → PathKind
 pathKind empty = Empty

@@ -13,6 +13,7 @@ pub enum TestKind {
     And,
     Or,
     Comparison,
+    Count,
 }
 
 pub enum PathKind {
@@ -53,6 +54,7 @@ pub fn test_kind(s: &[u8], at: usize) -> TestKind
         b'!' => TestKind::Not,
         b'&' => TestKind::And,
         b'|' => TestKind::Or,
+        b'#' => TestKind::Count,
         _ => TestKind::Comparison,
     }
 }

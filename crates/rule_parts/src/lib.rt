@@ -5,15 +5,16 @@ use kinds::Operator;
 use kinds::read_sign;
 use rule_readers::readers::read_path;
 use rule_readers::readers::read_test;
+use tokens::figures;
 use tokens::read::Read;
 use tokens::read::Tally;
 ghost use mathlib.Core.Path.{_≡_};
 ghost use Prim.Native.Nat.{ℕ, _≤_, _<_};
 ghost use lib.ListN.{length};
-ghost use Rattle.xpath.specs.Syntax.{Test, XPath};
+ghost use Rattle.xpath.specs.Syntax.{Test, XPath, atLeast};
 ghost use Rattle.rule_spec.specs.Parts.{tests, testParts};
 ghost use Rattle.rule_parts.specs.Standing.{TestAt, PathAt};
-ghost use Rattle.rule_parts.specs.Middles.{Parted};
+ghost use Rattle.rule_parts.specs.Middles.{Parted, Counted};
 
 // Only the offset is asked for, so the tally may be any.
 const UNTOLD: Tally = Tally {
@@ -93,5 +94,23 @@ pub fn parted(s: &[u8], at: usize) -> Middle
         operator: Operator::Equal,
         sign: m,
         second: m,
+    }
+}
+
+// The number in a count, and where its path begins.
+pub struct Count {
+    pub nodes: usize,
+    pub path: usize,
+}
+
+// The number and the path of the count that stands at an offset; of another test it says nothing.
+pub fn counted(s: &[u8], at: usize) -> Count
+    requires { ⌜ at < length (now s) ⌝ }
+    ensures { λ r. ⌜ ((n : ℕ) (P : XPath) (j : ℕ) → TestAt (now (s .entry)) (atLeast n P) at j → Counted (now (s .entry)) n P j r) ⌝ }
+{
+    let f = figures(s, at + 1);
+    Count {
+        nodes: f.value,
+        path: f.next,
     }
 }

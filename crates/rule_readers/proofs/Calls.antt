@@ -4,7 +4,7 @@ use mathlib.Core.List.{List}
 use lib.ListN.{length}
 use Rattle.limits.specs.Limits.{ruleNesting}
 use Rattle.tokens.specs.declared.heads.TestHead.{TestHead}
-use Rattle.tokens.specs.declared.heads.TestHead.the-variants.{Name, Not, TwoTests, Comparison, NoTest, DeepTest}
+use Rattle.tokens.specs.declared.heads.TestHead.the-variants.{Name, Not, TwoTests, Comparison, Count, NoTest, DeepTest}
 use Rattle.tokens.specs.declared.heads.PathHead.{PathHead}
 use Rattle.tokens.specs.declared.heads.PathHead.the-variants.{Empty, Step, Bracket, TwoPaths, Star, NoPath, DeepPath}
 use Rattle.tokens.specs.Readers.{Stands}
@@ -29,6 +29,7 @@ TestRoom s i n k Name = Room s i n k
 TestRoom s i n k Not = Room s i n k
 TestRoom s i n k TwoTests = Room s i n k
 TestRoom s i n k Comparison = Room s i n k
+TestRoom s i n k Count = Room s i n k
 TestRoom s i n k NoTest = Unit {0}
 TestRoom s i n k DeepTest = Unit {0}
 
@@ -47,6 +48,7 @@ module _ {s : List ℕ} {i n k : ℕ} (p : Due s i n k) where
   test-room Not b = room p b
   test-room TwoTests b = room p b
   test-room Comparison b = room p b
+  test-room Count b = room p b
   test-room NoTest b = tt
   test-room DeepTest b = tt
 

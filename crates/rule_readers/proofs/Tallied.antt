@@ -1,4 +1,4 @@
--- Laws of tallies: what `begin` and `weigh` compute, and a comparison that is weighed when it ends.
+-- Laws of tallies: what `begin` and `weigh` compute, and a comparison or a count that is weighed when it ends.
 use Prim.Native.Nat.{ℕ, zero, suc, _-_, _≤_, _<_, min}
 use native.Mathlib.Omega.{arith}
 use mathlib.Core.Path.{_≡_, refl, sym, ap, _∙_}
@@ -76,10 +76,10 @@ weighed-swap t o m p l = ap (λ h. tally (t .left) (t .crowded) h) (heavier-swap
 noted-weighed : (t : Tally) (o m p : ℕ) (x : Sort) → noted (weighed t o m) p x ≡ weighed (noted t p x) o m
 unfolding noted
 noted-weighed t o m p Sort.test = begun-weighed t o m p
-noted-weighed t o m p (Sort.comparison l) = ap (λ u. weighed u p l) (begun-weighed t o m p) ∙ weighed-swap (begun t p) o m p l
+noted-weighed t o m p (Sort.stepped l) = ap (λ u. weighed u p l) (begun-weighed t o m p) ∙ weighed-swap (begun t p) o m p l
 noted-weighed t o m p Sort.path = refl
 
--- a comparison weighed behind its parts is weighed as it would be before them
+-- what is weighed behind its parts is weighed as it would be before them
 pub weighed-last : (ps : List Part) (t : Tally) (o m : ℕ) → weighed (tallied t ps) o m ≡ tallied (weighed t o m) ps
 unfolding tallied
 weighed-last [] t o m = refl

@@ -12,8 +12,8 @@ module _ (s : List ℕ) where
     pub nested : n ≤ suc ruleNesting
     pub few : k ≤ i
 
-  -- a comparison of nesting n opens at i
-  pub record Opened (i n k : ℕ) : Type 0 where
-    pub bracket : Stands s i 40
+  -- a comparison or a count of nesting n opens at i with the byte b
+  pub record Opened (b i n k : ℕ) : Type 0 where
+    pub opens : Stands s i b
     pub nested : n ≤ ruleNesting
     pub few : k ≤ i

@@ -1,5 +1,5 @@
 // The readers of tests and paths call each other, and what is left of the rule falls.
-// Each is given the offset, the nesting, the steps of the comparison so far, and the tally.
+// Each is given the offset, the nesting, the steps of the comparison or count so far, and the tally.
 use crate::tally::begin;
 use crate::tally::weigh;
 use tokens::Sign;
@@ -10,6 +10,7 @@ use tokens::heads::TestHead;
 use tokens::heads::path_head;
 use tokens::heads::test_head;
 use tokens::name;
+use tokens::number;
 use tokens::read::Read;
 use tokens::read::Tally;
 use tokens::read_sign;
@@ -35,6 +36,7 @@ pub fn read_test(s: &[u8], at: usize, n: usize, k: usize, t: Tally) -> Read
             read_test(s, j, n + 1, l, v)
         }
         TestHead::Comparison => comparison(s, at, n, k, t),
+        TestHead::Count => count(s, at, n, k, t),
         TestHead::NoTest => Read::Stuck(at),
         TestHead::DeepTest => Read::Deep(at),
     }
@@ -42,7 +44,7 @@ pub fn read_test(s: &[u8], at: usize, n: usize, k: usize, t: Tally) -> Read
 
 // A comparison from its opening bracket on; its steps are counted from 0.
 fn comparison(s: &[u8], at: usize, n: usize, k: usize, t: Tally) -> Read
-    requires { ⌜ Opened (now s) at n k ⌝ }
+    requires { ⌜ Opened (now s) 40 at n k ⌝ }
     ensures { λ r. ⌜ Reading (now (s .entry)) (test n) at k t r ⌝ }
 {
     let p = read_path(s, at + 1, n + 1, 0, begin(t, at));
@@ -54,6 +56,22 @@ fn comparison(s: &[u8], at: usize, n: usize, k: usize, t: Tally) -> Read
         return q;
     };
     Read::Behind(i, k, weigh(v, at, m))
+}
+
+// A count from its # on; its steps are counted from 0.
+fn count(s: &[u8], at: usize, n: usize, k: usize, t: Tally) -> Read
+    requires { ⌜ Opened (now s) 35 at n k ⌝ }
+    ensures { λ r. ⌜ Reading (now (s .entry)) (test n) at k t r ⌝ }
+{
+    let d = number(s, at + 1, 0, begin(t, at));
+    let Read::Behind(i, l, u) = d else {
+        return d;
+    };
+    let p = read_path(s, i, n + 1, l, u);
+    let Read::Behind(j, m, v) = p else {
+        return p;
+    };
+    Read::Behind(j, k, weigh(v, at, m))
 }
 
 fn signed_operand(s: &[u8], at: usize, n: usize, k: usize, t: Tally) -> Read

@@ -1,4 +1,4 @@
-// How the readers keep a tally of the tests and comparisons that they pass, for numbers 8 and 9.
+// How the readers keep a tally of the tests, comparisons and counts that they pass, for numbers 8 and 9.
 use limits::Rule;
 use tokens::read::Tally;
 ghost use mathlib.Core.Path.{_≡_};
@@ -28,7 +28,7 @@ pub fn begin(t: Tally, at: usize) -> Tally
     t
 }
 
-// A comparison that began here ends. An inner one ends before, and begins behind.
+// A comparison or a count that began here ends. An inner one ends before, and begins behind.
 pub fn weigh(t: Tally, at: usize, steps: usize) -> Tally
     ensures { λ r. ⌜ r ≡ weighed t at steps ⌝ }
 {

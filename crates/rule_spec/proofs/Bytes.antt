@@ -1,4 +1,4 @@
--- What the tests say that compute: choices, comparisons, and the bytes of names and constants.
+-- What the tests say that compute: choices, comparisons, and the bytes of names, constants and numbers.
 use Prim.Native.Nat.{ℕ, _≤_, _<_}
 use native.Mathlib.Omega.{arith}
 use mathlib.Core.Path.{_≡_, refl, ap}
@@ -6,11 +6,16 @@ use mathlib.Core.Logic.{_⊎_, inl, inr, _↔_}
 use mathlib.Core.Bool.{Bool, true, false}
 use lib.Dec.{eqb, leb, ltb}
 use borrow.Author.Tests.{leb-true, le-leb, ltb-true, lt-ltb, eqb-true, eq-eqb}
-use Rattle.lists.specs.Text.{Printable, Letter, NameByte}
-use Rattle.rule_spec.specs.Bytes.{choose, both, either, between, isLetter, isNameByte, isPrintable}
+use Rattle.lists.specs.Text.{Printable, Letter, Digit, NameByte}
+use Rattle.rule_spec.specs.Bytes.{choose, both, either, between, isLetter, isNameByte, isDigit, isPrintable}
 
 pub clash : {A : Type 0} → false ≡ true → A
 clash e = let z : _≡_ {A = ℕ} 0 1 = ap (λ t. choose t 1 0) e in absurd (omega arith)
+
+-- a test fails where what it tests does not hold
+pub is-false : {A : Type 0} (t : Bool) → (t ≡ true) ↔ A → ¬ A → t ≡ false
+is-false true p f = absurd (f (p .0 refl))
+is-false false p f = refl
 
 -- each says what it tests
 pub both-iff : {A B : Type 0} (a b : Bool) → (a ≡ true) ↔ A → (b ≡ true) ↔ B → (both a b ≡ true) ↔ (A × B)
@@ -48,6 +53,10 @@ letter-iff b = between-iff 97 122 b
 pub printable-iff : (b : ℕ) → (isPrintable b ≡ true) ↔ Printable b
 unfolding isPrintable
 printable-iff b = between-iff 0x20 0x7e b
+
+pub digit-iff : (b : ℕ) → (isDigit b ≡ true) ↔ Digit b
+unfolding isDigit
+digit-iff b = between-iff 48 57 b
 
 pub nameByte-iff : (b : ℕ) → (isNameByte b ≡ true) ↔ NameByte b
 unfolding isNameByte

@@ -32,6 +32,18 @@ module _ {R X : Type 0} (end : State R → X) (stop : List Key → ℕ → X) wh
   pub ends-as : {E : List Key → X → Type 0} {x : Symbol} {new new′ : List Key} {o : ℕ} {w w′ : List ℕ} → new ≡ new′ → w ≡ w′ → Ends end stop E x new o w → Ends end stop E x new′ o w′
   ends-as {E} {x} {new} {new′} {o} {w} {w′} p q c = subst₂ (λ ls z. Ends end stop E x ls o z) p q c
 
+  -- ── What is left empty ──
+  -- before r the machine leaves x with the value v, and goes on with what stands below it
+  abbrev pub Leaves : (x : Symbol) → Value x → List ℕ → Type 0
+  Leaves x v r = (st : Stack) (f : Values (x ∷ st) → R) (ks : List Key) (o : ℕ) → goes end stop (x ∷ st) f ks o r ≡ goes end stop st (λ t. f (v, t)) ks o r
+
+  pub leaves-byte : (x : Symbol) (v : Value x) (b : ℕ) (w : List ℕ) → ((st : Stack) → move (x ∷ st) b ≡ Option·map (pass (λ t. (v, t))) (move st b)) → Leaves x v (b ∷ w)
+  unfolding over
+  leaves-byte x v b w e st f ks o = rw (e st, passes (x ∷ st) st (λ t. (v, t)) f ks o (move st b))
+
+  pub leaves-comes : {x : Symbol} {v : Value x} {r : List ℕ} → Leaves x v r → (o : ℕ) → Comes end stop x v [] o r o r
+  leaves-comes {x} {v} {r} l o = record { comes = λ st f ks. l st f ks o ∙ ap (λ ls. goes end stop st (λ t. f (v, t)) ls o r) (sym (append-nil ks)) }
+
   -- ── One byte ──
   -- one byte of x, behind which the symbols of front are due
   module _ (x : Symbol) (b : ℕ) (m : Option ℕ) where

@@ -4,14 +4,14 @@ use mathlib.Core.Path.{_≡_, refl, subst}
 use mathlib.Core.Option.{Option, none, some}
 use mathlib.Core.List.{List, [], _∷_, _++_, map, head-eq-of-cons-eq, tail-eq-of-cons-eq}
 use Rattle.lists.specs.Lists.{All}
-use Rattle.lists.specs.Text.{bytes}
+use Rattle.lists.specs.Text.{bytes, digitsBy, digits, decimal}
 use Rattle.refusals.specs.Refusals.{Refusal, ruleLength, unreadable, nesting, tests, steps}
 use Rattle.xpath.specs.Syntax.{Test, named, compare, eq, seq, star, one, toLeft, toRight, stay}
 use Rattle.rule_spec.specs.Spelling.{spellTest, spellPath, spellStep}
 use Rattle.rule_spec.specs.Parts.{testParts, pathParts, stepParts, parts}
 use Rattle.rule_spec.specs.Parts as Parts
 use Rattle.rule_spec.specs.Verdict.{Reads, Accepts}
-use Rattle.rule_spec.specs.Bytes.{isLetter, isNameByte, isPrintable}
+use Rattle.rule_spec.specs.Bytes.{isLetter, isNameByte, isDigit, isPrintable}
 use Rattle.rule_spec.specs.Machine.{move, rest, over, read}
 use Rattle.rule_spec.specs.Readers.{keys}
 use Rattle.rule_spec.proofs.Machine.{answer, ruleStart}
@@ -26,9 +26,15 @@ abbrev times : ℕ → List ℕ → List ℕ
 times zero u = []
 times (suc n) u = u ++ times n u
 
--- one step after the other: suc n of them
+-- one step after the other, suc n of them: as a path, in a comparison and in a count
+abbrev descent : ℕ → List ℕ
+descent n = times n (bytes ".") ++ times (suc n) (bytes "l")
+
 abbrev walk : ℕ → List ℕ
-walk n = bytes "(" ++ (times n (bytes ".") ++ (times n (bytes "l") ++ bytes "l=e)"))
+walk n = bytes "(" ++ (descent n ++ bytes "=e)")
+
+abbrev count : ℕ → List ℕ
+count n = bytes "#1" ++ descent n
 
 abbrev session : List ℕ
 session = bytes "(.l[:name]=..r*rl)"
@@ -54,11 +60,22 @@ examples =
     ∷ (bytes "!" ++ (times 21 (bytes "&!:a") ++ bytes ":a"), some (tests 85))
     ∷ (times 1024 (bytes "x"), some (unreadable 0))
     ∷ (times 1025 (bytes "x"), some ruleLength)
+    ∷ (bytes "#", some (unreadable 1))
+    ∷ (bytes "#01e", some (unreadable 2))
+    ∷ (bytes "#4097e", some (unreadable 4))
+    ∷ (bytes "#0e", none)
+    ∷ (bytes "#4096e", none)
+    ∷ (times 30 (bytes "!") ++ bytes "#1e", none)
+    ∷ (times 31 (bytes "!") ++ bytes "#10e", some (nesting 34))
+    ∷ (count 13, none)
+    ∷ (count 14, some (steps 0))
+    ∷ (bytes "&" ++ (count 14 ++ walk 14), some (steps 1))
+    ∷ (bytes "&" ++ (walk 14 ++ count 14), some (steps 1))
     ∷ []
 
 -- ── All of them computed ──
 computed : map (λ x. verdict (x .0)) examples ≡ map (λ x. x .1) examples
-unfolding verdict grounds earliest earlier unreadAt deepAt manyTestsAt manyStepsAt leastOf over move rest isLetter isNameByte isPrintable parts testParts pathParts stepParts Parts.tests spellTest spellPath spellStep
+unfolding verdict grounds earliest earlier unreadAt deepAt manyTestsAt manyStepsAt leastOf over move rest isLetter isNameByte isDigit isPrintable decimal digits digitsBy parts testParts pathParts stepParts Parts.tests spellTest spellPath spellStep
 computed = refl
 
 each-judged : (xs : List (List ℕ × Option Refusal)) → map (λ x. verdict (x .0)) xs ≡ map (λ x. x .1) xs → All (λ x. Judged (x .0) (x .1)) xs

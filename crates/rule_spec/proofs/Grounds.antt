@@ -27,12 +27,12 @@ use Rattle.rule_spec.proofs.Least.{Settles, Least, leastOf, least-exist
 
 abbrev isHeavy : Sort → Bool
 isHeavy Sort.test = false
-isHeavy (Sort.comparison m) = ltb comparisonSteps m
+isHeavy (Sort.stepped m) = ltb comparisonSteps m
 isHeavy Sort.path = false
 
-heavy-iff : (x : Sort) → (isHeavy x ≡ true) ↔ ((m : ℕ) × (x ≡ Sort.comparison m) × (comparisonSteps < m))
+heavy-iff : (x : Sort) → (isHeavy x ≡ true) ↔ ((m : ℕ) × (x ≡ Sort.stepped m) × (comparisonSteps < m))
 heavy-iff Sort.test = (λ e. clash e, λ h. let e = h .1 in let z : _≡_ {A = ℕ} 0 1 = cc in absurd (omega arith))
-heavy-iff (Sort.comparison m) = (λ e. (m, refl, ltb-true comparisonSteps m e), λ h. let e = h .1 in let i : m ≡ h .0 = cc in lt-ltb comparisonSteps m (let l = h .2 in omega arith))
+heavy-iff (Sort.stepped m) = (λ e. (m, refl, ltb-true comparisonSteps m e), λ h. let e = h .1 in let i : m ≡ h .0 = cc in lt-ltb comparisonSteps m (let l = h .2 in omega arith))
 heavy-iff Sort.path = (λ e. clash e, λ h. let e = h .1 in let z : _≡_ {A = ℕ} 0 1 = cc in absurd (omega arith))
 
 abbrev place : Part → ℕ

@@ -7,7 +7,7 @@ use mathlib.Core.Logic.{_⊎_, inl, inr}
 use mathlib.Core.List.{List, [], _∷_, _++_}
 use Rattle.lists.specs.Lists.{Occurs}
 use Rattle.lists.proofs.Lists.{occurs-left, occurs-right, occurs-append}
-use Rattle.xpath.specs.Syntax.{Test, named, not, and, or, compare, compareTo, XPath, empty, one, seq, union, star, Step, toLeft, toRight, fromLeft, fromRight, stay}
+use Rattle.xpath.specs.Syntax.{Test, named, not, and, or, compare, compareTo, atLeast, XPath, empty, one, seq, union, star, Step, toLeft, toRight, fromLeft, fromRight, stay}
 use Rattle.rule_spec.specs.Parts.{Part, testParts, pathParts, stepParts}
 
 -- from n on, no nesting is left out
@@ -42,6 +42,7 @@ mutual
   climb-test (or T U) o n = inside _ refl (beside _ _ (climb-test T (suc o) (suc n)) (climb-test U _ (suc n)))
   climb-test (compare s P Q) o n = inside _ refl (beside _ _ (climb-path P (suc o) (suc n)) (climb-path Q _ (suc n)))
   climb-test (compareTo s P c) o n = inside _ refl (climb-path P (suc o) (suc n))
+  climb-test (atLeast k P) o n = inside _ refl (climb-path P _ (suc n))
 
   climb-path : (P : XPath) (o n : ℕ) → Climbs n (pathParts P o n)
   climb-path empty o n = inside _ refl (none (suc n))

@@ -1,22 +1,27 @@
 -- For a reader that goes along a rule as the machine does: what it may conclude where it is done, where it stops, and where a part is too deep.
-use Prim.Native.Nat.{ℕ, zero, suc, _≤_}
+use Prim.Native.Nat.{ℕ, zero, suc, _+_, _≤_}
 use native.Mathlib.Omega.{arith}
 use native.Mathlib.Nat.{le-refl}
 use mathlib.Core.Path.{_≡_, refl, sym, ap, _∙_, subst}
 use mathlib.Core.Logic.{inl, _≢_}
+use mathlib.Core.Bool.{false}
 use mathlib.Core.Option.{none}
 use mathlib.Core.List.{List, [], _∷_, _++_, append-nil}
+use lib.ListN.{length}
 use Rattle.limits.specs.Limits.{ruleNesting}
 use Rattle.lists.specs.Lists.{All}
+use Rattle.lists.specs.Numerals.{reading}
 use Rattle.lists.proofs.Lists.{all-occurs, all-append, all-imp, occurs-left, occurs-right}
 use Rattle.xpath.specs.Syntax.{Test}
 use Rattle.rule_spec.specs.Verdict.{Reads, Unreadable, TooDeep}
 use Rattle.rule_spec.specs.Readers.{Returns, Ends, Stop, Meet, Unnamed}
-use Rattle.rule_spec.specs.Machine.{Symbol, Stack, test, tail, Values, move, rest, State, state, over, stopped, closing, close, Key}
+use Rattle.rule_spec.specs.Machine.{Symbol, Stack, test, tail, number, figures, goesOn, move, rest, State, state, over, stopped, closing, close, Key}
 use Rattle.rule_spec.proofs.Machine.{answer, ruleStart}
 use Rattle.rule_spec.proofs.Begins.{answer-reads}
-use Rattle.rule_spec.proofs.Comes.{passes}
-use Rattle.rule_spec.proofs.Unique.{pops-unnamed}
+use Rattle.rule_spec.proofs.Comes.{Leaves, leaves-byte, leaves-comes}
+use Rattle.rule_spec.proofs.Figures.{Number}
+use Rattle.rule_spec.proofs.Reading.{number-stops, take-number}
+use Rattle.rule_spec.proofs.Unique.{leaves-end, pops-unnamed}
 use Rattle.rule_spec.proofs.Runs.{grows-last, seenOf, answer-seen}
 use Rattle.rule_spec.proofs.Grounds.{known, Known, unreadAt, unread-settles, start, depth, Deep, deep-iff}
 use Rattle.rule_spec.proofs.Least.{Least}
@@ -30,20 +35,32 @@ Fails x new o w j = Ends {R = Test} close stopped (Stop {R = Test} close stopped
 abbrev pub Meets : Symbol → List Key → ℕ → List ℕ → Key → Type 0
 Meets x new o w k = Ends {R = Test} close stopped (Meet {R = Test} close stopped k) x new o w
 
--- ── The end of a name, and of the text ──
-ended : (i o : ℕ) (w : List ℕ)
-    → ((st : Stack) (f : Values (tail i ∷ st) → Test) (ks : List Key) → answer (state (tail i ∷ st) f ks o) w ≡ answer (state st (λ v. f ([], v)) ks o) w)
-    → Returns (tail i) [] [] o w o w
-ended i o w e = record { comes = λ st f ks. e st f ks ∙ ap (λ ls. answer (state st (λ v. f ([], v)) ls o) w) (sym (append-nil ks)) }
-
+-- ── The end of a name, of a number, and of the text ──
 -- a name ends where no byte of a name follows, and where it is full
 pub name-ends : (i o : ℕ) (w : List ℕ) → Unnamed w → Returns (tail i) [] [] o w o w
-name-ends i o w h = ended i o w (λ st f ks. pops-unnamed w h i st f ks o)
+name-ends i o w h = leaves-comes close stopped (pops-unnamed w h i) o
 
 pub name-full : (o : ℕ) (w : List ℕ) → Returns (tail zero) [] [] o w o w
-unfolding over move
+unfolding move
 name-full o [] = name-ends zero o [] tt
-name-full o (b ∷ w) = ended zero o (b ∷ w) (λ st f ks. rw (passes (tail zero ∷ st) st (λ v. ([], v)) f ks o (move st b)))
+name-full o (b ∷ w) = leaves-comes close stopped (leaves-byte close stopped (tail zero) [] b w (λ st. refl)) o
+
+-- a number ends where no digit follows that goes on with it
+abbrev pub Complete : ℕ → List ℕ → Type 0
+Complete m [] = Unit {0}
+Complete m (b ∷ w) = goesOn m b ≡ false
+
+leaves-complete : (m : ℕ) (w : List ℕ) → Complete m w → Leaves {R = Test} close stopped (figures m) [] w
+unfolding rest
+leaves-complete m [] h = leaves-end (figures m) [] (λ st. refl)
+leaves-complete m (b ∷ w) h = number-stops close stopped m b w h
+
+pub number-ends : (m o : ℕ) (w : List ℕ) → Complete m w → Returns (figures m) [] [] o w o w
+number-ends m o w h = leaves-comes close stopped (leaves-complete m w h) o
+
+-- all of a number at once
+pub number-returns : (bs : List ℕ) (o : ℕ) (r : List ℕ) → Number bs → Complete (reading bs) r → Returns number bs [] o (bs ++ r) (o + length bs) r
+number-returns bs o r l h = take-number close stopped bs l .takes o r (leaves-complete (reading bs) r h)
 
 pub end-fails : {x : Symbol} {o : ℕ} → ((st : Stack) → rest (x ∷ st) ≡ none) → Fails x [] o [] o
 unfolding over

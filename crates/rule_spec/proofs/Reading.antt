@@ -1,25 +1,28 @@
 -- The machine reads what is spelled: from a symbol on top of a stack it comes back to the stack, with the value and its parts.
-use Prim.Native.Nat.{ℕ, zero, suc, _+_, _≤_}
+use Prim.Native.Nat.{ℕ, zero, suc, _+_, _-_, _*_, _≤_}
 use native.Mathlib.Omega.{arith}
 use mathlib.Core.Path.{_≡_, refl, sym, ap, _∙_, subst}
 use mathlib.Core.Logic.{inl, inr, _≢_}
 use mathlib.Core.Bool.{true, false}
 use mathlib.Core.Option.{Option, none, some}
-use mathlib.Core.List.{List, [], _∷_, _++_, map-append, append-assoc, append-nil}
+use mathlib.Core.List.{List, [], _∷_, _++_, map, map-append, append-assoc, append-nil}
 use lib.Dec.{eqb}
 use borrow.Author.Tests.{eq-eqb, ne-eqb}
 use lib.ListN.{length, length-append}
 use Rattle.lists.specs.Lists.{All}
-use Rattle.lists.specs.Text.{bytes, Printable, NameByte}
+use Rattle.lists.specs.Text.{bytes, Printable, NameByte, decimal}
+use Rattle.lists.specs.Numerals.{valueFrom, reading}
+use Rattle.lists.proofs.Numerals.{reading-first, reading-decimal}
 use Rattle.limits.specs.Names.{Name}
-use Rattle.xpath.specs.Syntax.{Op, eq, ne, lt, le, gt, ge, Test, named, not, and, or, compare, compareTo, XPath, empty, one, seq, union, star, Step, toLeft, toRight, fromLeft, fromRight, stay, size}
+use Rattle.xpath.specs.Syntax.{Op, eq, ne, lt, le, gt, ge, Test, named, not, and, or, compare, compareTo, atLeast, XPath, empty, one, seq, union, star, Step, toLeft, toRight, fromLeft, fromRight, stay, size}
 use Rattle.rule_spec.specs.Spelling.{sign, spellTest, spellPath, spellStep, Constant, LegalTest, LegalPath, LegalStep}
 use Rattle.rule_spec.specs.Parts.{Part, Sort, testParts, pathParts, stepParts}
 use Rattle.rule_spec.specs.Readers.{key, keys, spellOperand, goes, Comes}
-use Rattle.rule_spec.specs.Bytes.{choose, isNameByte}
-use Rattle.rule_spec.specs.Machine.{Symbol, test, path, byte, label, tail, quoted, signed, orEqual, operand, Stack, Operand, Value, Values, comparing, move, State, over, Key}
+use Rattle.rule_spec.specs.Bytes.{choose, isNameByte, isDigit}
+use Rattle.rule_spec.specs.Machine.{Symbol, test, path, byte, label, tail, quoted, number, figures, signed, orEqual, operand, Stack, Operand, Value, Values, comparing, goesOn, move, State, over, Key}
 use Rattle.rule_spec.proofs.Bytes.{letter-iff, nameByte-iff, printable-iff}
-use Rattle.rule_spec.proofs.Comes.{passes, fresh, comes-as, comes-none, comes-one, comes-two}
+use Rattle.rule_spec.proofs.Comes.{passes, fresh, comes-as, Leaves, leaves-byte, leaves-comes, comes-none, comes-one, comes-two}
+use Rattle.rule_spec.proofs.Figures.{Figures, Number, number-decimal}
 
 -- a list that begins with a byte that is B
 abbrev pub Begun : (ℕ → Type 0) → List ℕ → Type 0
@@ -33,22 +36,23 @@ test-head (and T U) = (38, _, refl, refl)
 test-head (or T U) = (124, _, refl, refl)
 test-head (compare o P Q) = (40, _, refl, refl)
 test-head (compareTo o P c) = (40, _, refl, refl)
+test-head (atLeast k P) = (35, _, refl, refl)
 
--- a path begins neither as a constant nor as the second byte of a sign
-abbrev OfPath : ℕ → Type 0
-OfPath b = (eqb b 34 ≡ false) × (eqb b 61 ≡ false)
+-- a path begins neither as a constant nor as the second byte of a sign, and with no digit
+abbrev pub OfPath : ℕ → Type 0
+OfPath b = (eqb b 34 ≡ false) × (eqb b 61 ≡ false) × (isDigit b ≡ false)
 
-path-head : (P : XPath) → Begun OfPath (spellPath P)
-unfolding spellPath spellStep
-path-head empty = (101, _, refl, (refl, refl))
-path-head (one toLeft) = (108, _, refl, (refl, refl))
-path-head (one toRight) = (114, _, refl, (refl, refl))
-path-head (one fromLeft) = (76, _, refl, (refl, refl))
-path-head (one fromRight) = (82, _, refl, (refl, refl))
-path-head (one (stay T)) = (91, _, refl, (refl, refl))
-path-head (seq P Q) = (46, _, refl, (refl, refl))
-path-head (union P Q) = (43, _, refl, (refl, refl))
-path-head (star P) = (42, _, refl, (refl, refl))
+pub path-head : (P : XPath) → Begun OfPath (spellPath P)
+unfolding spellPath spellStep isDigit
+path-head empty = (101, _, refl, (refl, refl, refl))
+path-head (one toLeft) = (108, _, refl, (refl, refl, refl))
+path-head (one toRight) = (114, _, refl, (refl, refl, refl))
+path-head (one fromLeft) = (76, _, refl, (refl, refl, refl))
+path-head (one fromRight) = (82, _, refl, (refl, refl, refl))
+path-head (one (stay T)) = (91, _, refl, (refl, refl, refl))
+path-head (seq P Q) = (46, _, refl, (refl, refl, refl))
+path-head (union P Q) = (43, _, refl, (refl, refl, refl))
+path-head (star P) = (42, _, refl, (refl, refl, refl))
 
 operand-head : (w : Operand) → Begun (λ b. eqb b 61 ≡ false) (spellOperand w)
 operand-head (inl P) = let (b, u, e, h) = path-head P in (b, u ++ bytes ")", ap (λ x. x ++ bytes ")") e, h .1)
@@ -80,16 +84,23 @@ noParts o = []
 module _ {R X : Type 0} (end : State R → X) (stop : List Key → ℕ → X) where
   -- behind a name the machine forgets that the name could go on
   abbrev pub Pops : List ℕ → Type 0
-  Pops r = (i : ℕ) (st : Stack) (f : Values (tail i ∷ st) → R) (ks : List Key) (o : ℕ)
-      → goes end stop (tail i ∷ st) f ks o r ≡ goes end stop st (λ v. f ([], v)) ks o r
+  Pops r = (i : ℕ) → Leaves end stop (tail i) [] r
 
   pub pops-byte : (b : ℕ) (w : List ℕ) → isNameByte b ≡ false → Pops (b ∷ w)
-  unfolding over move
-  pops-byte b w e zero st f ks o = rw (passes (tail zero ∷ st) st (λ v. ([], v)) f ks o (move st b))
-  pops-byte b w e (suc i) st f ks o = rw (e, passes (tail (suc i) ∷ st) st (λ v. ([], v)) f ks o (move st b))
+  unfolding move
+  pops-byte b w e zero = leaves-byte end stop (tail zero) [] b w (λ st. refl)
+  pops-byte b w e (suc i) = leaves-byte end stop (tail (suc i)) [] b w (λ st. rw e)
 
   pub pops-test : (T : Test) (r : List ℕ) → Pops (spellTest T ++ r)
   pops-test T r = let (b, u, e, h) = test-head T in rw e (pops-byte b (u ++ r) h)
+
+  -- behind a number, where no digit goes on with it, the machine forgets that one could
+  pub number-stops : (m b : ℕ) (w : List ℕ) → goesOn m b ≡ false → Leaves end stop (figures m) [] (b ∷ w)
+  unfolding move
+  number-stops m b w e = leaves-byte end stop (figures m) [] b w (λ st. rw e)
+
+  number-path : (m : ℕ) (P : XPath) (r : List ℕ) → Leaves end stop (figures m) [] (spellPath P ++ r)
+  number-path m P r = let (b, u, e, h) = path-head P in rw e (number-stops m b (u ++ r) (rw (h .2)))
 
   -- over w the machine comes from x back with the value v and the parts p, if what comes behind is Ok
   pub record Takes (Ok : List ℕ → Type 0) (x : Symbol) (v : Value x) (w : List ℕ) (p : ℕ → List Part) : Type 0 where
@@ -128,11 +139,13 @@ module _ {R X : Type 0} (end : State R → X) (stop : List Key → ℕ → X) wh
   unfolding move
   take-byte c = lead (byte c) c none tt (λ st. rw (eq-eqb c c refl))
 
+  -- nothing is read of what may be left
+  take-none : {Ok : List ℕ → Type 0} (x : Symbol) (v : Value x) → ((r : List ℕ) → Ok r → Leaves end stop x v r) → Takes Ok x v [] noParts
+  take-none x v l = record { takes = λ o r q. comes-as end stop refl refl (omega arith) (leaves-comes end stop (l r q) o) }
+
   take-tail : (bs : List ℕ) (i : ℕ) → All NameByte bs → length bs ≤ i → Takes Pops (tail i) bs bs noParts
   unfolding move
-  take-tail [] i a h = record {
-    takes = λ o r q. comes-as end stop refl refl (omega arith) (record { comes = λ st f ks. q i st f ks o ∙ ap (λ ls. goes end stop st (λ t. f ([], t)) ls o r) (sym (append-nil ks)) });
-  }
+  take-tail [] i a h = take-none (tail i) [] (λ r q. q i)
   take-tail (b ∷ bs) zero a h = absurd (omega arith)
   take-tail (b ∷ bs) (suc i) a h = lead-one (tail (suc i)) b none (tail i) (λ v. b ∷ v) (λ st. rw (nameByte-iff b .1 (a .0))) (take-tail bs i (a .1) (omega arith))
 
@@ -148,6 +161,27 @@ module _ {R X : Type 0} (end : State R → X) (stop : List Key → ℕ → X) wh
   take-quoted (b ∷ c) zero a h = absurd (omega arith)
   take-quoted (b ∷ c) (suc i) a h =
       lead-one (quoted (suc i)) b none (quoted i) (λ v. b ∷ v) (λ st. rw (ne-eqb b 34 (a .0 .1), printable-iff b .1 (a .0 .0))) (take-quoted c i (a .1) (omega arith))
+
+  -- ── Numbers ──
+  take-figures : (bs : List ℕ) (m : ℕ) → Figures m bs → Takes (Leaves end stop (figures (valueFrom 10 m (map (λ b. b - 48) bs))) []) (figures m) bs bs noParts
+  unfolding move
+  take-figures [] m l = take-none (figures m) [] (λ r q. q)
+  take-figures (b ∷ bs) m l = lead-one (figures m) b none (figures (m * 10 + (b - 48))) (λ v. b ∷ v) (λ st. rw (l .0)) (take-figures bs (m * 10 + (b - 48)) (l .1))
+
+  -- over the digits of a number, behind which none goes on with it
+  pub take-number : (bs : List ℕ) → Number bs → Takes (Leaves end stop (figures (reading bs)) []) number bs bs noParts
+  unfolding move
+  take-number [] l = absurd l
+  take-number (b ∷ bs) l =
+      rw (reading-first b bs) (lead-one number b none (figures (b - 48)) (λ v. b ∷ v) (λ st. rw (l .0)) (take-figures bs (b - 48) (l .1)))
+
+  take-count : (ds : List ℕ) (P : XPath) (n : ℕ) {p : ℕ → List Part} → Number ds → Takes Any (path (suc n)) P (spellPath P) p
+      → Takes Pops (test n) (atLeast (reading ds) P) (bytes "#" ++ (ds ++ spellPath P)) (λ o. marks (some (n, Sort.stepped (size P))) o ++ p (suc o + length ds))
+  unfolding move
+  take-count ds P n d l =
+      recast (λ r q. tt) (λ o. refl)
+      (lead-two (test n) 35 (some (n, Sort.stepped (size P))) number (path (suc n)) (λ ds P. atLeast (reading ds) P) (λ st. refl) (take-number ds d) l
+      (λ r q. number-path (reading ds) P r))
 
   -- ── Comparisons ──
   take-constant : (n : ℕ) (c : List ℕ) → Constant c → Takes Any (operand n) (inr c) (spellOperand (inr c)) noParts
@@ -203,11 +237,11 @@ module _ {R X : Type 0} (end : State R → X) (stop : List Key → ℕ → X) wh
 
   take-compare : (P : XPath) (s : Op) (w : Operand) (m n : ℕ) {p q : ℕ → List Part} → Takes Any (path (suc n)) P (spellPath P) p → Takes Any (operand (suc n)) w (spellOperand w) q
       → Takes Pops (test n) (comparing P s w) (bytes "(" ++ (spellPath P ++ (sign s ++ spellOperand w)))
-      (λ o. marks (some (n, Sort.comparison m)) o ++ (p (suc o) ++ q (suc o + length (spellPath P) + length (sign s))))
+      (λ o. marks (some (n, Sort.stepped m)) o ++ (p (suc o) ++ q (suc o + length (spellPath P) + length (sign s))))
   unfolding move
   take-compare P s w m n l k =
       recast (λ r q. tt) (λ o. refl)
-      (lead-two (test n) 40 (some (n, Sort.comparison m)) (path (suc n)) (signed (suc n)) (λ P v. comparing P (v .0) (v .1)) (λ st. refl) l (take-signed (suc n) s w k) (λ r q. tt))
+      (lead-two (test n) 40 (some (n, Sort.stepped m)) (path (suc n)) (signed (suc n)) (λ P v. comparing P (v .0) (v .1)) (λ st. refl) l (take-signed (suc n) s w k) (λ r q. tt))
 
   -- ── Tests and paths ──
   no-more : (k : Mark) (o : ℕ) (ps : List Part) → marks k o ++ (ps ++ []) ≡ marks k o ++ ps
@@ -225,8 +259,11 @@ module _ {R X : Type 0} (end : State R → X) (stop : List Key → ℕ → X) wh
         lead-two (test n) 124 (some (n, Sort.test)) (test (suc n)) (test (suc n)) or (λ st. refl) (take-test T (suc n) (l .0)) (take-test U (suc n) (l .1)) (λ r q. pops-test U r)
     take-test (compare s P Q) n l = take-compare P s (inl Q) (size P + size Q) n (take-path P (suc n) (l .0)) (path-operand (suc n) Q (take-path Q (suc n) (l .1)))
     take-test (compareTo s P c) n l =
-        recast (λ r q. q) (λ o. no-more (some (n, Sort.comparison (size P))) o (pathParts P (suc o) (suc n)))
+        recast (λ r q. q) (λ o. no-more (some (n, Sort.stepped (size P))) o (pathParts P (suc o) (suc n)))
         (take-compare P s (inr c) (size P) n (take-path P (suc n) (l .0)) (take-constant (suc n) c (l .1)))
+    take-test (atLeast k P) n l =
+        subst (λ j. Takes Pops (test n) (atLeast j P) (spellTest (atLeast k P)) (λ o. testParts (atLeast k P) o n)) (reading-decimal k)
+        (take-count (decimal k) P n (number-decimal k (l .0)) (take-path P (suc n) (l .1)))
 
     pub take-path : (P : XPath) (n : ℕ) → LegalPath P → Takes Any (path n) P (spellPath P) (λ o. pathParts P o n)
     take-path empty n l = lead (path n) 101 (some (n, Sort.path)) empty (λ st. refl)

@@ -1,7 +1,7 @@
 -- What a stack may spell: each move of the machine keeps to it, every stack spells something, and a stack that may be left spells nothing.
 use Prim.Native.Nat.{ℕ, zero, suc, _≤_, zero-le}
 use native.Mathlib.Omega.{arith}
-use mathlib.Core.Path.{_≡_, refl, sym, subst, _∙_}
+use mathlib.Core.Path.{_≡_, refl, sym, ap, subst, _∙_}
 use mathlib.Core.Logic.{inl, inr, _≢_}
 use mathlib.Core.Bool.{Bool, true, false}
 use mathlib.Core.Option.{Option, none, some, Option·map}
@@ -11,13 +11,16 @@ use lib.ListN.{length}
 use borrow.Author.Tests.{eqb-true, eqb-false}
 use Rattle.lists.specs.Lists.{All}
 use Rattle.lists.specs.Text.{bytes, Printable, NameByte}
+use Rattle.lists.specs.Numerals.{reading}
+use Rattle.lists.proofs.Numerals.{Decimal, decimal-reading}
 use Rattle.limits.specs.Names.{Name}
-use Rattle.xpath.specs.Syntax.{Op, eq, lt, le, gt, ge, compare, XPath, empty}
+use Rattle.xpath.specs.Syntax.{Op, eq, lt, le, gt, ge, compare, atLeast, XPath, empty}
 use Rattle.rule_spec.specs.Spelling.{sign, spellTest, spellPath, spellStep, Constant, LegalTest, LegalPath, LegalStep}
-use Rattle.rule_spec.specs.Bytes.{choose, isLetter, isNameByte, isPrintable}
-use Rattle.rule_spec.specs.Machine.{Symbol, test, path, byte, label, tail, quoted, signed, orEqual, operand, Stack, Operand, Value, Values, Move, pass, look, comparing, testMoves, pathMoves, signMoves, operandMove, move, rest}
+use Rattle.rule_spec.specs.Bytes.{choose, isLetter, isNameByte, isDigit, isPrintable}
+use Rattle.rule_spec.specs.Machine.{Symbol, test, path, byte, label, tail, quoted, number, figures, signed, orEqual, operand, Stack, Operand, Value, Values, Move, pass, look, comparing, testMoves, pathMoves, signMoves, operandMove, goesOn, move, rest}
 use Rattle.rule_spec.specs.Readers.{spellOperand}
 use Rattle.rule_spec.proofs.Bytes.{letter-iff, nameByte-iff, printable-iff}
+use Rattle.rule_spec.proofs.Figures.{Figures, Number, number-iff}
 
 -- ── Legal values and how they are spelled ──
 abbrev LegalOperand : Operand → Type 0
@@ -31,6 +34,8 @@ LegalValue (byte c) u = Unit {0}
 LegalValue label a = Name a
 LegalValue (tail i) bs = All NameByte bs × (length bs ≤ i)
 LegalValue (quoted i) c = All (λ b. Printable b × (b ≢ 34)) c × (length c ≤ i)
+LegalValue number bs = Number bs
+LegalValue (figures m) bs = Figures m bs
 LegalValue (signed n) v = LegalOperand (v .1)
 LegalValue (orEqual n) v = LegalOperand (v .1)
 LegalValue (operand n) w = LegalOperand w
@@ -42,6 +47,8 @@ spellValue (byte c) u = c ∷ []
 spellValue label a = a
 spellValue (tail i) bs = bs
 spellValue (quoted i) c = c ++ bytes "\""
+spellValue number bs = bs
+spellValue (figures m) bs = bs
 spellValue (signed n) v = sign (v .0) ++ spellOperand (v .1)
 spellValue (orEqual n) v = choose (v .0) (bytes "=") [] ++ spellOperand (v .1)
 spellValue (operand n) w = spellOperand w
@@ -88,6 +95,10 @@ unfolding spellTest
 comparing-spelled P o (inl Q) = refl
 comparing-spelled P o (inr c) = refl
 
+count-spelled : (ds : List ℕ) (P : XPath) (w : List ℕ) → Decimal ds → spellTest (atLeast (reading ds) P) ++ w ≡ bytes "#" ++ (ds ++ (spellPath P ++ w))
+unfolding spellTest
+count-spelled ds P w d = ap (λ s. 35 ∷ ((s ++ spellPath P) ++ w)) (decimal-reading ds d) ∙ ap (λ s. 35 ∷ s) (append-assoc ds (spellPath P) w)
+
 -- the tables, row by row
 infixr 20 _⋆_
 abbrev _⋆_ : {A B : Type 0} → A → B → A × B
@@ -101,6 +112,7 @@ test-faithful n st =
     ⋆ (λ v l. (((l .0, l .1 .0), l .1 .1), simp append-assoc))
     ⋆ (λ v l. (((l .0, l .1 .0), l .1 .1), simp append-assoc))
     ⋆ (λ v l. let (P, ((o, w), t)) = v in ((comparing-legal P o w (l .0) (l .1 .0), l .1 .1), rw (comparing-spelled P o w) (simp append-assoc)))
+    ⋆ (λ v l. let (d, h) = number-iff (v .0) .0 (l .0) in (((h, l .1 .0), l .1 .1), count-spelled (v .0) (v .1 .0) (spell st (v .1 .1)) d))
     ⋆ tt
 
 path-faithful : (n : ℕ) (st : Stack) → All (λ r. Faithful (path n ∷ st) (r .0) (some (r .1))) (pathMoves n st)
@@ -153,6 +165,10 @@ faithful (quoted (suc i) ∷ st) b =
     at-byte (quoted (suc i) ∷ st) b 34 _ _ (λ v l. (((tt, zero-le), l), refl))
     (λ e. by-test (Faithful (quoted (suc i) ∷ st) b) (isPrintable b)
     (λ d v l. let h = l .0 .1 in (((((printable-iff b .0 d, eqb-false b 34 e), l .0 .0), omega arith), l .1), refl)) (λ d. tt))
+faithful (number ∷ st) b = by-test (Faithful (number ∷ st) b) (isDigit b) (λ e v l. (((e, l .0), l .1), refl)) (λ e. tt)
+faithful (figures m ∷ st) b =
+    by-test (Faithful (figures m ∷ st) b) (goesOn m b) (λ e v l. (((e, l .0), l .1), refl))
+    (λ e. pass-faithful (figures m ∷ st) b st (λ v. ([], v)) (λ v l. ((tt, l), refl)) (move st b) (faithful st b))
 faithful (signed n ∷ st) b = look-faithful (signed n ∷ st) b (signMoves n st) (sign-faithful n st)
 faithful (orEqual n ∷ st) b =
     at-byte (orEqual n ∷ st) b 61 _ _ (λ v l. (l, refl))
@@ -162,13 +178,15 @@ faithful (operand n ∷ st) b = operand-faithful n st b
 -- ── Stacks that are completed, and stacks that are left ──
 -- every stack can be completed
 filler : (x : Symbol) → (v : Value x) × LegalValue x v
-unfolding LegalTest LegalPath Name
+unfolding LegalTest LegalPath Name isDigit
 filler (test n) = (compare eq empty empty, (tt, tt))
 filler (path n) = (empty, tt)
 filler (byte c) = (tt, tt)
 filler label = (bytes "a", ((lit≤ tt, lit≤ tt), tt, lit≤ tt))
 filler (tail i) = ([], (tt, zero-le))
 filler (quoted i) = ([], (tt, zero-le))
+filler number = (bytes "0", (refl, tt))
+filler (figures m) = ([], tt)
 filler (signed n) = ((eq, inl empty), tt)
 filler (orEqual n) = ((false, inl empty), tt)
 filler (operand n) = (inl empty, tt)
@@ -182,6 +200,10 @@ abbrev pub Nothing : (st : Stack) → Option (Values st) → Type 0
 Nothing st none = Unit {0}
 Nothing st (some v) = Legal st v × (spell st v ≡ [])
 
+left-above : (x : Symbol) (st : Stack) (v : Value x) → LegalValue x v → spellValue x v ≡ [] → (y : Option (Values st)) → Nothing st y → Nothing (x ∷ st) (Option·map (λ t. (v, t)) y)
+left-above x st v l e none h = tt
+left-above x st v l e (some t) h = ((l, h .0), rw (e, h .1))
+
 pub left-empty : (st : Stack) → Nothing st (rest st)
 unfolding rest
 left-empty [] = (tt, refl)
@@ -189,12 +211,10 @@ left-empty (test n ∷ st) = tt
 left-empty (path n ∷ st) = tt
 left-empty (byte c ∷ st) = tt
 left-empty (label ∷ st) = tt
-left-empty (tail i ∷ st) = go (rest st) (left-empty st)
-  where
-    go : (x : Option (Values st)) → Nothing st x → Nothing (tail i ∷ st) (Option·map (λ v. ([], v)) x)
-    go none h = tt
-    go (some v) h = (((tt, zero-le), h .0), h .1)
+left-empty (tail i ∷ st) = left-above (tail i) st [] (tt, zero-le) refl (rest st) (left-empty st)
 left-empty (quoted i ∷ st) = tt
+left-empty (number ∷ st) = tt
+left-empty (figures m ∷ st) = left-above (figures m) st [] tt refl (rest st) (left-empty st)
 left-empty (signed n ∷ st) = tt
 left-empty (orEqual n ∷ st) = tt
 left-empty (operand n ∷ st) = tt

@@ -2,7 +2,7 @@
 use Prim.Native.Nat.{ℕ, _+_}
 use mathlib.Core.Path.{_≡_, refl, sym, ap, _∙_, subst}
 use mathlib.Core.Logic.{_⊎_, inl, inr}
-use mathlib.Core.Bool.{Bool, true, false}
+use mathlib.Core.Bool.{false}
 use mathlib.Core.Option.{Option, none, some, Option·map}
 use mathlib.Core.List.{List, [], _∷_, _++_, append-nil}
 use lib.ListN.{length}
@@ -12,27 +12,29 @@ use Rattle.rule_spec.specs.Spelling.{spellTest, spellPath, LegalTest, Le
 use Rattle.rule_spec.specs.Parts.{Part, parts, testParts}
 use Rattle.rule_spec.specs.Readers.{Unnamed, keys}
 use Rattle.rule_spec.specs.Bytes.{isNameByte}
-use Rattle.rule_spec.specs.Machine.{Symbol, test, path, tail, Value, Values, move, rest, state, over, Answer, read, stopped, closing, close}
-use Rattle.rule_spec.proofs.Bytes.{nameByte-iff}
+use Rattle.rule_spec.specs.Machine.{Symbol, Stack, test, path, tail, Value, Values, move, rest, state, over, Answer, read, stopped, closing, close}
+use Rattle.rule_spec.proofs.Bytes.{is-false, nameByte-iff}
+use Rattle.rule_spec.proofs.Comes.{Leaves}
 use Rattle.rule_spec.proofs.Machine.{read-inj, read-not-stopped, answer, ruleStart}
 use Rattle.rule_spec.proofs.Reading.{Pops, Any, pops-byte, Takes, recast, take-test, take-path}
 
 -- ── What ends a name ──
 pub not-name : (b : ℕ) → ¬ NameByte b → isNameByte b ≡ false
-not-name b f = go (isNameByte b) refl
+not-name b = is-false (isNameByte b) (nameByte-iff b)
+
+-- what may be left is left at the end
+pub leaves-end : {R : Type 0} (x : Symbol) (v : Value x) → ((st : Stack) → rest (x ∷ st) ≡ Option·map (λ t. (v, t)) (rest st)) → Leaves {R = R} close stopped x v []
+unfolding over
+leaves-end {R} x v e st f ks o = rw (e st) (go (rest st))
   where
-    go : (t : Bool) → isNameByte b ≡ t → t ≡ false
-    go true e = absurd (f (nameByte-iff b .0 e))
-    go false e = refl
+    go : (y : Option (Values st)) → closing (state (x ∷ st) f ks o) (Option·map (λ t. (v, t)) y) ≡ closing (state st (λ t. f (v, t)) ks o) y
+    go none = refl
+    go (some t) = refl
 
 -- the end, or a byte that no name has, ends a name
 pub pops-end : {R : Type 0} → Pops {R = R} close stopped []
-unfolding over rest
-pops-end {R} i st f ks o = go (rest st)
-  where
-    go : (x : Option (Values st)) → closing (state (tail i ∷ st) f ks o) (Option·map (λ v. ([], v)) x) ≡ closing (state st (λ v. f ([], v)) ks o) x
-    go none = refl
-    go (some v) = refl
+unfolding rest
+pops-end i = leaves-end (tail i) [] (λ st. refl)
 
 pub pops-unnamed : {R : Type 0} (r : List ℕ) → Unnamed r → Pops {R = R} close stopped r
 pops-unnamed [] h = pops-end

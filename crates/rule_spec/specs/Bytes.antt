@@ -1,4 +1,4 @@
--- Tests that compute: choices, and the bytes of names and constants.
+-- Tests that compute: choices, and the bytes of names, constants and numbers.
 use Prim.Native.Nat.{ℕ}
 use mathlib.Core.Bool.{Bool, true, false}
 use lib.Dec.{eqb, leb}
@@ -21,6 +21,9 @@ isLetter b = between 97 122 b
 
 unfoldable pub isNameByte : ℕ → Bool
 isNameByte b = either (between 97 122 b) (either (between 48 57 b) (eqb b 45))
+
+unfoldable pub isDigit : ℕ → Bool
+isDigit b = between 48 57 b
 
 unfoldable pub isPrintable : ℕ → Bool
 isPrintable b = between 0x20 0x7e b

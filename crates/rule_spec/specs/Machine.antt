@@ -1,22 +1,26 @@
 -- A machine that reads a rule byte by byte: a stack of what is still to be read, and what the things read so far make of the rest.
-use Prim.Native.Nat.{ℕ, zero, suc, _-_}
+use Prim.Native.Nat.{ℕ, zero, suc, _+_, _-_, _*_}
 use mathlib.Core.Logic.{_⊎_, inl, inr}
 use mathlib.Core.Bool.{Bool, true, false}
 use mathlib.Core.Option.{Option, none, some, Option·map}
 use mathlib.Core.List.{List, [], _∷_, _++_}
-use lib.Dec.{eqb}
-use Rattle.limits.specs.Limits.{labelBytes, constantBytes}
-use Rattle.xpath.specs.Syntax.{Op, eq, ne, lt, le, gt, ge, Test, named, not, and, or, compare, compareTo, XPath, empty, one, seq, union, star, toLeft, toRight, fromLeft, fromRight, stay}
-use Rattle.rule_spec.specs.Bytes.{choose, isLetter, isNameByte, isPrintable}
+use lib.Dec.{eqb, leb}
+use Rattle.lists.specs.Numerals.{reading}
+use Rattle.limits.specs.Limits.{labelBytes, constantBytes, ruleCount}
+use Rattle.xpath.specs.Syntax.{Op, eq, ne, lt, le, gt, ge, Test, named, not, and, or, compare, compareTo, atLeast, XPath, empty, one, seq, union, star, toLeft, toRight, fromLeft, fromRight, stay}
+use Rattle.rule_spec.specs.Bytes.{choose, both, isLetter, isNameByte, isDigit, isPrintable}
 
 -- ── The stack ──
 -- test n and path n have nesting n; tail i is up to i more bytes of a name, quoted i up to i bytes of a constant and the quote that ends it;
+-- number is the n of a count, and figures m what may still come of it where the digits read so far make m;
 -- signed is a comparison from its sign to its closing bracket, operand from behind its sign, orEqual from behind the first byte of a sign with < or >
 pub data Symbol : Type 0 where
   test path : ℕ → Symbol
   byte : ℕ → Symbol
   label : Symbol
   tail quoted : ℕ → Symbol
+  number : Symbol
+  figures : ℕ → Symbol
   signed orEqual operand : ℕ → Symbol
 
 abbrev pub Stack : Type 0
@@ -34,6 +38,8 @@ Value (byte c) = Unit {0}
 Value label = List ℕ
 Value (tail i) = List ℕ
 Value (quoted i) = List ℕ
+Value number = List ℕ
+Value (figures m) = List ℕ
 Value (signed n) = Op × Operand
 Value (orEqual n) = Bool × Operand
 Value (operand n) = Operand
@@ -71,7 +77,7 @@ module _ {st : Stack} where
   pass f m = record { after = m .after; build = λ v. f (m .build v); begins = m .begins }
 
 -- ── What each byte begins ──
--- : ! & | (
+-- : ! & | ( #
 abbrev pub testMoves : (n : ℕ) (st : Stack) → List (ℕ × Move (test n ∷ st))
 testMoves n st =
     (58, start n (label ∷ st) (λ v. (named (v .0), v .1)))
@@ -79,6 +85,7 @@ testMoves n st =
     ∷ (38, start n (test (suc n) ∷ test (suc n) ∷ st) (λ v. (and (v .0) (v .1 .0), v .1 .1)))
     ∷ (124, start n (test (suc n) ∷ test (suc n) ∷ st) (λ v. (or (v .0) (v .1 .0), v .1 .1)))
     ∷ (40, start n (path (suc n) ∷ signed (suc n) ∷ st) (λ v. (comparing (v .0) (v .1 .0 .0) (v .1 .0 .1), v .1 .1)))
+    ∷ (35, start n (number ∷ path (suc n) ∷ st) (λ v. (atLeast (reading (v .0)) (v .1 .0), v .1 .1)))
     ∷ []
 
 -- e l r L R [ . + *
@@ -110,6 +117,10 @@ operandMove n st b =
     (some (go (quoted constantBytes ∷ byte 41 ∷ st) (λ v. (inr (v .0), v .1 .1))))
     (Option·map (pass (λ v. (inl (v .0), v .1 .1))) (look b (pathMoves n (byte 41 ∷ st))))
 
+-- one digit more makes m a number that a count may have: none comes behind a zero, and it stays at most 4,096
+abbrev pub goesOn : ℕ → ℕ → Bool
+goesOn m b = both (isDigit b) (both (leb 1 m) (leb (m * 10 + (b - 48)) ruleCount))
+
 -- ── The machine ──
 -- the machine: what it does at a byte, if it does not refuse it
 unfoldable pub move : (st : Stack) → ℕ → Option (Move st)
@@ -124,6 +135,9 @@ move (tail (suc i) ∷ st) b =
 move (quoted zero ∷ st) b = choose (eqb b 34) (some (go st (λ v. ([], v)))) none
 move (quoted (suc i) ∷ st) b =
     choose (eqb b 34) (some (go st (λ v. ([], v)))) (choose (isPrintable b) (some (go (quoted i ∷ st) (λ v. (b ∷ v .0, v .1)))) none)
+move (number ∷ st) b = choose (isDigit b) (some (go (figures (b - 48) ∷ st) (λ v. (b ∷ v .0, v .1)))) none
+move (figures m ∷ st) b =
+    choose (goesOn m b) (some (go (figures (m * 10 + (b - 48)) ∷ st) (λ v. (b ∷ v .0, v .1)))) (Option·map (pass (λ v. ([], v))) (move st b))
 move (signed n ∷ st) b = look b (signMoves n st)
 move (orEqual n ∷ st) b =
     choose (eqb b 61) (some (go (operand n ∷ st) (λ v. ((true, v .0), v .1)))) (Option·map (pass (λ v. ((false, v .0), v .1))) (operandMove n st b))
@@ -138,6 +152,8 @@ rest (byte c ∷ st) = none
 rest (label ∷ st) = none
 rest (tail i ∷ st) = Option·map (λ v. ([], v)) (rest st)
 rest (quoted i ∷ st) = none
+rest (number ∷ st) = none
+rest (figures m ∷ st) = Option·map (λ v. ([], v)) (rest st)
 rest (signed n ∷ st) = none
 rest (orEqual n ∷ st) = none
 rest (operand n ∷ st) = none

@@ -3,11 +3,11 @@ use Prim.Native.Nat.{ℕ, _≤_}
 use mathlib.Core.Logic.{_≢_}
 use mathlib.Core.List.{List, _++_}
 use lib.ListN.{length}
-use Rattle.limits.specs.Limits.{constantBytes}
+use Rattle.limits.specs.Limits.{constantBytes, ruleCount}
 use Rattle.lists.specs.Lists.{All}
-use Rattle.lists.specs.Text.{bytes, Printable}
+use Rattle.lists.specs.Text.{bytes, Printable, decimal}
 use Rattle.limits.specs.Names.{Name}
-use Rattle.xpath.specs.Syntax.{Op, eq, ne, lt, le, gt, ge, Test, named, not, and, or, compare, compareTo, XPath, empty, one, seq, union, star, Step, toLeft, toRight, fromLeft, fromRight, stay}
+use Rattle.xpath.specs.Syntax.{Op, eq, ne, lt, le, gt, ge, Test, named, not, and, or, compare, compareTo, atLeast, XPath, empty, one, seq, union, star, Step, toLeft, toRight, fromLeft, fromRight, stay}
 
 -- o is one of = != < <= > >=
 abbrev pub sign : Op → List ℕ
@@ -26,6 +26,7 @@ unfoldable mutual
   spellTest (or T U) = bytes "|" ++ (spellTest T ++ spellTest U)
   spellTest (compare o P Q) = bytes "(" ++ (spellPath P ++ (sign o ++ (spellPath Q ++ bytes ")")))
   spellTest (compareTo o P c) = bytes "(" ++ (spellPath P ++ (sign o ++ (bytes "\"" ++ (c ++ bytes "\")"))))
+  spellTest (atLeast n P) = bytes "#" ++ (decimal n ++ spellPath P)
 
   pub spellPath : XPath → List ℕ
   spellPath empty = bytes "e"
@@ -45,7 +46,7 @@ unfoldable mutual
 unfoldable pub Constant : List ℕ → Type 0
 Constant c = All (λ b. Printable b × (b ≢ 34)) c × (length c ≤ constantBytes)
 
--- every name is spelled as S and every constant as c
+-- every name is spelled as S and every constant as c; 02 (h): n is 0 to 4,096
 unfoldable mutual
   pub LegalTest : Test → Type 0
   LegalTest (named n) = Name n
@@ -54,6 +55,7 @@ unfoldable mutual
   LegalTest (or T U) = LegalTest T × LegalTest U
   LegalTest (compare o P Q) = LegalPath P × LegalPath Q
   LegalTest (compareTo o P c) = LegalPath P × Constant c
+  LegalTest (atLeast n P) = (n ≤ ruleCount) × LegalPath P
 
   pub LegalPath : XPath → Type 0
   LegalPath empty = Unit {0}

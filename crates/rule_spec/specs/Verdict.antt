@@ -9,11 +9,11 @@ use Rattle.refusals.specs.Refusals.{Refusal, ruleLength, unreadable, nesting, n
 use Rattle.refusals.specs.Refusals as Refusals
 use Rattle.xpath.specs.Syntax.{Test}
 use Rattle.rule_spec.specs.Spelling.{spellTest, LegalTest}
-use Rattle.rule_spec.specs.Parts.{Part, comparison, parts, tests}
+use Rattle.rule_spec.specs.Parts.{Part, stepped, parts, tests}
 
--- p is a comparison above 14 steps
+-- p is a comparison or a count above 14 steps
 abbrev pub Heavy : Part → Type 0
-Heavy p = (m : ℕ) × (p .sort ≡ comparison m) × (comparisonSteps < m)
+Heavy p = (m : ℕ) × (p .sort ≡ stepped m) × (comparisonSteps < m)
 
 module _ (s : List ℕ) where
   -- the rule reads as T
@@ -62,7 +62,7 @@ module _ (s : List ℕ) where
     pub full : length before ≡ ruleTests
     pub here : part .offset ≡ o
 
-  -- number 9: the opening bracket of the first comparison above 14 steps
+  -- number 9: the first byte of the first comparison or count above 14 steps, its opening bracket or its #
   pub record ManySteps (o : ℕ) : Type 0 where
     pub rule : Test
     pub reads : Reads rule

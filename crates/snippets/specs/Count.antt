@@ -7,7 +7,7 @@ use lib.ListN.{length}
 use Rattle.lists.specs.Lists.{Occurs, Number}
 use Rattle.lists.specs.Text.{binaryDigits}
 use Rattle.limits.specs.Limits.{snippetFactor}
-use Rattle.xpath.specs.Syntax.{Op, eq, ne, lt, le, gt, ge, Test, named, not, and, or, compare, compareTo, XPath, empty, one, seq, union, star, Step, toLeft, toRight, fromLeft, fromRight, stay}
+use Rattle.xpath.specs.Syntax.{Op, eq, ne, lt, le, gt, ge, Test, named, not, and, or, compare, compareTo, atLeast, XPath, empty, one, seq, union, star, Step, toLeft, toRight, fromLeft, fromRight, stay}
 use Rattle.xpath.specs.Tree.{Tree}
 use Rattle.xpath.specs.Meaning.{Holds}
 use Rattle.snippets.specs.Snippets.{Yielded, SettledBy}
@@ -41,6 +41,7 @@ abbrev mutual
   comparisons (or T U) = comparisons T ++ comparisons U
   comparisons (compare o P Q) = equal o P Q ++ (inPath P ++ inPath Q)
   comparisons (compareTo o P c) = inPath P
+  comparisons (atLeast n P) = inPath P
 
   pub inPath : XPath → List Pair
   inPath empty = []

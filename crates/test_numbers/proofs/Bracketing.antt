@@ -16,7 +16,7 @@ use Rattle.rule_parts.specs.Standing.{TestAt, PathAt}
 use Rattle.rule_parts.specs.Kinds.{pathKind}
 use Rattle.rule_parts.specs.declared.kinds.PathKind.{PathKind}
 use Rattle.rule_parts.specs.declared.kinds.PathKind.the-variants.{Empty, Stay, Star}
-use Rattle.rule_parts.proofs.Count.{count-test}
+use Rattle.rule_parts.proofs.Tallying.{count-test}
 use Rattle.rule_parts.proofs.Inner.{and-inner, or-inner}
 use Rattle.test_numbers.specs.Tests.{testsOf, pathTests, test}
 use Rattle.test_numbers.specs.Numbering.{TwoNumbered, NumbersTwo, OneNumbered, NumbersOne}
@@ -209,7 +209,7 @@ module _ (s : List ℕ) where
       pub pair-walks : {f g h : List ℕ} {p q : Next} → Walks s (at + 1) b k f g p → Walks s n (p .step) (p .test) g h q → Walks s at b k f h q
       pair-walks u v P j a l r = pair-walked (at + 1) n b k (path-pair P j a l r .0) u v
 
-  -- ── The paths of a comparison, their steps numbered from 1 ──
+  -- ── The paths of a comparison or a count, their steps numbered from 1 ──
   clear : Small (replicate 16 0)
   clear i l = let e = getD-replicate {A = ℕ} 16 i 0 0 l in omega arith
 

@@ -10,7 +10,7 @@ use lib.Seq.{drop-cons, drop-length}
 use Rattle.lists.specs.Lists.{All, Occurs}
 use Rattle.lists.proofs.Lists.{occurs-right, occurs-append}
 use Rattle.lists.proofs.Numerals.{binary-short}
-use Rattle.xpath.specs.Syntax.{Op, eq, ne, lt, le, gt, ge, Test, named, not, and, or, compare, compareTo, XPath, empty, one, seq, union, star, Step, toLeft, toRight, fromLeft, fromRight, stay, size}
+use Rattle.xpath.specs.Syntax.{Op, eq, ne, lt, le, gt, ge, Test, named, not, and, or, compare, compareTo, atLeast, XPath, empty, one, seq, union, star, Step, toLeft, toRight, fromLeft, fromRight, stay, size}
 use Rattle.xpath.specs.Tree.{Tree, WellFormed}
 use Rattle.snippets.specs.Count.{Pair, comparisons, inPath, inStep, Sized, Counted, SnippetCount}
 use Rattle.snippets.proofs.Counting.{counted-bound, snippet-count}
@@ -48,6 +48,7 @@ mutual
   comparisons-owned (or T U) = both-owned (testsOf T) (testsOf U) (comparisons-owned T) (comparisons-owned U)
   comparisons-owned (compare o P R) = own-first o P R ∙ ap (λ cs. own (compare o P R) ++ cs) (both-owned (pathTests P) (pathTests R) (path-owned P) (path-owned R))
   comparisons-owned (compareTo o P c) = path-owned P
+  comparisons-owned (atLeast n P) = path-owned P
 
   path-owned : (P : XPath) → inPath P ≡ owned (pathTests P)
   path-owned empty = refl
@@ -98,6 +99,7 @@ own-cases (compare le P R) = inl refl
 own-cases (compare gt P R) = inl refl
 own-cases (compare ge P R) = inl refl
 own-cases (compareTo o P c) = inl refl
+own-cases (atLeast n P) = inl refl
 
 pub own-other : (T : Test) → ((P R : XPath) → T ≢ compare eq P R) → own T ≡ []
 own-other T f = ⊎-elim (λ e. e) (λ (P, R, e). absurd (f P R e)) (own-cases T)

@@ -4,11 +4,11 @@ use native.Mathlib.Omega.{arith}
 use mathlib.Core.Path.{_≡_, refl, ap}
 use mathlib.Core.List.{List, _∷_, _++_}
 use lib.ListN.{length, length-append}
-use Rattle.xpath.specs.Syntax.{Test, named, not, and, or, compare, compareTo, XPath, empty, one, seq, union, star, Step, toLeft, toRight, fromLeft, fromRight, stay}
+use Rattle.xpath.specs.Syntax.{Test, named, not, and, or, compare, compareTo, atLeast, XPath, empty, one, seq, union, star, Step, toLeft, toRight, fromLeft, fromRight, stay}
 use Rattle.rule_spec.specs.Spelling.{sign, spellTest, spellPath}
 use Rattle.rule_spec.specs.Parts.{Part, tests, parts, testParts, pathParts, stepParts}
 use Rattle.rule_spec.specs.Verdict.{Accepts}
-use Rattle.rule_parts.proofs.Count.{tests-append}
+use Rattle.rule_parts.proofs.Tallying.{tests-append}
 use Rattle.test_numbers.specs.Tests.{testsOf, pathTests, stepTests, test, inside}
 
 -- ── A test comes first among its tests ──
@@ -20,6 +20,7 @@ tests-first (and T U) = refl
 tests-first (or T U) = refl
 tests-first (compare o P R) = refl
 tests-first (compareTo o P c) = refl
+tests-first (atLeast n P) = refl
 
 pub tests-some : (T : Test) → (0 < length (testsOf T)) × (test (testsOf T) 0 ≡ T)
 tests-some T = let e = tests-first T in let n = ap length e in (omega arith, ap (λ Ts. test Ts 0) e)
@@ -39,6 +40,7 @@ mutual
   tests-counted (or T U) o n = ap suc (both-counted (testParts T (suc o) (suc n)) (testParts U (suc o + length (spellTest T)) (suc n)) (testsOf T) (testsOf U) (tests-counted T (suc o) (suc n)) (tests-counted U (suc o + length (spellTest T)) (suc n)))
   tests-counted (compare s P R) o n = ap suc (both-counted (pathParts P (suc o) (suc n)) (pathParts R (suc o + length (spellPath P) + length (sign s)) (suc n)) (pathTests P) (pathTests R) (path-counted P (suc o) (suc n)) (path-counted R (suc o + length (spellPath P) + length (sign s)) (suc n)))
   tests-counted (compareTo s P c) o n = ap suc (path-counted P (suc o) (suc n))
+  tests-counted (atLeast k P) o n = ap suc (path-counted P _ (suc n))
 
   path-counted : (P : XPath) (o n : ℕ) → length (tests (pathParts P o n)) ≡ length (pathTests P)
   path-counted empty o n = refl

@@ -7,7 +7,7 @@ use mathlib.Core.Logic.{_⊎_, inl, inr}
 use mathlib.Core.List.{List, [], _∷_, _++_, append-assoc, append-nil}
 use lib.ListN.{length, drop, length-append, length-drop, List·getD-eq-default, List·getD-append}
 use lib.Seq.{getD-drop, getD-append-add}
-use Rattle.xpath.specs.Syntax.{Op, Test, named, not, and, or, compare, compareTo, XPath, empty, one, seq, union, star, Step, toLeft, toRight, fromLeft, fromRight, stay}
+use Rattle.xpath.specs.Syntax.{Op, Test, named, not, and, or, compare, compareTo, atLeast, XPath, empty, one, seq, union, star, Step, toLeft, toRight, fromLeft, fromRight, stay}
 use Rattle.test_numbers.specs.Tests.{testsOf, pathTests, stepTests, test, inside}
 use Rattle.test_numbers.proofs.Counts.{tests-first, tests-some}
 
@@ -35,6 +35,7 @@ mutual
   followed-test (or T U) = followed-first (or T U) (followed-append (testsOf T) (testsOf U) (followed-test T) (followed-test U))
   followed-test (compare o P R) = followed-first (compare o P R) (followed-append (pathTests P) (pathTests R) (followed-path P) (followed-path R))
   followed-test (compareTo o P c) = followed-first (compareTo o P c) (followed-path P)
+  followed-test (atLeast n P) = followed-first (atLeast n P) (followed-path P)
 
   followed-path : (P : XPath) → Followed (pathTests P)
   followed-path empty = tt
@@ -119,7 +120,10 @@ module _ (T : Test) (k : ℕ) where
     inner-two (inl h) = two-inner (inner h (λ e. let z : _≡_ {A = ℕ} 0 1 = cc in omega arith))
     inner-two (inr h) = two-inner (inner h (λ e. let z : _≡_ {A = ℕ} 0 1 = cc in omega arith))
 
-  -- the tests in the paths of a comparison
+  -- the tests in the paths of a comparison or a count
+  numbered : {Us : List Test} → Inner (suc k) Us → (e : ℕ) → e < length Us → (suc k + e < length (testsOf T)) × (test (testsOf T) (suc k + e) ≡ test Us e)
+  numbered h e l = let r = h .room in (omega arith, h .told e l)
+
   module _ {o : Op} {P R : XPath} (h : Is (compare o P R)) where
     within-compare : Inner (suc k) (pathTests P ++ pathTests R)
     within-compare = inner h (λ e. let z : _≡_ {A = ℕ} 0 1 = cc in omega arith)
@@ -129,7 +133,7 @@ module _ (T : Test) (k : ℕ) where
 
     pub inner-compare : (e : ℕ) → e < length (pathTests P ++ pathTests R)
         → (suc k + e < length (testsOf T)) × (test (testsOf T) (suc k + e) ≡ test (pathTests P ++ pathTests R) e)
-    inner-compare e l = let r = room-compare in (omega arith, within-compare .told e l)
+    inner-compare = numbered within-compare
 
   module _ {o : Op} {P : XPath} {c : List ℕ} (h : Is (compareTo o P c)) where
     within-compareTo : Inner (suc k) (pathTests P)
@@ -139,4 +143,14 @@ module _ (T : Test) (k : ℕ) where
     room-compareTo = within-compareTo .room
 
     pub inner-compareTo : (e : ℕ) → e < length (pathTests P) → (suc k + e < length (testsOf T)) × (test (testsOf T) (suc k + e) ≡ test (pathTests P) e)
-    inner-compareTo e l = let r = room-compareTo in (omega arith, within-compareTo .told e l)
+    inner-compareTo = numbered within-compareTo
+
+  module _ {n : ℕ} {P : XPath} (h : Is (atLeast n P)) where
+    within-count : Inner (suc k) (pathTests P)
+    within-count = inner h (λ e. let z : _≡_ {A = ℕ} 0 1 = cc in omega arith)
+
+    pub room-count : suc k + length (pathTests P) ≤ length (testsOf T)
+    room-count = within-count .room
+
+    pub inner-count : (e : ℕ) → e < length (pathTests P) → (suc k + e < length (testsOf T)) × (test (testsOf T) (suc k + e) ≡ test (pathTests P) e)
+    inner-count = numbered within-count

@@ -1,4 +1,4 @@
--- In an accepted rule no comparison has more than 14 steps.
+-- In an accepted rule no comparison and no count has more than 14 steps.
 use Prim.Native.Nat.{ℕ, zero, suc, _+_, _≤_, _<_}
 use native.Mathlib.Omega.{arith}
 use native.Mathlib.Decide.{decLe}
@@ -7,9 +7,9 @@ use mathlib.Core.List.{List, [], _∷_, _++_}
 use lib.ListN.{length}
 use Rattle.lists.specs.Lists.{All}
 use Rattle.lists.proofs.Lists.{all-append, all-occurs}
-use Rattle.xpath.specs.Syntax.{Test, named, not, and, or, compare, compareTo, XPath, empty, one, seq, union, star, Step, toLeft, toRight, fromLeft, fromRight, stay, size}
+use Rattle.xpath.specs.Syntax.{Test, named, not, and, or, compare, compareTo, atLeast, XPath, empty, one, seq, union, star, Step, toLeft, toRight, fromLeft, fromRight, stay, size}
 use Rattle.rule_spec.specs.Spelling.{sign, spellTest, spellPath}
-use Rattle.rule_spec.specs.Parts.{Part, comparison, parts, testParts, pathParts, stepParts}
+use Rattle.rule_spec.specs.Parts.{Part, stepped, parts, testParts, pathParts, stepParts}
 use Rattle.rule_spec.specs.Verdict.{Heavy, Accepts}
 use Rattle.test_numbers.specs.Tests.{testsOf, pathTests, stepTests, test, Light}
 
@@ -20,7 +20,7 @@ NotHeavy ps = All (λ p. ¬ Heavy p) ps
 abbrev AllLight : List Test → Type 0
 AllLight Ts = All Light Ts
 
-light-steps : (o n m : ℕ) → ¬ Heavy (record { offset = o; nesting = n; sort = comparison m }) → m ≤ 14
+light-steps : (o n m : ℕ) → ¬ Heavy (record { offset = o; nesting = n; sort = stepped m }) → m ≤ 14
 light-steps o n m h = go (decLe m 14)
   where
     go : Dec (m ≤ 14) → m ≤ 14
@@ -40,6 +40,7 @@ mutual
   light-test (or T U) o n h = (tt, both-light (testParts T (suc o) (suc n)) (testParts U (suc o + length (spellTest T)) (suc n)) (testsOf T) (testsOf U) (λ g. light-test T (suc o) (suc n) g) (λ g. light-test U (suc o + length (spellTest T)) (suc n) g) (h .1))
   light-test (compare s P R) o n h = (light-steps o n (size P + size R) (h .0), both-light (pathParts P (suc o) (suc n)) (pathParts R (suc o + length (spellPath P) + length (sign s)) (suc n)) (pathTests P) (pathTests R) (λ g. light-path P (suc o) (suc n) g) (λ g. light-path R (suc o + length (spellPath P) + length (sign s)) (suc n) g) (h .1))
   light-test (compareTo s P c) o n h = (light-steps o n (size P) (h .0), light-path P (suc o) (suc n) (h .1))
+  light-test (atLeast k P) o n h = (light-steps o n (size P) (h .0), light-path P _ (suc n) (h .1))
 
   light-path : (P : XPath) (o n : ℕ) → NotHeavy (pathParts P o n) → AllLight (pathTests P)
   light-path empty o n h = tt

@@ -3,7 +3,7 @@ use Prim.Native.Nat.{ℕ, _+_, _≤_}
 use mathlib.Core.List.{List, [], _∷_, _++_}
 use lib.ListN.{getD}
 use Rattle.limits.specs.Limits.{comparisonSteps}
-use Rattle.xpath.specs.Syntax.{Test, named, not, and, or, compare, compareTo, XPath, empty, one, seq, union, star, Step, toLeft, toRight, fromLeft, fromRight, stay, size}
+use Rattle.xpath.specs.Syntax.{Test, named, not, and, or, compare, compareTo, atLeast, XPath, empty, one, seq, union, star, Step, toLeft, toRight, fromLeft, fromRight, stay, size}
 
 unfoldable mutual
   pub testsOf : Test → List Test
@@ -13,6 +13,7 @@ unfoldable mutual
   testsOf (or T U) = or T U ∷ (testsOf T ++ testsOf U)
   testsOf (compare o P R) = compare o P R ∷ (pathTests P ++ pathTests R)
   testsOf (compareTo o P c) = compareTo o P c ∷ pathTests P
+  testsOf (atLeast n P) = atLeast n P ∷ pathTests P
 
   pub pathTests : XPath → List Test
   pathTests empty = []
@@ -36,12 +37,13 @@ inside (and T U) = testsOf T ++ testsOf U
 inside (or T U) = testsOf T ++ testsOf U
 inside (compare o P R) = pathTests P ++ pathTests R
 inside (compareTo o P c) = pathTests P
+inside (atLeast n P) = pathTests P
 
 -- number k in a list
 abbrev pub test : List Test → ℕ → Test
 test Ts k = getD Ts k (named [])
 
--- a comparison has at most 14 steps
+-- a comparison or a count has at most 14 steps
 abbrev pub Light : Test → Type 0
 Light (named a) = Unit {0}
 Light (not T) = Unit {0}
@@ -49,3 +51,4 @@ Light (and T U) = Unit {0}
 Light (or T U) = Unit {0}
 Light (compare o P R) = size P + size R ≤ comparisonSteps
 Light (compareTo o P c) = size P ≤ comparisonSteps
+Light (atLeast n P) = size P ≤ comparisonSteps

@@ -7,15 +7,16 @@ use mathlib.Core.List.{List, [], _∷_, _++_}
 use lib.ListN.{length, getD, set, drop, length-append, List·getD-append}
 use lib.Seq.{getD-set-same, getD-set-other, getD-append-add}
 use types.Run.{OneOf}
-use Rattle.xpath.specs.Syntax.{Test, named, XPath}
+use Rattle.xpath.specs.Syntax.{Test, named, atLeast, XPath}
 use Rattle.rule_spec.specs.Verdict.{Accepts}
 use Rattle.tokens.specs.Readers.{Stands, Lacks}
 use Rattle.rule_parts.specs.Standing.{TestAt, PathAt}
 use Rattle.rule_parts.specs.Kinds.{testKind, pathKind}
-use Rattle.rule_parts.specs.Middles.{Parted}
+use Rattle.rule_parts.specs.Middles.{Parted, Counted}
 use Rattle.rule_parts.specs.declared.Middle.{Middle}
+use Rattle.rule_parts.specs.declared.Count as counts
 use Rattle.rule_parts.specs.declared.kinds.TestKind.{TestKind}
-use Rattle.rule_parts.specs.declared.kinds.TestKind.the-variants.{Named, Not, Comparison}
+use Rattle.rule_parts.specs.declared.kinds.TestKind.the-variants.{Named, Not, Comparison, Count}
 use Rattle.rule_parts.specs.declared.kinds.PathKind.{PathKind}
 use Rattle.rule_parts.specs.declared.kinds.PathKind.the-variants.{Stay, Star}
 use Rattle.rule_parts.proofs.Inner.{rule-at}
@@ -191,6 +192,21 @@ module _ (s : List ℕ) where
 
         pub sides-lists : {f g h : List ℕ} {p r : ℕ} → Lists (PathAt s) pathTests (at + 1) k s f g p → Lists (PathAt s) pathTests (m .second) p s g h r → Lists (TestAt s) inside at k s f h r
         sides-lists u v T j a l = halves-written (PathAt s) pathTests (at + 1) (m .second) k (side-halves T j a l) u v
+
+    module _ (count : kind ≡ Count) {c : counts.Count} (counted : (n : ℕ) (P : XPath) (j : ℕ) → TestAt s (atLeast n P) at j → Counted s n P j c) where
+      within : (T : Test) (j : ℕ) → TestAt s T at j → (P : XPath) × PathAt s P (c .path) j × (at < c .path) × (inside T ≡ pathTests P)
+      within T j a = test-of s told T j a 5 (ap testTag count) c counted
+
+      pub count-behind : Room (TestAt s) inside at k → at < c .path
+      count-behind (T, j, a, l) = within T j a .2
+
+      pub count-room : Room (TestAt s) inside at k → Room (PathAt s) pathTests (c .path) k
+      count-room (T, j, a, l) = let (P, b, e, h) = within T j a in (P, j, b, subst (λ Ts. k + length Ts ≤ 64) h l)
+
+      pub count-lists : {f g : List ℕ} {r : ℕ} → Lists (PathAt s) pathTests (c .path) k s f g r → Lists (TestAt s) inside at k s f g r
+      count-lists {f} {g} {r} w T j a l =
+          let (P, b, e, h) = within T j a in
+          subst (λ Ts. Written s Ts k f g r) (sym h) (w P j b (subst (λ Ts. k + length Ts ≤ 64) h l))
 
   module _ {at : ℕ} {kind : PathKind} (told : (P : XPath) (j : ℕ) → PathAt s P at j → kind ≡ pathKind P) (k : ℕ) where
     -- ── The kinds of paths ──

@@ -1,5 +1,5 @@
 -- The kind of a test at an offset tells the tests inside it, and where its parts stand.
-use Prim.Native.Nat.{ℕ, _+_, _≤_}
+use Prim.Native.Nat.{ℕ, _+_, _≤_, _<_}
 use native.Mathlib.Omega.{arith}
 use native.Mathlib.Numerals.{add-one}
 use mathlib.Core.Path.{_≡_, refl, sym, ap, subst, _∙_}
@@ -9,15 +9,16 @@ use lib.ListN.{length, getD, drop, length-append}
 use types.Run.{OneOf}
 use denote.Enum.Declared.{tagOf}
 use Rattle.lists.specs.Text.{bytes}
-use Rattle.xpath.specs.Syntax.{Test, named, not, and, or, compare, compareTo, XPath}
+use Rattle.xpath.specs.Syntax.{Test, named, not, and, or, compare, compareTo, atLeast, XPath}
 use Rattle.tokens.specs.Readers.{Stands}
 use Rattle.rule_parts.specs.Standing.{Spans, TestAt, PathAt}
-use Rattle.rule_parts.specs.Middles.{Parted}
+use Rattle.rule_parts.specs.Middles.{Parted, Counted}
 use Rattle.rule_parts.specs.Kinds.{testKind}
 use Rattle.rule_parts.specs.declared.Middle.{Middle}
+use Rattle.rule_parts.specs.declared.Count.{Count}
 use Rattle.rule_parts.specs.declared.kinds.TestKind.{TestKind}
 use Rattle.rule_parts.proofs.kinds.TestKind as test-kinds
-use Rattle.rule_parts.proofs.Inner.{spans-next, not-inner, and-inner, or-inner}
+use Rattle.rule_parts.proofs.Inner.{spans-next, not-inner, and-inner, or-inner, count-inner}
 use Rattle.test_numbers.specs.Tests.{testsOf, pathTests, inside}
 
 -- a kind by its number
@@ -41,9 +42,13 @@ module _ (s : List ℕ) where
     abbrev pub IsComparison : Type 0
     IsComparison = (m : Middle) → Parted s T i j m → (P : XPath) × PathAt s P (i + 1) (m .sign) × (m .sign ≤ m .second) × (m .second ≤ length s) × Second P (m .second)
 
+    -- the path stands behind #, up to the end
+    abbrev pub IsCount : Type 0
+    IsCount = (c : Count) → ((n : ℕ) (P : XPath) (j : ℕ) → TestAt s (atLeast n P) i j → Counted s n P j c) → (P : XPath) × PathAt s P (c .path) j × (i < c .path) × (inside T ≡ pathTests P)
+
     -- by the number of the kind
     abbrev pub TestShape : ℕ → Type 0
-    TestShape n = getD ((inside T ≡ []) ∷ IsNot ∷ IsTwo ∷ IsTwo ∷ IsComparison ∷ []) n ⊥
+    TestShape n = getD ((inside T ≡ []) ∷ IsNot ∷ IsTwo ∷ IsTwo ∷ IsComparison ∷ IsCount ∷ []) n ⊥
 
   -- a constant begins with its quote
   quoted : (c : List ℕ) {i j : ℕ} → Spans s (bytes "\"" ++ (c ++ bytes "\")")) i j → Stands s i 34
@@ -59,6 +64,9 @@ module _ (s : List ℕ) where
   test-shape (or T U) h = let (m, a, b) = or-inner s h in (T, U, m, a, b, refl)
   test-shape (compare o P R) h = λ m (f, (k, q, c)). let g = f .sign .spans in let e = g .ends in (P, f .first, omega arith, g .inside, path R k q refl)
   test-shape (compareTo o P c) h = λ m (f, q). let g = f .sign .spans in let e = g .ends in (P, f .first, omega arith, g .inside, constant (quoted c q) refl)
+  test-shape (atLeast n P) {j = j} h = λ c told.
+      let a = told n P j h .path in let (l, m, d, p) = count-inner s h in let e = a .spans .ends in let f = p .spans .ends in
+      (P, a, omega arith, refl)
 
   module _ {i : ℕ} {k : TestKind} (kind : (T : Test) (j : ℕ) → TestAt s T i j → k ≡ testKind T) (T : Test) (j : ℕ) (h : TestAt s T i j) where
     pub test-of : (n : ℕ) → testTag k ≡ n → TestShape T i j n

@@ -1,4 +1,5 @@
 // Where each test of an accepted rule stands, by its number.
+use rule_parts::counted;
 use rule_parts::kinds::PathKind;
 use rule_parts::kinds::TestKind;
 use rule_parts::kinds::path_kind;
@@ -47,6 +48,10 @@ fn list_inside(s: &[u8], at: usize, k: usize, offsets: &mut [usize]) -> usize
                 return n;
             }
             list_path(s, behind, n, offsets)
+        }
+        TestKind::Count => {
+            let c = counted(s, at);
+            list_path(s, c.path, k, offsets)
         }
     }
 }

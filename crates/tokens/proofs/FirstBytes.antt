@@ -13,7 +13,7 @@ use Rattle.limits.specs.Limits.{ruleNesting}
 use Rattle.rule_spec.specs.Machine.{Symbol, test, path, Stack, Values, move, rest, stopped, close}
 use Rattle.rule_spec.proofs.Comes.{ends-as, meets-here}
 use Rattle.tokens.specs.declared.heads.TestHead.{TestHead}
-use Rattle.tokens.specs.declared.heads.TestHead.the-variants.{Name, Not, TwoTests, Comparison, NoTest, DeepTest}
+use Rattle.tokens.specs.declared.heads.TestHead.the-variants.{Name, Not, TwoTests, Comparison, Count, NoTest, DeepTest}
 use Rattle.tokens.specs.declared.heads.PathHead.{PathHead}
 use Rattle.tokens.specs.declared.heads.PathHead.the-variants.{Empty, Step, Bracket, TwoPaths, Star, NoPath, DeepPath}
 use Rattle.tokens.specs.Readers.{Stands, StuckAt, DeepAt}
@@ -23,9 +23,9 @@ use Rattle.tokens.proofs.heads.PathHead as path-head
 use Rattle.tokens.proofs.Places.{stands-at, at-end, stuck-end, stuck-at}
 
 -- ── A byte that begins nothing ──
-pub no-test : (b : ℕ) → b ≢ 58 → b ≢ 33 → ¬ TestByte b TwoTests → b ≢ 40 → TestByte b NoTest
+pub no-test : (b : ℕ) → b ≢ 58 → b ≢ 33 → ¬ TestByte b TwoTests → b ≢ 40 → b ≢ 35 → TestByte b NoTest
 unfolding move
-no-test b p q r t = λ n st. rw (ne-eqb b 58 p, ne-eqb b 33 q, ne-eqb b 38 (λ e. r (inl e)), ne-eqb b 124 (λ e. r (inr e)), ne-eqb b 40 t) refl
+no-test b p q r t u = λ n st. rw (ne-eqb b 58 p, ne-eqb b 33 q, ne-eqb b 38 (λ e. r (inl e)), ne-eqb b 124 (λ e. r (inr e)), ne-eqb b 40 t, ne-eqb b 35 u) refl
 
 pub no-path : (b : ℕ) → b ≢ 101 → ¬ PathByte b Step → b ≢ 91 → ¬ PathByte b TwoPaths → b ≢ 42 → PathByte b NoPath
 unfolding move
@@ -64,6 +64,7 @@ module _ (s : List ℕ) where
     test-begins l Not e = (_, e, stands-at s r refl, l)
     test-begins l TwoTests e = (_, e, stands-at s r refl, l)
     test-begins l Comparison e = (_, e, stands-at s r refl, l)
+    test-begins l Count e = (_, e, stands-at s r refl, l)
     test-begins l NoTest e = stuck-at s (stands-at s r refl) (e n)
     test-begins l DeepTest e = absurd e
 
@@ -83,14 +84,15 @@ module _ (s : List ℕ) where
     path-stuck e d = stuck-at s (stands-at s r refl) (subst (PathByte (getD s i 0)) d e n)
 
     -- ── Too deep ──
-    pub test-met : n ≡ suc ruleNesting → (h : TestHead) → OneOf (0 ∷ 1 ∷ 2 ∷ 3 ∷ 5 ∷ []) (tagOf test-head.the-type h) → TestByte (getD s i 0) h → DeepAt s i (test n) i
+    pub test-met : n ≡ suc ruleNesting → (h : TestHead) → OneOf (0 ∷ 1 ∷ 2 ∷ 3 ∷ 4 ∷ 6 ∷ []) (tagOf test-head.the-type h) → TestByte (getD s i 0) h → DeepAt s i (test n) i
     unfolding move
     test-met d Name o e = met (test n) (stands-at s r e) d _ _ (λ st. refl)
     test-met d Not o e = met (test n) (stands-at s r e) d _ _ (λ st. refl)
     test-met d TwoTests o (inl e) = met (test n) (stands-at s r e) d _ _ (λ st. refl)
     test-met d TwoTests o (inr e) = met (test n) (stands-at s r e) d _ _ (λ st. refl)
     test-met d Comparison o e = met (test n) (stands-at s r e) d _ _ (λ st. refl)
-    test-met d NoTest o e = absurd (⊎-elim (λ e. omega arith) (⊎-elim (λ e. omega arith) (⊎-elim (λ e. omega arith) (⊎-elim (λ e. omega arith) (λ e. omega arith)))) o)
+    test-met d Count o e = met (test n) (stands-at s r e) d _ _ (λ st. refl)
+    test-met d NoTest o e = absurd (⊎-elim (λ e. omega arith) (⊎-elim (λ e. omega arith) (⊎-elim (λ e. omega arith) (⊎-elim (λ e. omega arith) (⊎-elim (λ e. omega arith) (λ e. omega arith))))) o)
     test-met d DeepTest o e = absurd e
 
     pub path-met : n ≡ suc ruleNesting → (h : PathHead) → OneOf (0 ∷ 1 ∷ 2 ∷ 3 ∷ 4 ∷ 6 ∷ []) (tagOf path-head.the-type h) → PathByte (getD s i 0) h → DeepAt s i (path n) i

@@ -7,7 +7,7 @@ use mathlib.Core.Option.{none}
 use Rattle.limits.specs.Limits.{ruleNesting}
 use Rattle.rule_spec.specs.Machine.{test, path, move, Stack}
 use Rattle.tokens.specs.declared.heads.TestHead.{TestHead}
-use Rattle.tokens.specs.declared.heads.TestHead.the-variants.{Name, Not, TwoTests, Comparison, NoTest, DeepTest}
+use Rattle.tokens.specs.declared.heads.TestHead.the-variants.{Name, Not, TwoTests, Comparison, Count, NoTest, DeepTest}
 use Rattle.tokens.specs.declared.heads.PathHead.{PathHead}
 use Rattle.tokens.specs.declared.heads.PathHead.the-variants.{Empty, Step, Bracket, TwoPaths, Star, NoPath, DeepPath}
 use Rattle.tokens.specs.Readers.{Stands, StuckAt, DeepAt}
@@ -17,6 +17,7 @@ TestByte b Name = b ≡ 58
 TestByte b Not = b ≡ 33
 TestByte b TwoTests = (b ≡ 38) ⊎ (b ≡ 124)
 TestByte b Comparison = b ≡ 40
+TestByte b Count = b ≡ 35
 TestByte b NoTest = (n : ℕ) (st : Stack) → move (test n ∷ st) b ≡ none
 TestByte b DeepTest = ⊥
 
@@ -39,6 +40,7 @@ module _ (s : List ℕ) (i n : ℕ) where
   TestBegins Not = Begun (λ b. TestByte b Not)
   TestBegins TwoTests = Begun (λ b. TestByte b TwoTests)
   TestBegins Comparison = Begun (λ b. TestByte b Comparison)
+  TestBegins Count = Begun (λ b. TestByte b Count)
   TestBegins NoTest = StuckAt s i (test n) i
   TestBegins DeepTest = DeepAt s i (test n) i
 

@@ -1,3 +1,4 @@
 pub mod Tallies
 pub mod Readers
+pub mod Numbers
 pub mod Heads

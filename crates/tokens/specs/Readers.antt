@@ -7,11 +7,13 @@ use mathlib.Core.List.{List, [], _∷_}
 use lib.ListN.{length, drop}
 use Rattle.limits.specs.Limits.{labelBytes, ruleNesting}
 use Rattle.lists.specs.Lists.{All}
+use Rattle.lists.specs.Text.{decimal}
+use Rattle.lists.specs.Numerals.{reading}
 use Rattle.xpath.specs.Syntax.{Op, Test, size}
 use Rattle.rule_spec.specs.Spelling.{sign, spellTest, spellPath}
 use Rattle.rule_spec.specs.Parts.{Part, testParts, pathParts}
 use Rattle.rule_spec.specs.Bytes.{choose}
-use Rattle.rule_spec.specs.Machine.{Symbol, test, path, byte, label, tail, quoted, signed, orEqual, operand, Stack, Value, Values, Operand, Answer, stopped, close, Key}
+use Rattle.rule_spec.specs.Machine.{Symbol, test, path, byte, label, tail, quoted, number, figures, signed, orEqual, operand, Stack, Value, Values, Operand, Answer, stopped, close, Key}
 use Rattle.rule_spec.specs.Readers.{goes, Ends, Stop, Meet, keys, spellOperand, Returns}
 use Rattle.tokens.specs.declared.read.Tally.{Tally}
 use Rattle.tokens.specs.declared.Sign.{Sign}
@@ -36,11 +38,13 @@ partsOf (byte c) u o = []
 partsOf label a o = []
 partsOf (tail i) a o = []
 partsOf (quoted i) c o = []
+partsOf number ds o = []
+partsOf (figures m) ds o = []
 partsOf (signed n) v o = operandParts (v .1) (o + length (sign (v .0))) n
 partsOf (orEqual n) v o = operandParts (v .1) (o + choose (v .0) 1 0) n
 partsOf (operand n) w o = operandParts w o n
 
--- the steps of a test count for the comparisons in it alone
+-- the steps of a test count for the comparisons and counts in it alone
 abbrev pub sizeOf : (x : Symbol) → Value x → ℕ
 sizeOf (test n) T = 0
 sizeOf (path n) P = size P
@@ -48,6 +52,8 @@ sizeOf (byte c) u = 0
 sizeOf label a = 0
 sizeOf (tail i) a = 0
 sizeOf (quoted i) c = 0
+sizeOf number ds = 0
+sizeOf (figures m) ds = 0
 sizeOf (signed n) v = operandSize (v .1)
 sizeOf (orEqual n) v = operandSize (v .1)
 sizeOf (operand n) w = operandSize w
@@ -59,6 +65,8 @@ width (byte c) u = 1
 width label a = length a
 width (tail i) a = length a
 width (quoted i) c = suc (length c)
+width number ds = length ds
+width (figures m) ds = length ds
 width (signed n) v = length (sign (v .0)) + length (spellOperand (v .1))
 width (orEqual n) v = choose (v .0) 1 0 + length (spellOperand (v .1))
 width (operand n) w = length (spellOperand w)
@@ -110,6 +118,12 @@ module _ (s : List ℕ) where
   Reading x i k t (Behind j l u) = Back x i k t j l u
   Reading x i k t (Stuck j) = StuckAt j x i
   Reading x i k t (Deep j) = DeepAt j x i
+
+  -- the n of a count: its digits are those of the number that they make
+  abbrev pub NumberRead : ℕ → ℕ → Tally → Read → Type 0
+  NumberRead i k t (Behind j l u) = (c : Back number i k t j l u) × (decimal (reading (c .value)) ≡ c .value)
+  NumberRead i k t (Stuck j) = StuckAt j number i
+  NumberRead i k t (Deep j) = DeepAt j number i
 
   -- behind the first letter of a name
   pub record NameEnds (i j : ℕ) : Type 0 where

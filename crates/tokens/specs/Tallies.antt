@@ -26,17 +26,17 @@ begins (suc l) c h o = tally l c h
 unfoldable pub begun : Tally → ℕ → Tally
 begun t o = begins (t .left) (t .crowded) (t .heavy) o
 
--- of several comparisons of too many steps the first counts
+-- of several comparisons and counts of too many steps the first is named
 abbrev pub heavier : ℕ → ℕ → ℕ → ℕ
 heavier h o m = choose (leb m comparisonSteps) h (min h o)
 
--- a comparison at o has m steps
+-- a comparison or a count at o has m steps
 unfoldable pub weighed : Tally → ℕ → ℕ → Tally
 weighed t o m = tally (t .left) (t .crowded) (heavier (t .heavy) o m)
 
 unfoldable pub noted : Tally → ℕ → Sort → Tally
 noted t o Sort.test = begun t o
-noted t o (Sort.comparison m) = weighed (begun t o) o m
+noted t o (Sort.stepped m) = weighed (begun t o) o m
 noted t o Sort.path = t
 
 unfoldable pub tallied : Tally → List Part → Tally

@@ -10,6 +10,7 @@ pub enum TestHead {
     Not,
     TwoTests,
     Comparison,
+    Count,
     NoTest,
     DeepTest,
 }
@@ -32,6 +33,7 @@ fn test_byte(b: u8) -> TestHead
         b'!' => TestHead::Not,
         b'&' | b'|' => TestHead::TwoTests,
         b'(' => TestHead::Comparison,
+        b'#' => TestHead::Count,
         _ => TestHead::NoTest,
     }
 }

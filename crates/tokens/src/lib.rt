@@ -1,4 +1,4 @@
-// The tokens of a rule, in which no test or path stands: bytes, names, constants and signs; and what the first byte of a test or path begins.
+// The tokens of a rule, in which no test or path stands: bytes, names, numbers, constants and signs; and what the first byte of a test or path begins.
 pub mod heads;
 pub mod read;
 
@@ -8,11 +8,14 @@ use limits::Document;
 use limits::Rule;
 use read::Read;
 use read::Tally;
-ghost use Prim.Native.Nat.{ℕ, _≤_};
-ghost use lib.ListN.{length};
-ghost use Rattle.rule_spec.specs.Machine.{label, byte, quoted, operand};
-ghost use Rattle.limits.specs.Limits.{constantBytes};
-ghost use Rattle.tokens.specs.Readers.{Stands, Stood, NameEnds, Reading, SignRead};
+ghost use mathlib.Core.Path.{_≡_};
+ghost use Prim.Native.Nat.{ℕ, _+_, _-_, _*_, _≤_};
+ghost use lib.ListN.{length, drop};
+ghost use Rattle.lists.specs.Text.{Digit};
+ghost use Rattle.rule_spec.specs.Machine.{label, byte, goesOn, quoted, operand};
+ghost use Rattle.limits.specs.Limits.{constantBytes, ruleCount};
+ghost use Rattle.tokens.specs.Readers.{Stands, Stood, NameEnds, NumberRead, Reading, SignRead};
+ghost use Rattle.tokens.specs.Numbers.{numbered};
 
 // Where a comparison goes on behind its sign, or the first byte that no sign has.
 pub enum Sign {
@@ -76,6 +79,72 @@ pub fn name(s: &[u8], at: usize, k: usize, t: Tally) -> Read
         return Read::Stuck(at);
     }
     Read::Behind(name_end(s, at + 1), k, t)
+}
+
+// The number that digits make, and the offset behind them.
+pub struct Digits {
+    pub value: usize,
+    pub next: usize,
+}
+
+// What a number becomes by a digit more.
+fn with_digit(n: usize, b: u8) -> usize
+    requires { ⌜ (n ≤ ruleCount) × Digit b ⌝ }
+    ensures { λ r. ⌜ r ≡ n * 10 + (b - 48) ⌝ }
+{
+    n * 10 + (b - b'0') as usize
+}
+
+// Whether a byte is a digit that may come behind those of n: none comes behind a zero, and the number stays one that a count may have.
+fn goes_on(n: usize, b: u8) -> bool
+    requires { ⌜ n ≤ ruleCount ⌝ }
+    ensures { λ r. ⌜ r ≡ goesOn n b ⌝ }
+{
+    if !fits(Class::Digit, b) {
+        return false;
+    }
+    if n == 0 {
+        return false;
+    }
+    with_digit(n, b) <= Rule::MAX_COUNT
+}
+
+// The digits of a count's number from an offset on, as many as it can have; none make 0.
+pub fn figures(s: &[u8], at: usize) -> Digits
+    requires { ⌜ at ≤ length (now s) ⌝ }
+    ensures { λ r. ⌜ r ≡ numbered at (drop at (now (s .entry))) ⌝ }
+{
+    if at == s.len() {
+        return Digits { value: 0, next: at };
+    }
+    let first = s[at];
+    if !fits(Class::Digit, first) {
+        return Digits { value: 0, next: at };
+    }
+    let mut n = with_digit(0, first);
+    let mut i = at + 1;
+    while i < s.len() {
+        let b = s[i];
+        if !goes_on(n, b) {
+            return Digits { value: n, next: i };
+        }
+        n = with_digit(n, b);
+        i += 1;
+    }
+    Digits { value: n, next: i }
+}
+
+// The number of a count, behind which its path is due.
+pub fn number(s: &[u8], at: usize, k: usize, t: Tally) -> Read
+    requires { ⌜ (at ≤ length (now s)) × (k ≤ at) ⌝ }
+    ensures { λ r. ⌜ NumberRead (now (s .entry)) at k t r ⌝ }
+{
+    let f = figures(s, at);
+    let j = f.next;
+    if j == at {
+        return Read::Stuck(at);
+    }
+    Read::Behind(j, k, t)
 }
 
 // The bytes of a constant behind its opening quote, and the quote that ends it.

@@ -1,6 +1,6 @@
 // What every reader of a rule answers, and the tally that it hands on.
 
-// How many tests may still begin, where the first test too many begins, and the first comparison of too many steps.
+// How many tests may still begin, where the first test too many begins, and the first comparison or count of too many steps.
 pub struct Tally {
     pub left: usize,
     pub crowded: usize,

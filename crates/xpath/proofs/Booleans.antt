@@ -1,9 +1,9 @@
 -- Tests that compute, and equivalences of what they tell.
-use Prim.Native.Nat.{ℕ, _<_}
+use Prim.Native.Nat.{ℕ, _≤_, _<_}
 use mathlib.Core.Path.{_≡_, subst}
 use mathlib.Core.Logic.{_⊎_, inl, inr, _↔_}
 use mathlib.Core.Bool.{Bool, true, false}
-use lib.Dec.{T, ltb, eqb, ltb→lt, lt→ltb, eqb→eq, eqb-refl}
+use lib.Dec.{T, leb, ltb, eqb, leb→le, le→leb, ltb→lt, lt→ltb, eqb→eq, eqb-refl}
 use Rattle.xpath.specs.Booleans.{both, either}
 
 -- ── Tests ──
@@ -30,12 +30,18 @@ T-neg false = (λ h f. f, λ f. tt)
 pub eqb-iff : (m n : ℕ) → T (eqb m n) ↔ (m ≡ n)
 eqb-iff m n = (eqb→eq m n, λ e. subst (λ x. T (eqb m x)) e (eqb-refl m))
 
+pub leb-iff : (m n : ℕ) → T (leb m n) ↔ (m ≤ n)
+leb-iff m n = (leb→le m n, le→leb m n)
+
 pub ltb-iff : (m n : ℕ) → T (ltb m n) ↔ (m < n)
 ltb-iff m n = (ltb→lt m n, lt→ltb m n)
 
 -- ── Equivalences ──
 pub trans : {A B C : Type 0} → A ↔ B → B ↔ C → A ↔ C
 trans f g = (λ a. g .0 (f .0 a), λ c. f .1 (g .1 c))
+
+pub swap : {A B : Type 0} → A ↔ B → B ↔ A
+swap f = (f .1, f .0)
 
 pub same : {A : Type 0} → A ↔ A
 same = (λ a. a, λ a. a)

@@ -7,17 +7,18 @@ use mathlib.Core.Option.{Option, none, some}
 use mathlib.Core.List.{List, [], _∷_}
 use native.Mathlib.Omega.{arith}
 use native.Mathlib.Decide.{ℕ-discrete}
-use lib.Dec.{T, ltb, eqb, ltb→lt, lt→ltb, eqb→eq, eqb-refl}
-use Rattle.lists.specs.Lists.{Occurs}
+use lib.Dec.{T, leb, ltb, eqb, ltb→lt, lt→ltb, eqb→eq, eqb-refl}
+use Rattle.lists.specs.Lists.{Occurs, AtLeast, Number}
 use Rattle.lists.specs.Blanks.{trim}
-use Rattle.xpath.specs.Syntax.{Op, eq, ne, lt, le, gt, ge, Test, named, not, and, or, compare, compareTo, XPath, empty, one, seq, union, star, Step, toLeft, toRight, fromLeft, fromRight, stay}
+use Rattle.lists.proofs.Lists.{number-none, number-single, number-add, number-iff, at-least-number, at-least-iff}
+use Rattle.xpath.specs.Syntax.{Op, eq, ne, lt, le, gt, ge, Test, named, not, and, or, compare, compareTo, atLeast, XPath, empty, one, seq, union, star, Step, toLeft, toRight, fromLeft, fromRight, stay}
 use Rattle.xpath.specs.Tree.{Tree, Child, WellFormed}
 use Rattle.xpath.specs.Meaning.{ByAmount, Rel, Many, none, more, Holds, Reaches, Moves}
 use Rattle.xpath.specs.Booleans.{both, either}
 use Rattle.xpath.specs.Amounts.{Amount, Below, AtMost}
 use Rattle.xpath.specs.Reading.{amountOf}
 use Rattle.xpath.proofs.Amounts.{amount-iff}
-use Rattle.xpath.proofs.Booleans.{neg, T-both, T-either, T-neg, eqb-iff, ltb-iff, ⊎-iff, ×-iff, ¬-iff, trans, same}
+use Rattle.xpath.proofs.Booleans.{neg, T-both, T-either, T-neg, eqb-iff, leb-iff, ltb-iff, ⊎-iff, ×-iff, ¬-iff, trans, swap, same}
 
 -- ── Tests ──
 abbrev pub someBelow : ℕ → (ℕ → Bool) → Bool
@@ -38,6 +39,31 @@ some-step n f ih = (λ h. to (T-either (f n) (someBelow n f) .0 h), λ h. from (
 pub some-iff : (n : ℕ) (f : ℕ → Bool) → T (someBelow n f) ↔ ((i : ℕ) × (i < n) × T (f i))
 some-iff zero f = (λ h. absurd h, λ h. let r = h .1 in absurd (omega arith))
 some-iff (suc n) f = some-step n f (some-iff n f)
+
+-- ── How many ──
+abbrev countBelow : ℕ → (ℕ → Bool) → ℕ
+countBelow zero f = 0
+countBelow (suc n) f = elim (f n) [ true ↦ suc (countBelow n f) | false ↦ countBelow n f ]
+
+count-number : (n : ℕ) (f : ℕ → Bool) → Number (λ i. (i < n) × T (f i)) (countBelow n f)
+count-number zero f = number-none _ (λ i (r, h). omega arith)
+count-number (suc n) f = go (f n) refl (count-number n f)
+  where
+    go : (b : Bool) → f n ≡ b → Number (λ i. (i < n) × T (f i)) (countBelow n f) → Number (λ i. (i < suc n) × T (f i)) (elim b [ true ↦ suc (countBelow n f) | false ↦ countBelow n f ])
+    go true e ih = subst (λ m. Number (λ i. (i < suc n) × T (f i)) m) (omega arith) (number-iff (λ i. (with-last i, split i (ℕ-discrete i n))) (number-add (number-single n) ih (λ i p (r, h). omega arith)))
+      where
+        with-last : (i : ℕ) → (i ≡ n) ⊎ ((i < n) × T (f i)) → (i < suc n) × T (f i)
+        with-last i (inl p) = (omega arith, subst (λ j. T (f j)) (sym p) (subst T (sym e) tt))
+        with-last i (inr (r, h)) = (omega arith, h)
+
+        split : (i : ℕ) → Dec (i ≡ n) → (i < suc n) × T (f i) → (i ≡ n) ⊎ ((i < n) × T (f i))
+        split i (yes p) h = inl p
+        split i (no p) (r, h) = inr (omega arith, h)
+    go false e ih = number-iff (λ i. (λ (r, h). (omega arith, h), λ (r, h). (inner i r h (ℕ-discrete i n), h))) ih
+      where
+        inner : (i : ℕ) → i < suc n → T (f i) → Dec (i ≡ n) → i < n
+        inner i r h (yes p) = absurd (subst T e (subst (λ j. T (f j)) p h))
+        inner i r h (no p) = omega arith
 
 -- ── All of a list ──
 module _ {A : Type 0} (f : A → Bool) where
@@ -209,6 +235,7 @@ abbrev mutual
   holdsb t (compare o P Q) v =
       someBelow (t .size) (λ w. both (reachb t P v w) (someBelow (t .size) (λ u. both (reachb t Q v u) (relb o (t .value w) (t .value u)))))
   holdsb t (compareTo o P c) v = someBelow (t .size) (λ w. both (reachb t P v w) (relb o (t .value w) (trim c)))
+  holdsb t (atLeast n P) v = leb n (countBelow (t .size) (λ w. reachb t P v w))
 
   pub reachb : Tree → XPath → ℕ → ℕ → Bool
   reachb t empty v w = eqb v w
@@ -285,6 +312,9 @@ module _ (t : Tree) (wf : WellFormed t) where
         (λ w x. trans (T-both (reachb t P v w) (relb o (t .value w) (trim c))) (×-iff (reach-iff P v w r x) (rel-iff o (t .value w) (trim c))))
         (λ w h. reaches-inside P v w r (h .0)))
         flat
+    holds-iff (atLeast n P) v r =
+        trans (trans (leb-iff n (countBelow (t .size) (λ w. reachb t P v w))) (swap (at-least-number (count-number (t .size) (λ w. reachb t P v w)))))
+        (at-least-iff (λ w. (λ (x, h). reach-iff P v w r x .0 h, λ h. let x = reaches-inside P v w r h in (x, reach-iff P v w r x .1 h))))
 
     pub reach-iff : (P : XPath) (v w : ℕ) → v < t .size → w < t .size → T (reachb t P v w) ↔ Reaches t P v w
     reach-iff empty v w r x = eqb-iff v w

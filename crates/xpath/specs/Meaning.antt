@@ -4,8 +4,9 @@ use mathlib.Core.Path.{_≡_}
 use mathlib.Core.Logic.{_⊎_, _≢_}
 use mathlib.Core.Bool.{true, false}
 use mathlib.Core.List.{List}
+use Rattle.lists.specs.Lists.{AtLeast}
 use Rattle.lists.specs.Blanks.{trim}
-use Rattle.xpath.specs.Syntax.{Op, eq, ne, lt, le, gt, ge, Test, named, not, and, or, compare, compareTo, XPath, empty, one, seq, union, star, Step, toLeft, toRight, fromLeft, fromRight, stay}
+use Rattle.xpath.specs.Syntax.{Op, eq, ne, lt, le, gt, ge, Test, named, not, and, or, compare, compareTo, atLeast, XPath, empty, one, seq, union, star, Step, toLeft, toRight, fromLeft, fromRight, stay}
 use Rattle.xpath.specs.Tree.{Tree, Child}
 use Rattle.xpath.specs.Amounts.{Amount, HasAmount, Below, AtMost}
 
@@ -28,7 +29,7 @@ pub data Many (R : ℕ → ℕ → Type 0) : ℕ → ℕ → Type 0 where
   more : {v u w : ℕ} → R v u → Many R u w → Many R v w
 
 abbrev mutual
-  -- T holds at v; a comparison, if some node reached by the first path and some node reached by the second (or c) have values in that relation; 02 (b): blanks at the ends of c do not count
+  -- T holds at v; a comparison, if some node reached by the first path and some node reached by the second (or c) have values in that relation; 02 (b): blanks at the ends of c do not count; 02 (h): a count, if its path reaches at least n different nodes
   pub Holds : Tree → Test → ℕ → Type 0
   Holds t (named n) v = t .label v ≡ n
   Holds t (not T) v = ¬ Holds t T v
@@ -36,6 +37,7 @@ abbrev mutual
   Holds t (or T U) v = Holds t T v ⊎ Holds t U v
   Holds t (compare o P Q) v = (w u : ℕ) × Reaches t P v w × Reaches t Q v u × Rel o (t .value w) (t .value u)
   Holds t (compareTo o P c) v = (w : ℕ) × Reaches t P v w × Rel o (t .value w) (trim c)
+  Holds t (atLeast n P) v = AtLeast n (λ w. Reaches t P v w)
 
   -- P reaches w from v
   pub Reaches : Tree → XPath → ℕ → ℕ → Type 0

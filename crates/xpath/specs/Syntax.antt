@@ -8,7 +8,7 @@ pub data Op : Type 0 where
   eq ne lt le gt ge : Op
 
 mutual
-  -- :name, !T, &TT, |TT, (P o P), (P o "c")
+  -- :name, !T, &TT, |TT, (P o P), (P o "c"), and 02 (h) #nP
   pub data Test : Type 0 where
     named : List ℕ → Test
     not : Test → Test
@@ -16,6 +16,7 @@ mutual
     or : Test → Test → Test
     compare : Op → XPath → XPath → Test
     compareTo : Op → XPath → List ℕ → Test
+    atLeast : ℕ → XPath → Test
 
   -- e, a step, .PP one after the other, +PP either, *P zero or more times
   pub data XPath : Type 0 where

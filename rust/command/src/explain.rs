@@ -38,6 +38,7 @@ fn form_words(form: &Form<'_>) -> String {
     let words = match form {
         Form::Name(name) => return format!("the label is `{name}`"),
         Form::Comparison { sign, constant, .. } => return comparison_words(sign, *constant),
+        Form::Count { nodes, .. } => return count_words(nodes),
         Form::Not => "this does not hold:",
         Form::And => "both of these hold:",
         Form::Or => "at least one of these holds:",
@@ -117,6 +118,16 @@ fn comparison_words(sign: &str, constant: Option<&str>) -> String {
             constant_words(constant)
         ),
     }
+}
+
+/// A count asks for different nodes, however they are reached.
+fn count_words(nodes: &str) -> String {
+    let reached = match nodes {
+        "0" => "0 nodes, which holds everywhere".to_string(),
+        "1" => "1 node".to_string(),
+        _ => format!("{nodes} different nodes"),
+    };
+    format!("count: the path reaches at least {reached}")
 }
 
 /// Whether a text without blanks at its ends is a numeral: a minus or none, some

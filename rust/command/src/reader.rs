@@ -18,14 +18,14 @@ pub struct Part<'a> {
     pub form: Form<'a>,
 }
 
-/// What a part is to the comparison that it stands directly inside.
+/// What a part is to the comparison or the count that it stands directly inside.
 #[derive(Clone, Copy, Debug, PartialEq, Eq)]
 pub enum Role {
     FirstPath,
     SecondPath,
-    /// The path that is compared with a constant.
+    /// The path that is compared with a constant, or whose nodes are counted.
     OnlyPath,
-    /// It stands in no comparison, or not directly.
+    /// It stands in no comparison or count, or not directly.
     None,
 }
 
@@ -46,6 +46,13 @@ pub enum Form<'a> {
         /// `None` if there is a second path.
         constant: Option<&'a str>,
         /// The steps of its paths together.
+        steps: usize,
+    },
+    /// `#nP`
+    Count {
+        /// The n, as it is written.
+        nodes: &'a str,
+        /// The steps of its path.
         steps: usize,
     },
     /// `e`
@@ -73,8 +80,21 @@ impl Form<'_> {
     pub fn is_test(&self) -> bool {
         matches!(
             self,
-            Form::Name(_) | Form::Not | Form::And | Form::Or | Form::Comparison { .. }
+            Form::Name(_)
+                | Form::Not
+                | Form::And
+                | Form::Or
+                | Form::Comparison { .. }
+                | Form::Count { .. }
         )
+    }
+
+    /// The steps, of a comparison or a count; those of other parts have no limit.
+    pub fn steps(&self) -> Option<usize> {
+        match self {
+            Form::Comparison { steps, .. } | Form::Count { steps, .. } => Some(*steps),
+            _ => None,
+        }
     }
 }
 
@@ -118,8 +138,19 @@ impl<'a> Reader<'a> {
                 self.test(nesting + 1);
                 self.test(nesting + 1);
             }
+            b'#' => self.count(offset, nesting),
             _ => self.comparison(offset, nesting),
         }
+    }
+
+    /// Reads a count from behind its `#`. The steps are known behind its path.
+    fn count(&mut self, offset: usize, nesting: usize) {
+        let own = self.parts.len();
+        let nodes = self.take_while(|byte| byte.is_ascii_digit());
+        let count = |steps| Form::Count { nodes, steps };
+        self.add(offset, nesting, Role::None, count(0));
+        let steps = self.path(nesting + 1, Role::OnlyPath);
+        self.parts[own].form = count(steps);
     }
 
     /// Reads a comparison from behind its opening bracket. Its sign stands
@@ -159,7 +190,7 @@ impl<'a> Reader<'a> {
     }
 
     /// Reads a path and all inside it, and returns the number of its steps. A
-    /// bracket is one step: what is inside it has comparisons of its own.
+    /// bracket is one step: what is inside it has steps of its own.
     fn path(&mut self, nesting: usize, role: Role) -> usize {
         let offset = self.at;
         let byte = self.byte();

@@ -16,7 +16,8 @@
 //!
 //! What documents and rules look like, and what they mean, is written in the
 //! repository's `docs/FORMAT.md`. `=` and `!=` compare values as text, and the
-//! order signs compare them as amounts: [`Selector`] has an example.
+//! order signs compare them as amounts; `#nP` asks for at least n nodes that the
+//! path P reaches. [`Selector`] has examples of both.
 //!
 //! # Building
 //!

@@ -30,11 +30,15 @@ pub const MAX_TESTS: usize = 64;
 /// The deepest nesting of a part of a rule; the whole rule has nesting 1.
 pub const MAX_NESTING: usize = 32;
 
-/// The most steps of a comparison, both paths together.
+/// The most steps of a comparison, both paths together, and of a count.
 pub const MAX_STEPS: usize = 14;
 
 /// The most bytes of a constant in a rule.
 pub const MAX_CONSTANT: usize = 32;
+
+/// The greatest number that a count may ask for: `#nP` holds where the path P
+/// reaches at least n different nodes.
+pub const MAX_COUNT: usize = 4_096;
 
 /// The most digits of a numeral, those behind its point not counted. What has
 /// more is not refused: it is no numeral, and no order sign holds with it.

@@ -28,7 +28,7 @@ pub enum Ground {
     Nesting = 7,
     /// The rule has too many tests.
     Tests = 8,
-    /// A comparison has too many steps.
+    /// A comparison or a count has too many steps.
     Steps = 9,
     /// The scratch is too short.
     ScratchLength = 10,

@@ -3,7 +3,9 @@
 use crate::archive;
 use crate::refusal::Refusal;
 
-/// A checked rule: one test by which nodes are selected.
+/// A checked rule: one test by which nodes are selected. It asks for a label
+/// (`:drug`), compares values that paths lead to (`(l="heparin")`), or counts the
+/// nodes that a path leads to (`#3.l*r`), and joins or denies such tests.
 ///
 /// It borrows the bytes that were checked, so that they cannot change behind
 /// it. They are kept as they are written, though a constant is compared without

@@ -43,6 +43,32 @@ pub enum Method {
 /// # Ok::<(), yurzhoad::Refusal>(())
 /// ```
 ///
+/// A count `#nP` holds where the path P reaches at least n different nodes, n
+/// being 0 to 4,096: a node that is reached in two ways counts once. `.l*r` leads
+/// to all nodes directly inside, attributes included.
+///
+/// ```
+/// use yurzhoad::{Library, Method, Rule, Selector};
+///
+/// let document = "nodes=5\ndepth=0\nkind=e\nlabel=drug\nvalue=\n\
+///                 depth=1\nkind=a\nlabel=name\nvalue=heparin\n\
+///                 depth=1\nkind=e\nlabel=strength\nvalue=\n\
+///                 depth=1\nkind=e\nlabel=strength\nvalue=\n\
+///                 depth=1\nkind=e\nlabel=strength\nvalue=\n";
+/// let library = Library::check(document)?;
+/// let mut selector = Selector::new(Method::Snippets);
+/// for (rule, selected) in [
+///     ("#4.l*r", 1),
+///     ("#3..l*r[:strength]", 1),
+///     ("#4..l*r[:strength]", 0),
+///     ("#2+ee", 0),
+/// ] {
+///     let rule = Rule::check(rule)?;
+///     assert_eq!(selector.select(&library, &rule).selected(), selected);
+/// }
+/// # Ok::<(), yurzhoad::Refusal>(())
+/// ```
+///
 /// ```
 /// use yurzhoad::{Library, Method, Rule, Selector};
 ///

@@ -24,6 +24,9 @@ pub fn of(ground: Ground, place: usize, document: &[u8], rule: &[u8]) -> String 
         Ground::Unreadable => "it does not read on from here".to_string(),
         Ground::Nesting => format!("the part that begins here is nested deeper than {MAX_NESTING}"),
         Ground::Tests => format!("a test begins here, and {MAX_TESTS} tests are before it already"),
+        Ground::Steps if rule.get(place) == Some(&b'#') => {
+            format!("the count that begins here has more than {MAX_STEPS} steps")
+        }
         Ground::Steps => format!("the comparison that opens here has more than {MAX_STEPS} steps"),
         Ground::ScratchLength => {
             let nodes = count(document).unwrap_or(0);

@@ -5,12 +5,12 @@ use std::cell::RefCell;
 use std::hint::black_box;
 use std::time::Duration;
 
-use crate::libraries::{LibraryShape, LIBRARY_SHAPES};
+use crate::libraries::LIBRARY_SHAPES;
 use crate::straightforward::{plain, snippets, Answer};
 use crate::timing::{ratio, time_for, Subject, Times};
 use evaluator::document::spell;
 use evaluator::samples::selections::SESSION;
-use yurzhoad::archive::{evaluate_plain, evaluate_snippets, Evaluation};
+use yurzhoad::archive::{check_document, evaluate_plain, evaluate_snippets, Evaluation};
 use yurzhoad::limits::needed_words;
 
 /// So many nodes have the documents.
@@ -62,39 +62,60 @@ pub fn print() {
     for shape in LIBRARY_SHAPES {
         let documents = SIZES.map(|nodes| spell(&(shape.library)(nodes)));
         for (name, rule) in RULES {
-            compare(&shape, &documents, name, rule.as_bytes());
+            let cases = documents
+                .each_ref()
+                .map(|document| Case::of(document, rule));
+            println!("\n{}, {name}: {rule}", shape.name);
+            compare(&cases, BUDGET);
         }
     }
 }
 
-/// The times of one size: proved and Rust, for each evaluation.
-type Row<'a> = &'a [Times];
+/// A document with the rule that is evaluated on it.
+pub struct Case<'a> {
+    pub document: &'a [u8],
+    pub rule: &'a [u8],
+    pub nodes: usize,
+}
 
-/// Prints both evaluations in both versions at each size, and how they grow.
-fn compare(shape: &LibraryShape, documents: &[Vec<u8>; 3], name: &str, rule: &[u8]) {
-    let mut subjects = Vec::new();
-    let mut answers = Vec::new();
-    for (document, nodes) in documents.iter().zip(SIZES) {
-        answers.push(assert_same_answers(document, rule, nodes));
-        for versions in &EVALUATIONS {
-            subjects.push(proved(versions, document, rule, nodes));
-            subjects.push(straightforward(versions, document, rule, nodes));
+impl Case<'_> {
+    pub fn of<'a>(document: &'a [u8], rule: &'a str) -> Case<'a> {
+        Case {
+            document,
+            rule: rule.as_bytes(),
+            nodes: check_document(document).nodes,
         }
     }
-    let times = time_for(&subjects, BUDGET);
-    let (runs, shown) = (times[0].runs, rule.escape_ascii());
-    println!("\n{}, {name}: {shown}, {runs} runs", shape.name);
+}
+
+/// The times of one case: proved and Rust, for each evaluation.
+type Row<'a> = &'a [Times];
+
+/// Prints both evaluations in both versions on each of some cases, and how they
+/// grow from one to the next.
+pub fn compare(cases: &[Case], budget: Duration) {
+    let mut subjects = Vec::new();
+    let mut answers = Vec::new();
+    for case in cases {
+        answers.push(assert_same_answers(case.document, case.rule, case.nodes));
+        for versions in &EVALUATIONS {
+            subjects.push(proved(versions, case.document, case.rule, case.nodes));
+            subjects.push(straightforward(versions, case));
+        }
+    }
+    let times = time_for(&subjects, budget);
     let rows: Vec<Row> = times.chunks(2 * EVALUATIONS.len()).collect();
-    for (at, row) in rows.iter().enumerate() {
-        let Answer { selected, snippets } = answers[at];
+    println!("  {} runs", times[0].runs);
+    for ((case, answer), row) in cases.iter().zip(&answers).zip(&rows) {
+        let Answer { selected, snippets } = answer;
         println!(
             "  {} nodes, {selected} marked, {snippets} snippets",
-            SIZES[at]
+            case.nodes
         );
         print_row(row);
     }
-    for pair in [[0, 1], [1, 2]] {
-        print_growth(pair.map(|at| SIZES[at]), pair.map(|at| rows[at]));
+    for (pair, times) in cases.windows(2).zip(rows.windows(2)) {
+        print_growth([pair[0].nodes, pair[1].nodes], [times[0], times[1]]);
     }
 }
 
@@ -154,13 +175,9 @@ pub fn proved<'a>(
     }
 }
 
-fn straightforward<'a>(
-    versions: &'a Versions,
-    document: &'a [u8],
-    rule: &'a [u8],
-    nodes: usize,
-) -> Subject<'a> {
-    let marks = RefCell::new(vec![0; nodes]);
+fn straightforward<'a>(versions: &'a Versions, case: &Case<'a>) -> Subject<'a> {
+    let (document, rule) = (case.document, case.rule);
+    let marks = RefCell::new(vec![0; case.nodes]);
     let call = move || {
         let marks = &mut marks.borrow_mut();
         (versions.rust)(black_box(document), black_box(rule), marks).selected

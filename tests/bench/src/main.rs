@@ -8,8 +8,8 @@
 //! cargo run --release --offline -p bench
 //! ```
 //!
-//! With `documents`, `rules`, `evaluations`, `values` or `wrapper` behind `--` only
-//! these are timed.
+//! With `documents`, `rules`, `evaluations`, `counts`, `values` or `wrapper` behind
+//! `--` only these are timed.
 //!
 //! The workspace's release profile has overflow checks and debug assertions;
 //! it switches them off for this package, whose scans and whose evaluation are
@@ -20,6 +20,7 @@
 
 mod amounts;
 mod attributes;
+mod counts;
 mod documents;
 mod evaluations;
 mod libraries;
@@ -32,12 +33,14 @@ mod texts;
 mod timing;
 mod values;
 mod wrapper;
+mod xpath;
 
 /// What can be timed, by name.
-const PARTS: [(&str, fn()); 5] = [
+const PARTS: [(&str, fn()); 6] = [
     ("documents", documents::print),
     ("rules", rules::print),
     ("evaluations", evaluations::print),
+    ("counts", counts::print),
     ("values", values::print),
     ("wrapper", wrapper::print),
 ];

@@ -1,10 +1,12 @@
 //! The same meaning for large libraries, in a quicker way than its definition.
 //!
-//! Relations over 4,096 nodes are too large to be joined, so sets of nodes are
-//! kept in their place, and a comparison is settled for all nodes at once: its
+//! From each of 4,096 nodes a path may lead to all others, and then every two
+//! values that two paths lead to would be compared. So sets of nodes are kept in
+//! the place of relations, and a comparison is settled for all nodes at once: its
 //! paths are followed backwards from the nodes of one text after the other, or
 //! for an order sign of one amount after the other. The proved crate `backward`
-//! goes backwards from the ends too. That this is the meaning is tried against
+//! goes backwards from the ends too. A count asks how many nodes there are, and
+//! is settled by the relation here too. That this is the meaning is tried against
 //! `meaning` on random libraries of up to 300 nodes, in the tests
 //! `backward_is_the_same_meaning_on_small_trees` and
 //! `backward_is_the_same_meaning_on_larger_trees`.
@@ -12,7 +14,7 @@
 use std::collections::BTreeMap;
 
 use crate::amount::amount;
-use crate::meaning::{compare, related};
+use crate::meaning::{compare, reaches_where, related};
 use crate::rule::{Operand, Path, Sign, Test};
 use crate::tree::{trimmed, Tree};
 
@@ -95,6 +97,11 @@ impl Groups<'_> {
                 self.marked(self.track(p).sources(self.tree, &ends))
             }
             Test::Compare(p, sign, Operand::Path(r)) => self.between_paths(p, *sign, r),
+            Test::AtLeast(n, p) => {
+                let reached = reaches_where(self.tree, p, &|test| self.holds(test));
+                let nodes = 0..self.tree.size();
+                nodes.map(|v| reached.from(v).len() >= *n).collect()
+            }
         }
     }
 

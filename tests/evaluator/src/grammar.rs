@@ -6,11 +6,21 @@
 //! so a prefix begins some rule exactly if some stack is left.
 
 use std::collections::BTreeSet;
+use std::sync::LazyLock;
 
 use crate::document::{is_name_byte, LABEL_LIMIT};
 
 /// "c is 0 to 32 bytes from 0x20 to 0x7E without the double quote"
 pub const CONSTANT_LIMIT: usize = 32;
+/// "n from 0 to 4,096 in base ten without leading zeros" (02, h)
+pub const COUNT_LIMIT: usize = 4_096;
+
+/// All that begins the n of some count: the numbers written out, cut anywhere.
+static NUMBER_BEGINS: LazyLock<BTreeSet<String>> = LazyLock::new(|| {
+    let numbers = (0..=COUNT_LIMIT).map(|number| number.to_string());
+    let begins = |text: String| (0..=text.len()).map(move |end| text[..end].to_string());
+    numbers.flat_map(begins).collect()
+});
 
 #[derive(Clone, Copy, Debug, PartialEq, Eq, PartialOrd, Ord)]
 enum Symbol {
@@ -27,6 +37,10 @@ enum Symbol {
     NameRest(usize),
     /// At most so many further bytes of a constant.
     ConstantRest(usize),
+    /// The n of a count.
+    Number,
+    /// What may come of it behind the digits of this number.
+    NumberRest(usize),
 }
 
 /// What may still be due; the last symbol comes first.
@@ -37,13 +51,14 @@ fn alternatives(symbol: Symbol) -> Vec<Vec<Symbol>> {
     use Symbol::*;
     let bytes = |text: &str| -> Vec<Symbol> { text.bytes().map(Byte).collect() };
     match symbol {
-        // T: `:name`, `!T`, `&TT`, `|TT`, `(P o P)` or `(P o "c")`
+        // T: `:name`, `!T`, `&TT`, `|TT`, `(P o P)` or `(P o "c")`; `#nP` (02, h)
         Test => vec![
             vec![Byte(b':'), Letter, NameRest(LABEL_LIMIT - 1)],
             vec![Byte(b'!'), Test],
             vec![Byte(b'&'), Test, Test],
             vec![Byte(b'|'), Test, Test],
             vec![Byte(b'('), Path, Sign, Operand, Byte(b')')],
+            vec![Byte(b'#'), Number, Path],
         ],
         // P: `e`, `l`, `r`, `L`, `R`, `[T]`, `.PP`, `+PP`, `*P`
         Path => vec![
@@ -65,8 +80,29 @@ fn alternatives(symbol: Symbol) -> Vec<Vec<Symbol>> {
         NameRest(0) | ConstantRest(0) => vec![vec![]],
         NameRest(most) => vec![vec![], vec![NameByte, NameRest(most - 1)]],
         ConstantRest(most) => vec![vec![], vec![ConstantByte, ConstantRest(most - 1)]],
+        Number => digits_behind(""),
+        // Each number that begins another one is a number itself.
+        NumberRest(number) => {
+            let longer = digits_behind(&number.to_string());
+            [vec![vec![]], longer].concat()
+        }
         Byte(_) | Letter | NameByte | ConstantByte => unreachable!("a terminal symbol"),
     }
+}
+
+/// The digits with which the n of a count goes on behind these ones.
+fn digits_behind(digits: &str) -> Vec<Vec<Symbol>> {
+    let longer = (0..10).map(|digit| format!("{digits}{digit}"));
+    longer
+        .filter(|text| NUMBER_BEGINS.contains(text))
+        .map(|text| {
+            let number = text.parse().expect("few digits");
+            vec![
+                Symbol::Byte(text.as_bytes()[digits.len()]),
+                Symbol::NumberRest(number),
+            ]
+        })
+        .collect()
 }
 
 /// Whether the symbol stands for single bytes.
@@ -155,6 +191,7 @@ fn filling(symbol: Symbol, long: bool) -> Vec<u8> {
     let text = match (symbol, long) {
         (Byte(byte), _) => return vec![byte],
         (NameRest(0) | ConstantRest(0), _) | (NameRest(_) | ConstantRest(_), false) => "",
+        (NumberRest(_), _) => "",
         (NameRest(_) | ConstantRest(_), true) => "z",
         (Letter, false) => "a",
         (Letter, true) => "z",
@@ -170,6 +207,8 @@ fn filling(symbol: Symbol, long: bool) -> Vec<u8> {
         (Sign, true) => ">=",
         (Operand, false) => "e",
         (Operand, true) => "\"c\"",
+        (Number, false) => "0",
+        (Number, true) => "4096",
     };
     text.as_bytes().to_vec()
 }

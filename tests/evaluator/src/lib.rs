@@ -1,12 +1,12 @@
-//! An evaluator of document 01 with the requests (b), (d) and (f) of document
-//! 02, written from their sentences and not from the proved code. No code is
-//! shared. The archive is compared with it.
+//! An evaluator of document 01 with the requests (b), (d), (f) and (h) of
+//! document 02, written from their sentences and not from the proved code. No
+//! code is shared. The archive is compared with it.
 //!
 //! By the definitions, over plain sets and tables, are
 //! - the checks: `document`, and `grammar` with `rule_check`;
 //! - the marks: `meaning`, where a path is the relation of the nodes that it
-//!   joins (`relation`);
-//! - the counts: `positions`, `chains` and `snippets`, where each skeleton is
+//!   joins (`relation`), and a count asks how many nodes one is related to;
+//! - the snippets: `positions`, `chains` and `snippets`, where each skeleton is
 //!   made from every two nodes of a value, and all first snippets and halves
 //!   are written out and kept in one set.
 //!
@@ -15,24 +15,25 @@
 //! amount, is said by `amount` and nowhere else, and how values compare by
 //! `meaning::compare`.
 //!
-//! The checks have no bound; marks and counts are meant for libraries of up to
+//! The checks have no bound; marks and snippets are meant for libraries of up to
 //! a few hundred nodes. In five places something is found in a quicker way than
 //! the sentence says, and the tests in `tests/suite` hold it against the
 //! sentence:
 //! - `document` keeps the labels of the attributes of the element at hand; in
 //!   `repeated_labels` every two attributes of one element are compared.
-//! - `relation` joins relations row by row and closes them by doubling; in
-//!   `relations` both are done pair by pair.
+//! - `relation` joins relations row by row and closes them by rows that grow
+//!   until none does; in `relations` both are done pair by pair.
 //! - `positions` keeps what two steps see of a word and not the words; in
 //!   `word_positions` the words are written out.
 //! - `chains` searches from place to place; in `place_chains` it is the closure
 //!   of the single links. A search by a list of what is open is also how the
 //!   proved plain evaluation walks (crate `reach`, over sets of positions).
-//! - `backward` has the marks a second time, and no counts, for libraries of up
-//!   to 4,096 nodes. That it goes backwards from the nodes where paths end is
+//! - `backward` has the marks a second time, and no snippets, for libraries of
+//!   up to 4,096 nodes. That it goes backwards from the nodes where paths end is
 //!   also the way of the proved crate `backward` (for constants and order, over
 //!   positions), so it is no way of its own; in `meanings` it is compared with
-//!   `meaning` at every node, on random libraries of up to 300 nodes.
+//!   `meaning` at every node, on random libraries of up to 300 nodes. Counts it
+//!   settles as `meaning` does; in `at_least` they are settled node by node.
 
 pub mod amount;
 pub mod backward;

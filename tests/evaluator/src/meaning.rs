@@ -41,6 +41,11 @@ pub fn holds(tree: &Tree, test: &Test) -> Vec<bool> {
             let related = |a: &[u8], v: usize| second[v].iter().any(|b| compare(*sign, a, b));
             at_each(&|v| first[v].iter().any(|a| related(a, v)))
         }
+        // "holds where P reaches at least n different nodes" (02, h)
+        Test::AtLeast(n, p) => {
+            let reached = reaches(tree, p);
+            at_each(&|v| reached.from(v).len() >= *n)
+        }
     }
 }
 
@@ -55,26 +60,38 @@ fn reached_values<'a>(tree: &'a Tree, path: &Path) -> Vec<Vec<&'a [u8]>> {
 
 /// The pairs of nodes from and to which a path leads.
 pub fn reaches(tree: &Tree, path: &Path) -> Relation {
-    let pairs =
-        |condition: &dyn Fn(usize, usize) -> bool| Relation::where_holds(tree.size(), condition);
+    reaches_where(tree, path, &|test| holds(tree, test))
+}
+
+/// The same, given where the tests in the brackets hold.
+pub fn reaches_where(tree: &Tree, path: &Path, holds: &dyn Fn(&Test) -> Vec<bool>) -> Relation {
+    let all = || 0..tree.size();
+    let inner = |path: &Path| reaches_where(tree, path, holds);
+    let child = |children: &[Option<usize>]| -> Vec<(usize, usize)> {
+        all().filter_map(|v| Some((v, children[v]?))).collect()
+    };
+    let parent = |children: &[Option<usize>]| -> Vec<(usize, usize)> {
+        child(children).into_iter().map(|(v, w)| (w, v)).collect()
+    };
+    let pairs = |pairs: Vec<(usize, usize)>| Relation::of(tree.size(), pairs);
     match path {
         // "`e` the empty path"
-        Path::Empty => pairs(&|v, w| v == w),
+        Path::Empty => pairs(all().map(|v| (v, v)).collect()),
         // "`l`, `r` to the left or right child"
-        Path::Left => pairs(&|v, w| tree.left[v] == Some(w)),
-        Path::Right => pairs(&|v, w| tree.right[v] == Some(w)),
+        Path::Left => pairs(child(&tree.left)),
+        Path::Right => pairs(child(&tree.right)),
         // "`L`, `R` from a left or right child to its parent"
-        Path::FromLeft => pairs(&|v, w| tree.left[w] == Some(v)),
-        Path::FromRight => pairs(&|v, w| tree.right[w] == Some(v)),
+        Path::FromLeft => pairs(parent(&tree.left)),
+        Path::FromRight => pairs(parent(&tree.right)),
         // "`[T]` stay where T holds"
         Path::Stay(test) => {
-            let test = holds(tree, test);
-            pairs(&|v, w| v == w && test[v])
+            let test = holds(test);
+            pairs(all().filter(|v| test[*v]).map(|v| (v, v)).collect())
         }
         // "`.PP` one after the other; `+PP` either; `*P` zero or more times"
-        Path::Then(a, b) => reaches(tree, a).then(&reaches(tree, b)),
-        Path::Either(a, b) => reaches(tree, a).union(&reaches(tree, b)),
-        Path::Repeat(inner) => reaches(tree, inner).repeated(),
+        Path::Then(a, b) => inner(a).then(&inner(b)),
+        Path::Either(a, b) => inner(a).union(&inner(b)),
+        Path::Repeat(a) => inner(a).repeated(),
     }
 }
 

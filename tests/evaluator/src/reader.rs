@@ -43,6 +43,7 @@ impl Reader<'_> {
                 assert_eq!(self.byte(), b')');
                 compare
             }
+            b'#' => Test::AtLeast(self.number(), self.path()),
             other => panic!("no test begins with byte {other}"),
         }
     }
@@ -70,6 +71,14 @@ impl Reader<'_> {
         let spelled = self.take_while(|byte| b"!<>=".contains(&byte));
         let named = |sign: &Sign| sign.spell() == spelled;
         Sign::ALL.into_iter().find(named).expect("a sign")
+    }
+
+    /// The n of a count. That it has no leading zeros shows when the rule is
+    /// spelled again.
+    fn number(&mut self) -> usize {
+        let digits = self.take_while(|byte| byte.is_ascii_digit());
+        let text = String::from_utf8(digits).expect("ASCII");
+        text.parse().expect("a number of a count")
     }
 
     fn operand(&mut self) -> Operand {

@@ -12,6 +12,8 @@ pub enum Test {
     Or(Box<Test>, Box<Test>),
     /// `(P o P)` or `(P o "c")`, written without blanks
     Compare(Path, Sign, Operand),
+    /// `#nP`
+    AtLeast(usize, Path),
 }
 
 #[derive(Clone, Copy, Debug, PartialEq, Eq)]
@@ -75,6 +77,14 @@ impl Sign {
 }
 
 impl Test {
+    /// The n and the path of a count.
+    pub fn counted(&self) -> Option<(usize, &Path)> {
+        match self {
+            Test::AtLeast(n, path) => Some((*n, path)),
+            _ => None,
+        }
+    }
+
     pub fn spell(&self) -> Vec<u8> {
         let mut bytes = Vec::new();
         self.write(&mut bytes);
@@ -103,6 +113,11 @@ impl Test {
                 bytes.extend(sign.spell());
                 operand.write(bytes);
                 bytes.push(b')');
+            }
+            Test::AtLeast(nodes, path) => {
+                bytes.push(b'#');
+                bytes.extend(nodes.to_string().bytes());
+                path.write(bytes);
             }
         }
     }
@@ -168,7 +183,8 @@ impl Path {
     }
 }
 
-/// A test or a path inside a rule; "A constant is no part."
+/// A test or a path inside a rule; "A constant is no part.", and the n of a
+/// count is none either.
 #[derive(Clone, Copy)]
 pub enum Piece<'a> {
     Test(&'a Test),
@@ -212,7 +228,15 @@ fn collect<'a>(
 
 impl<'a> Piece<'a> {
     pub fn is_test(self) -> bool {
-        matches!(self, Piece::Test(_))
+        self.test().is_some()
+    }
+
+    /// The test that it is, if it is one.
+    pub fn test(self) -> Option<&'a Test> {
+        match self {
+            Piece::Test(test) => Some(test),
+            Piece::Path(_) => None,
+        }
     }
 
     pub fn spell(self) -> Vec<u8> {
@@ -249,6 +273,9 @@ impl<'a> Piece<'a> {
                 vec![(Piece::Path(a), 0), (Piece::Path(b), sign.spell().len())]
             }
             Piece::Test(Test::Compare(a, _, Operand::Constant(_))) => vec![(Piece::Path(a), 0)],
+            Piece::Test(Test::AtLeast(nodes, a)) => {
+                vec![(Piece::Path(a), nodes.to_string().len())]
+            }
             Piece::Path(Path::Stay(test)) => vec![(Piece::Test(test), 0)],
             Piece::Path(Path::Then(a, b) | Path::Either(a, b)) => {
                 vec![(Piece::Path(a), 0), (Piece::Path(b), 0)]
@@ -260,7 +287,7 @@ impl<'a> Piece<'a> {
 }
 
 /// The equalities between two paths, each place in the rule counted, those
-/// inside brackets among them.
+/// inside brackets among them, also in the path of a count.
 pub fn equalities(rule: &Test) -> Vec<(&Path, &Path)> {
     parts(rule)
         .iter()
@@ -268,5 +295,14 @@ pub fn equalities(rule: &Test) -> Vec<(&Path, &Path)> {
             Piece::Test(Test::Compare(p, Sign::Equal, Operand::Path(r))) => Some((p, r)),
             _ => None,
         })
+        .collect()
+}
+
+/// The tests `#nP` of a rule, those inside brackets among them.
+pub fn counts(rule: &Test) -> Vec<&Test> {
+    parts(rule)
+        .iter()
+        .filter_map(|part| part.piece.test())
+        .filter(|test| test.counted().is_some())
         .collect()
 }

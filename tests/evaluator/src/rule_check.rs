@@ -9,7 +9,8 @@ pub const BYTE_LIMIT: usize = 1_024;
 pub const TEST_LIMIT: usize = 64;
 /// "32 is the most"
 pub const NESTING_LIMIT: usize = 32;
-/// "A comparison has at most 14 steps in its paths together."
+/// "A comparison has at most 14 steps in its paths together." and of a count
+/// "its path has its own 14 steps" (02, h).
 pub const STEP_LIMIT: usize = 14;
 
 /// The rule check: number and place, 0 and 0 when accepted.
@@ -81,21 +82,24 @@ fn too_many_tests(rule: &Test) -> Option<usize> {
     Some(tests.nth(TEST_LIMIT)?.offset)
 }
 
-/// "opening bracket of the first comparison above 14 steps"
+/// "opening bracket of the first comparison above 14 steps"; "9 has its `#` as
+/// place; of comparisons and counts above 14 the first is named" (02, h).
 fn too_many_steps(rule: &Test) -> Option<usize> {
     let all = parts(rule);
     let part = all.iter().find(|part| match part.piece {
-        Piece::Test(test) => steps_compared(test) > STEP_LIMIT,
+        Piece::Test(test) => steps_of(test) > Some(STEP_LIMIT),
         Piece::Path(_) => false,
     })?;
     Some(part.offset)
 }
 
-/// The steps of a comparison's paths together; 0 for any other test.
-fn steps_compared(test: &Test) -> usize {
+/// The steps of a comparison's paths together, and of a count's path; other
+/// tests have none that are limited.
+pub fn steps_of(test: &Test) -> Option<usize> {
     match test {
-        Test::Compare(p, _, Operand::Path(r)) => p.steps().len() + r.steps().len(),
-        Test::Compare(p, _, Operand::Constant(_)) => p.steps().len(),
-        _ => 0,
+        Test::Compare(p, _, Operand::Path(r)) => Some(p.steps().len() + r.steps().len()),
+        Test::Compare(p, _, Operand::Constant(_)) => Some(p.steps().len()),
+        Test::AtLeast(_, p) => Some(p.steps().len()),
+        _ => None,
     }
 }

@@ -2,7 +2,7 @@
 
 use std::cell::Cell;
 
-use crate::rule::parts;
+use crate::rule::{parts, Piece, Test};
 use crate::{reader, rule_check};
 
 /// Leaves out as many items as the failure allows: runs of items, from half
@@ -80,9 +80,9 @@ pub fn shrink_nodes(
     ))
 }
 
-/// Makes a failing rule small. A part is replaced by one inside it, or a path
-/// by the empty one, as long as the rule still fails; then bytes are left out.
-/// What is no legal rule only loses bytes.
+/// Makes a failing rule small. A part is replaced by one inside it, a path by
+/// the empty one, or the n of a count by a smaller one, as long as the rule still
+/// fails; then bytes are left out. What is no legal rule only loses bytes.
 pub fn shrink_rule(
     rule: &[u8],
     still_fails: impl Fn(&[u8]) -> bool,
@@ -113,6 +113,11 @@ fn simpler_rules(rule: &[u8]) -> Vec<Vec<u8>> {
             .collect();
         if !part.piece.is_test() && rule[part.offset] != b'e' {
             shorter.push(b"e".to_vec());
+        }
+        if let Piece::Test(Test::AtLeast(n, path)) = part.piece {
+            let smaller = [0, n / 2, n.saturating_sub(1)].into_iter();
+            let counts = smaller.filter(|other| other < n);
+            shorter.extend(counts.map(|other| Test::AtLeast(other, path.clone()).spell()));
         }
         for bytes in shorter {
             simpler.push([&rule[..part.offset], &bytes, &rule[end..]].concat());

@@ -1,7 +1,6 @@
 -- `backward::compare_constant` meets its contract.
-use Rattle.layout.specs.Part.{SEEN}
-use Rattle.reach.proofs.Adding.{spared-space}
-use Rattle.reach.proofs.Clearing.{cleared-spared, work-none}
+use native.Mathlib.Omega.{arith}
+use Rattle.reach.proofs.Clearing.{cleared-work}
 use Rattle.retracing.proofs.Linked.{linked-same}
 use Rattle.backward.proofs.Hitting.{hits-answered}
 use borrow.Author.Needs.{needs}
@@ -14,7 +13,7 @@ fill-requires c κs = search needs
 spread-hits-requires : tie.Need-spread-hits-requires
 spread-hits-requires c κs =
     let f = c .before .before .before in let x = f .before .before .before .pre in let g = f .fill .ensures in
-    (work-none _ _ (g .filled) (spared-space (cleared-spared {d = SEEN} g) (x .0)), linked-same (λ k l h. g .within .front k h) (x .1))
+    (cleared-work g (x .0), linked-same (λ k l h. g .within .front k (omega arith)) (x .1))
 
 answer-seen-requires : tie.Need-answer-seen-requires
 answer-seen-requires c κs = search needs

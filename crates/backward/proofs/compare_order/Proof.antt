@@ -1,4 +1,5 @@
 -- `backward::compare_order` meets its contract.
+use native.Mathlib.Omega.{arith}
 use Rattle.rank_sets.proofs.Steady.{held-at, held-space}
 use Rattle.retracing.proofs.Linked.{linked-same}
 use Rattle.backward.proofs.Ranking.{bucketed-held, order-answered}
@@ -12,7 +13,7 @@ buckets-requires c κs = search needs
 sweep-requires : tie.Need-sweep-requires
 sweep-requires c κs =
     let a = c .before .before .before in let x = a .before .before .before .pre in let b = a .buckets .ensures in let h = bucketed-held (b .within) in
-    (held-space h (x .0), linked-same (held-at h) (x .2), b .buckets, x .1)
+    (held-space h (x .0), linked-same (λ k l q. held-at h k l (omega arith)) (x .2), b .buckets, x .1)
 
 answer-ordered-requires : tie.Need-answer-ordered-requires
 answer-ordered-requires c κs = search needs

@@ -16,7 +16,7 @@ take-requires : tie.Need-take-requires
 take-requires c κs =
     let p = c .before .before .before .before .before .before .before .before .pre in let x = c .before .before .before .before .before .before .before .before .args in
     let l = c .before .before .before .compare .ensures (p .0) (p .1) (p .2) (p .3) .answers .apart .long in
-    let r = scratch-room (x .n) (some-nodes (p .2)) in let h = p .2 .scene .room in
+    let r = scratch-room (x .n) (some-nodes (p .2 .scene)) in let h = p .2 .scene .room in
     (number-small (p .2), omega arith)
 
 same-length : tie.Need-same-length
@@ -25,7 +25,7 @@ same-length c = search needs
 returns : tie.Need-returns
 returns c ns T task shape =
     let x = c .before .before .before .before .before .before .compare .ensures ns T task shape in
-    record { decided = taken (test (testsOf T) (c .before .before .before .before .before .before .before .before .before .before .before .args .k)) (some-nodes task) (x .answers) (c .before .before .take .ensures); adds = x .adds }
+    record { decided = taken (test (testsOf T) (c .before .before .before .before .before .before .before .before .before .before .before .args .k)) (some-nodes (task .scene)) (x .answers) (c .before .before .take .ensures); adds = x .adds }
 
 pub comparison-spec : {M : Type 1} → statement M
 comparison-spec = tie.close (tie.spec compare-requires take-requires same-length returns)

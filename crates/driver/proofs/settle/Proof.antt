@@ -89,6 +89,16 @@ comparison-requires c κs =
     let shape = shaped (c .before .enum-told5 .given .1) (test (testsOf (p .1)) (x .k)) (c .before .before .before .test-kind .ensures (test (testsOf (p .1)) (x .k)) (p .2 .end) (p .2 .stands)) in
     (p .0, p .1, p .2, shape)
 
+-- ── A count ──
+enum-told-6 : tie.Need-enum-told-6
+enum-told-6 c = search needs
+
+count-requires : tie.Need-count-requires
+count-requires c κs =
+    let p = c .before .before .before .before .before .before .before .pre in let x = c .before .before .before .before .before .before .before .args in
+    let shape = shaped (c .before .enum-told6 .given .1) (test (testsOf (p .1)) (x .k)) (c .before .before .before .test-kind .ensures (test (testsOf (p .1)) (x .k)) (p .2 .end) (p .2 .stands)) in
+    (x .s .now, p .0, p .1, p .2, shape)
+
 -- ── What is returned ──
 same-length : tie.Need-same-length
 same-length c = search needs
@@ -135,6 +145,15 @@ returns-5 c ns T task =
     let shape = shaped (c .before .before .before .before .enum-told5 .given .1) (test (testsOf T) (x .k)) (c .before .before .before .before .before .before .test-kind .ensures (test (testsOf T) (x .k)) (task .end) (task .stands)) in
     c .before .before .comparison .ensures ns T task shape
 
+same-length-6 : tie.Need-same-length-6
+same-length-6 c = search needs
+
+returns-6 : tie.Need-returns-6
+returns-6 c ns T task =
+    let x = c .before .before .before .before .before .before .before .before .before .before .args in
+    let shape = shaped (c .before .before .before .before .enum-told6 .given .1) (test (testsOf T) (x .k)) (c .before .before .before .before .before .before .test-kind .ensures (test (testsOf T) (x .k)) (task .end) (task .stands)) in
+    record { decided = c .before .before .count .ensures (x .s .now) ns T task shape; adds = adds-none (x .e) (treeOf ns) (test (testsOf T) (x .k)) (ap own (shape .2)) }
+
 pub settle-spec : {M : Type 1} → statement M
 settle-spec =
     tie.close
@@ -157,6 +176,8 @@ settle-spec =
     either-requires
     enum-told-5
     comparison-requires
+    enum-told-6
+    count-requires
     same-length
     returns
     same-length-2
@@ -166,4 +187,6 @@ settle-spec =
     same-length-4
     returns-4
     same-length-5
-    returns-5)
+    returns-5
+    same-length-6
+    returns-6)

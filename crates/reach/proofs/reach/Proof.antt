@@ -4,14 +4,14 @@ use mathlib.Core.Path.{_∙_}
 use native.Mathlib.Omega.{arith}
 use Rattle.layout.specs.Part.{NODES}
 use Rattle.reach.proofs.Totals.{work-room}
-use Rattle.reach.proofs.Adding.{spared-then, spared-space}
-use Rattle.reach.proofs.Clearing.{cleared-spared, work-none}
+use Rattle.reach.proofs.Adding.{spared-then}
+use Rattle.reach.proofs.Clearing.{cleared-spared, cleared-work}
 use Rattle.reach.proofs.Reaching.{Working, working-start, working-step, working-all}
 use Rattle.reach.proofs.reach.Statement.{statement}
 use Rattle.reach.proofs.reach.Tie as tie
 
 abbrev Inv-loop : tie.InvT-loop
-Inv-loop p₀ n m i v w len₀ h₀ p len h = Working m n i v h len p₀ p
+Inv-loop p₀ n m i v w len₀ h₀ p len h = Working m n NODES i v h len p₀ p
 
 abbrev μ-loop : tie.MeasureT-loop
 μ-loop p₀ n m i v w len₀ h₀ p len h = 16 * n - h
@@ -26,14 +26,12 @@ insert-requires : tie.Need-insert-requires Inv-loop μ-loop
 insert-requires c κs = c .before .before .before .before .before .pre .1
 
 add-requires : tie.Need-add-requires Inv-loop μ-loop
-add-requires c κs =
-    let f = c .before .before .before .before .fill .ensures in
-    work-none _ _ (f .filled) (spared-space (cleared-spared {d = NODES} f) (c .before .before .before .before .before .before .before .pre .0))
+add-requires c κs = cleared-work (c .before .before .before .before .fill .ensures) (c .before .before .before .before .before .before .before .pre .0)
 
 loop-holds : tie.Need-loop-holds Inv-loop μ-loop
 loop-holds c =
     let a = c .before .before in let i = a .before .before in let d = i .before .before .before in let x = d .before .before .before .pre in
-    working-start (x .1) (x .2) (d .fill .ensures .filled) (i .insert .result) (i .insert .ensures) (a .add .ensures)
+    working-start (x .1) (x .2) (cleared-work (d .fill .ensures) (x .0)) (i .insert .result) (i .insert .ensures) (a .add .ensures)
 
 expand-requires : tie.Need-expand-requires Inv-loop μ-loop
 expand-requires c κs = (c .before .before .loop .inv .work, c .before .loop-test .taken)
@@ -49,7 +47,7 @@ loop-less c =
     omega arith
 
 loop-again : tie.Need-loop-again Inv-loop μ-loop
-loop-again c = working-step (c .before .before .before .before .before .loop .inv) (c .before .before .before .before .loop-test .taken) (c .before .before .expand .ensures)
+loop-again c = working-step (omega arith) (c .before .before .before .before .before .loop .inv) (c .before .before .before .before .loop-test .taken) (c .before .before .expand .ensures)
 
 same-length : tie.Need-same-length Inv-loop μ-loop
 same-length c =

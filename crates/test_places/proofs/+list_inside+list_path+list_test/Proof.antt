@@ -5,7 +5,7 @@ use mathlib.Core.Path.{subst, _∙_}
 use lib.ListN.{length, length-set}
 use borrow.Author.Needs.{needs}
 use Rattle.tokens.specs.Readers.{Stood}
-use Rattle.test_places.proofs.Listing.{first-room, second-room, test-room-long, path-room-long, inside-room, one-room, test-lists, named-lists, not-room, not-lists, tests-two, two-lists, side-inside, side-room, constant-lists, sides-two, sides-lists, testless-lists, bracket-room, bracket-lists, star-room, star-lists, paths-two, pair-lists}
+use Rattle.test_places.proofs.Listing.{first-room, second-room, test-room-long, path-room-long, inside-room, one-room, test-lists, named-lists, not-room, not-lists, tests-two, two-lists, side-inside, side-room, constant-lists, sides-two, sides-lists, count-behind, count-room, count-lists, testless-lists, bracket-room, bracket-lists, star-room, star-lists, paths-two, pair-lists}
 use borrow.Fn.Kinds.{In}
 use borrow.Fn.PlainCycle.{Measures, is, falls, and}
 use Rattle.test_places.proofs.list_inside.Reads as list-inside
@@ -17,6 +17,7 @@ use Rattle.test_places.proofs.+list_inside+list_path+list_test.Lts-list
 use Rattle.test_places.proofs.list_test.Reads as list-test
 use Rattle.test_places.proofs.list_test.Kinds as list-test-kinds
 use Rattle.test_places.proofs.+list_inside+list_path+list_test.Lts-list_test as list-test-lts
+use Rattle.rule_parts.proofs.counted.Reads as counted-reads
 use Rattle.rule_parts.proofs.kinds.path_kind.Reads as path-kind-reads
 use Rattle.rule_parts.proofs.kinds.test_kind.Reads as test-kind-reads
 use Rattle.rule_parts.proofs.parted.Reads as parted-reads
@@ -55,7 +56,7 @@ abbrev list-test-below : ℕ → In 2 list-test-kinds.ps
 list-test-below t = and 2 list-test-kinds.ps (falls 2 list-test-kinds.ps _<_ μ-list-test t) list-test.Pre
 
 abbrev list-inside-calls : ℕ → list-inside-lts.Claims
-list-inside-calls t = (test-kind-reads.Asked, test-kind-reads.Learnt, list-test-below t, list-test.Post, skip-test-reads.Asked, skip-test-reads.Learnt, parted-reads.Asked, parted-reads.Learnt, list-path-below t, list-path.Post, stands-reads.Asked, stands-reads.Learnt)
+list-inside-calls t = (test-kind-reads.Asked, test-kind-reads.Learnt, list-test-below t, list-test.Post, skip-test-reads.Asked, skip-test-reads.Learnt, parted-reads.Asked, parted-reads.Learnt, list-path-below t, list-path.Post, stands-reads.Asked, stands-reads.Learnt, counted-reads.Asked, counted-reads.Learnt)
 
 abbrev list-path-calls : ℕ → list-path-lts.Claims
 list-path-calls t = (path-kind-reads.Asked, path-kind-reads.Learnt, list-test-below t, list-test.Post, skip-path-reads.Asked, skip-path-reads.Learnt, list-path-below t, list-path.Post)
@@ -102,7 +103,7 @@ list-inside-list-test-requires-3 t c κs =
     let (Ts, h) = tests-two _ (c .before .before .before .before .before .before .before .test-kind .ensures) _ (c .before .before .before .before .before .before .match .keys3) (c .before .before .before .before .before .skip-test .ensures) (z .1 .0) in let b = h .after in
     (omega arith, (second-room _ _ _ _ _ _ h (c .before .before .before .list-test2 .ensures), omega arith))
 
--- ── list_inside: paths of a comparison, and what is returned ──
+-- ── list_inside: paths of a comparison or a count, and what is returned ──
 list-inside-enum-told-3 : (t : ℕ) → list-inside-lts.Need-enum-told-3 (list-inside-calls t) (list-inside-at t) list-inside.Post
 list-inside-enum-told-3 t c = search needs
 
@@ -135,6 +136,18 @@ list-inside-list-path-requires-2 t c κs =
     let (Ts, h) = sides-two _ (c .before .before .before .before .before .before .before .before .before .before .test-kind .ensures) _ (c .before .before .before .before .before .before .before .before .enum-told3 .given .1) (c .before .before .before .before .before .before .before .parted .ensures) (subst (Stood (c .before .before .before .before .before .before .before .before .before .before .before .before .before .args .s .now) (c .before .before .before .before .before .before .before .parted .result .second) 34) (c .before .if1 .left) (c .before .before .stands .ensures)) (z .1 .0) in let b = h .after in
     (omega arith, (second-room _ _ _ _ _ _ h (c .before .before .before .before .before .list-path .ensures), omega arith))
 
+list-inside-enum-told-4 : (t : ℕ) → list-inside-lts.Need-enum-told-4 (list-inside-calls t) (list-inside-at t) list-inside.Post
+list-inside-enum-told-4 t c = search needs
+
+list-inside-counted-requires : (t : ℕ) → list-inside-lts.Need-counted-requires (list-inside-calls t) (list-inside-at t) list-inside.Post
+list-inside-counted-requires t c κs = test-room-long _ _ _ (c .before .before .before .before .before .pre .1 .0)
+
+list-inside-list-path-requires-3 : (t : ℕ) → list-inside-lts.Need-list-path-requires-3 (list-inside-calls t) (list-inside-at t) list-inside.Post
+list-inside-list-path-requires-3 t c κs =
+    let z = c .before .before .before .before .before .before .before .pre in let n = test-room-long _ _ _ (z .1 .0) in let m = z .0 in
+    let b = count-behind _ (c .before .before .before .before .test-kind .ensures) _ (c .before .before .enum-told4 .given .1) (c .before .counted .ensures) (z .1 .0) in
+    (omega arith, (count-room _ (c .before .before .before .before .test-kind .ensures) _ (c .before .before .enum-told4 .given .1) (c .before .counted .ensures) (z .1 .0), z .1 .1))
+
 list-inside-returns-2 : (t : ℕ) → list-inside-lts.Need-returns-2 (list-inside-calls t) (list-inside-at t) list-inside.Post
 list-inside-returns-2 t c = named-lists _ (c .before .before .test-kind .ensures) _ _ (c .enum-told .given .1)
 
@@ -159,6 +172,13 @@ list-inside-returns-5 t c =
     sides-lists _ (c .before .before .before .before .before .before .before .before .before .before .before .before .before .test-kind .ensures) _ (c .before .before .before .before .before .before .before .before .before .before .before .enum-told3 .given .1) (c .before .before .before .before .before .before .before .before .before .before .parted .ensures)
     (subst (Stood (c .before .before .before .before .before .before .before .before .before .before .before .before .before .before .before .before .args .s .now) (c .before .before .before .before .before .before .before .before .before .before .parted .result .second) 34) (c .before .before .before .before .if1 .left) (c .before .before .before .before .before .stands .ensures))
     (c .before .before .before .before .before .before .before .before .list-path .ensures) (c .before .before .list-path2 .ensures)
+
+list-inside-same-length-5 : (t : ℕ) → list-inside-lts.Need-same-length-5 (list-inside-calls t) (list-inside-at t) list-inside.Post
+list-inside-same-length-5 t c = c .before .before .list-path3 .kept .1 .1 .1 .0
+
+list-inside-returns-6 : (t : ℕ) → list-inside-lts.Need-returns-6 (list-inside-calls t) (list-inside-at t) list-inside.Post
+list-inside-returns-6 t c =
+    count-lists _ (c .before .before .before .before .before .before .before .test-kind .ensures) _ (c .before .before .before .before .before .enum-told4 .given .1) (c .before .before .before .before .counted .ensures) (c .before .before .list-path3 .ensures)
 
 -- ── list_path ──
 list-path-path-kind-requires : (t : ℕ) → list-path-lts.Need-path-kind-requires (list-path-calls t) (list-path-at t) list-path.Post
@@ -273,13 +293,18 @@ pub +list-inside+list-path+list-test-spec : {M : Type 1} → statement M
     (list-inside-same-length t)
     (list-inside-returns t)
     (list-inside-list-path-requires-2 t)
+    (list-inside-enum-told-4 t)
+    (list-inside-counted-requires t)
+    (list-inside-list-path-requires-3 t)
     (list-inside-returns-2 t)
     (list-inside-same-length-2 t)
     (list-inside-returns-3 t)
     (list-inside-same-length-3 t)
     (list-inside-returns-4 t)
     (list-inside-same-length-4 t)
-    (list-inside-returns-5 t))
+    (list-inside-returns-5 t)
+    (list-inside-same-length-5 t)
+    (list-inside-returns-6 t))
     (λ t. list-path-lts.spec (list-path-calls t)
     (list-path-at t)
     list-path.Post

@@ -21,7 +21,10 @@ fn assert_refused(rule: &str, words: &[&str]) {
 
 #[test]
 fn a_good_rule_is_accepted_with_what_is_limited() {
-    assert_accepted(":drug", "1 test of 64, nesting 1 of 32, no comparison");
+    assert_accepted(
+        ":drug",
+        "1 test of 64, nesting 1 of 32, no comparison or count",
+    );
     assert_accepted("(l=e)", "1 test of 64, nesting 2 of 32, 1 step of 14");
     assert_accepted(
         "(.l[:name]=..r*rl)",
@@ -31,16 +34,29 @@ fn a_good_rule_is_accepted_with_what_is_limited() {
         "&(e=e)([(.lr<\"a\")]!=l)",
         "4 tests of 64, nesting 6 of 32, steps of 14: 0 at 1, 2 at 6, 2 at 8",
     );
+    assert_accepted("#3.l*r", "1 test of 64, nesting 4 of 32, 2 steps of 14");
+    assert_accepted(
+        "&#10..l*r[(e=\"\")]([#0e]!=l)",
+        "5 tests of 64, nesting 6 of 32, steps of 14: 3 at 1, 0 at 10, 2 at 17, 0 at 19",
+    );
 }
 
 #[test]
 fn rules_at_the_limits() {
     let deepest = "!".repeat(31) + ":a";
-    assert_accepted(&deepest, "32 tests of 64, nesting 32 of 32, no comparison");
+    assert_accepted(
+        &deepest,
+        "32 tests of 64, nesting 32 of 32, no comparison or count",
+    );
     let most = "&!:a".repeat(21) + ":a";
-    assert_accepted(&most, "64 tests of 64, nesting 23 of 32, no comparison");
+    assert_accepted(
+        &most,
+        "64 tests of 64, nesting 23 of 32, no comparison or count",
+    );
     let longest = format!("({}={})", steps(13), "l");
     assert_accepted(&longest, "1 test of 64, nesting 14 of 32, 14 steps of 14");
+    let longest = format!("#4096{}", steps(14));
+    assert_accepted(&longest, "1 test of 64, nesting 15 of 32, 14 steps of 14");
 }
 
 #[test]
@@ -74,6 +90,9 @@ fn number_6_does_not_read() {
     assert_refused("(le=e)", &[&on(2), "  (le=e)", "    ^"]);
     assert_refused("(e =e)", &[&on(2), "  (e =e)", "    ^"]);
     assert_refused(":a\r\n", &[&on(2), "  :a\\r\\n", "    ^"]);
+    assert_refused("#4097e", &[&on(4), "  #4097e", "      ^"]);
+    assert_refused("#01e", &[&on(2), "  #01e", "    ^"]);
+    assert_refused("#", &[&ends(1), "  #", "   ^"]);
     assert_refused(
         "(e=\"\u{e9}\")",
         &[&on(4), "  (e=\"\\xc3\\xa9\")", "      ^"],
@@ -112,6 +131,15 @@ fn number_9_too_many_steps() {
         &rule,
         &[
             "number 9 at offset 1: the comparison that opens here has more than 14 steps",
+            &format!("  {rule}"),
+            "   ^",
+        ],
+    );
+    let rule = format!("!#4096{}", steps(15));
+    assert_refused(
+        &rule,
+        &[
+            "number 9 at offset 1: the count that begins here has more than 14 steps",
             &format!("  {rule}"),
             "   ^",
         ],

@@ -15,7 +15,7 @@ fn a_name() {
             "A node is selected if",
             "0  the label is `drug`",
             "",
-            "1 test of 64, nesting 1 of 32, no comparison",
+            "1 test of 64, nesting 1 of 32, no comparison or count",
         ],
     );
 }
@@ -300,6 +300,64 @@ fn a_constant_is_no_part() {
             "1    path: stay at the node",
             "",
             "1 test of 64, nesting 2 of 32, 0 steps of 14",
+        ],
+    );
+}
+
+/// A number of nodes, and how it is told.
+const COUNTED: [(&str, &str); 5] = [
+    ("0", "0 nodes, which holds everywhere"),
+    ("1", "1 node"),
+    ("2", "2 different nodes"),
+    ("10", "10 different nodes"),
+    ("4096", "4096 different nodes"),
+];
+
+#[test]
+fn counts_of_every_number() {
+    for (number, told) in COUNTED {
+        let path = 1 + number.len();
+        assert_explained(
+            &format!("#{number}l"),
+            &[
+                "A node is selected if",
+                &format!("0  count: the path reaches at least {told}"),
+                &format!("{path}    path: to the first node inside, attributes included"),
+                "",
+                "1 test of 64, nesting 2 of 32, 1 step of 14",
+            ],
+        );
+    }
+}
+
+/// At least three concentrations, each with a limit.
+#[test]
+fn a_count_with_tests_around_it_and_inside() {
+    assert_explained(
+        "&:drug#3..l*r[&:concentration#1.l[(e<=\"5\")]]",
+        &[
+            "A node is selected if",
+            " 0  both of these hold:",
+            " 1    the label is `drug`",
+            " 6    count: the path reaches at least 3 different nodes",
+            " 8      path: one after the other:",
+            " 9        one after the other:",
+            "10          to the first node inside, attributes included",
+            "11          zero or more times:",
+            "12            to the next sibling",
+            "13        stay at the node if",
+            "14          both of these hold:",
+            "15            the label is `concentration`",
+            "29            count: the path reaches at least 1 node",
+            "31              path: one after the other:",
+            "32                to the first node inside, attributes included",
+            "33                stay at the node if",
+            "34                  less or equal: some node reached by the path has a value less \
+             than or equal to \"5\", compared by amount: 9 is less than 10; it fails on values \
+             that are no numerals",
+            "35                    path: stay at the node",
+            "",
+            "7 tests of 64, nesting 10 of 32, steps of 14: 3 at 6, 2 at 29, 0 at 34",
         ],
     );
 }

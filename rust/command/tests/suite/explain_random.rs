@@ -3,8 +3,8 @@
 
 use evaluator::amount::amount;
 use evaluator::random::{any_rule, deep_rule, rule, Random};
-use evaluator::rule::{parts, Operand, Part, Path, Piece, Sign, Test};
-use evaluator::rule_check::{read, NESTING_LIMIT, STEP_LIMIT, TEST_LIMIT};
+use evaluator::rule::{counts, parts, Operand, Part, Path, Piece, Sign, Test};
+use evaluator::rule_check::{read, steps_of, NESTING_LIMIT, STEP_LIMIT, TEST_LIMIT};
 use evaluator::tree::trimmed;
 
 use crate::desk::{run_inside, Desk, Ran};
@@ -38,7 +38,18 @@ fn meaning(piece: Piece<'_>) -> String {
         Piece::Test(Test::And(..)) => "both of these hold:".to_string(),
         Piece::Test(Test::Or(..)) => "at least one of these holds:".to_string(),
         Piece::Test(Test::Compare(_, sign, _)) => format!("{}: some node", sign_name(*sign)),
+        Piece::Test(Test::AtLeast(nodes, _)) => {
+            format!("count: the path reaches at least {}", nodes_words(*nodes))
+        }
         Piece::Path(path) => path_words(path).to_string(),
+    }
+}
+
+fn nodes_words(nodes: usize) -> String {
+    match nodes {
+        0 => "0 nodes, which holds everywhere".to_string(),
+        1 => "1 node".to_string(),
+        _ => format!("{nodes} different nodes"),
     }
 }
 
@@ -67,7 +78,8 @@ fn path_words(path: &Path) -> &'static str {
     }
 }
 
-/// The paths directly inside comparisons, with what stands before their words.
+/// The paths directly inside comparisons and counts, with what stands before
+/// their words.
 fn roles(all: &[Part<'_>]) -> Vec<(*const Path, &'static str)> {
     let mut roles: Vec<(*const Path, &'static str)> = Vec::new();
     for part in all {
@@ -76,7 +88,7 @@ fn roles(all: &[Part<'_>]) -> Vec<(*const Path, &'static str)> {
                 roles.push((first, "first path: "));
                 roles.push((second, "second path: "));
             }
-            Piece::Test(Test::Compare(only, _, Operand::Constant(_))) => {
+            Piece::Test(Test::Compare(only, _, Operand::Constant(_)) | Test::AtLeast(_, only)) => {
                 roles.push((only, "path: "));
             }
             _ => {}
@@ -133,15 +145,9 @@ fn assert_order_told(line: &str, sign: Sign, operand: &Operand) {
     );
 }
 
-/// The steps of each comparison, with its offset.
+/// The steps of each comparison and each count, with its offset.
 fn steps(all: &[Part<'_>]) -> Vec<(usize, usize)> {
-    let of = |part: &Part<'_>| match part.piece {
-        Piece::Test(Test::Compare(p, _, Operand::Path(r))) => {
-            Some((part.offset, p.steps().len() + r.steps().len()))
-        }
-        Piece::Test(Test::Compare(p, ..)) => Some((part.offset, p.steps().len())),
-        _ => None,
-    };
+    let of = |part: &Part<'_>| Some((part.offset, steps_of(part.piece.test()?)?));
     all.iter().filter_map(of).collect()
 }
 
@@ -150,7 +156,7 @@ fn summary(all: &[Part<'_>]) -> String {
     let nesting = all.iter().map(|part| part.nesting).max().unwrap_or(0);
     let plural = |number: usize| if number == 1 { "" } else { "s" };
     let compared = match &steps(all)[..] {
-        [] => "no comparison".to_string(),
+        [] => "no comparison or count".to_string(),
         [(_, one)] => format!("{one} step{} of {STEP_LIMIT}", plural(*one)),
         several => {
             let each = several.iter().map(|(at, steps)| format!("{steps} at {at}"));
@@ -187,6 +193,8 @@ struct Exercise {
     nesting: usize,
     tests: usize,
     steps: usize,
+    /// Of all rules together.
+    counts: usize,
 }
 
 #[test]
@@ -215,6 +223,7 @@ fn random_rules_are_explained_part_by_part() {
             .fold(seen.nesting, usize::max);
         let tests = all.iter().filter(|part| part.piece.is_test()).count();
         seen.tests = seen.tests.max(tests);
+        seen.counts += counts(&test).len();
         seen.steps = steps(&all)
             .iter()
             .map(|(_, steps)| *steps)
@@ -224,4 +233,5 @@ fn random_rules_are_explained_part_by_part() {
     assert_eq!(seen.nesting, NESTING_LIMIT);
     assert!(seen.tests > 50, "{}", seen.tests);
     assert_eq!(seen.steps, STEP_LIMIT);
+    assert!(seen.counts > 2_000, "{}", seen.counts);
 }

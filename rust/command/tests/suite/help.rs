@@ -4,7 +4,7 @@ use std::env;
 use std::path::Path;
 use std::process::Command;
 
-use yurzhoad::limits::{MAX_DOCUMENT_BYTES, MAX_NODES};
+use yurzhoad::limits::{MAX_COUNT, MAX_DOCUMENT_BYTES, MAX_NODES};
 
 use crate::desk::{accepted, Desk, PROGRAM};
 
@@ -83,6 +83,8 @@ fn the_limits_in_the_help_are_those_of_the_crate() {
     for arguments in [&["--help"][..], &["check", "--help"], &["select", "--help"]] {
         assert!(help(arguments).contains(&line), "{arguments:?}");
     }
+    let counted = format!("\nnodes, 0 to {}. ", thousands(MAX_COUNT));
+    assert!(help(&["explain", "--help"]).contains(&counted));
 }
 
 #[test]

@@ -138,6 +138,26 @@ fn padded_values_are_selected_and_shown_with_their_blanks() {
     assert_eq!(kept, library);
 }
 
+/// Drugs with at least so many nodes directly inside.
+#[test]
+fn entries_are_selected_by_a_count() {
+    let desk = Desk::with("x.txt", X);
+    let (library, drugs) = (LINES[0], [LINES[1], LINES[3]].concat());
+    for (rule, lines) in [
+        ("#2.l*r", library),
+        ("&:drug#1.l*r", &drugs),
+        ("&:drug!#2.l*r", &drugs),
+        ("#5*+l+r+LR", &LINES.concat()),
+        ("#6*+l+r+LR", ""),
+        ("#4096e", ""),
+    ] {
+        let both = desk.run(["select", "--both", rule, "x.txt"]);
+        assert_eq!(both, agreed(lines, lines.lines().count(), "5 nodes"));
+    }
+    let counted = desk.run(["select", "--count", "#2.l*r", "x.txt"]);
+    assert_eq!(counted, accepted("1\n"));
+}
+
 #[test]
 fn refusals_name_the_library_or_the_rule() {
     let desk = Desk::with("x.txt", X);

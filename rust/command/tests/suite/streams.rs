@@ -26,7 +26,7 @@ fn a_dash_is_standard_input() {
         assert_eq!(desk.run_on(rule, ["select", "-", "x.txt"]), drugs);
         assert_eq!(
             desk.run_on(rule, ["check", "--rule", "-"]),
-            accepted("accepted: 1 test of 64, nesting 1 of 32, no comparison\n")
+            accepted("accepted: 1 test of 64, nesting 1 of 32, no comparison or count\n")
         );
         let explained = desk.run_on(rule, ["explain", "-"]);
         assert_eq!(explained, desk.run(["explain", ":drug"]));

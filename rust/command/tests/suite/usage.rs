@@ -103,7 +103,7 @@ fn options_stand_before_and_behind_operands() {
     assert_eq!(desk.run(twice), accepted("2\n"));
     assert_eq!(
         desk.run(["check", ":drug", "--rule"]),
-        accepted("accepted: 1 test of 64, nesting 1 of 32, no comparison\n")
+        accepted("accepted: 1 test of 64, nesting 1 of 32, no comparison or count\n")
     );
 }
 

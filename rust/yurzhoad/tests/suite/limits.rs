@@ -41,6 +41,7 @@ fn limits_are_those_of_the_proved_code() {
         (MAX_NESTING, "Rule::MAX_NESTING"),
         (MAX_STEPS, "Rule::MAX_STEPS"),
         (MAX_CONSTANT, "Rule::MAX_CONSTANT"),
+        (MAX_COUNT, "Rule::MAX_COUNT"),
         (MAX_NUMERAL_DIGITS, "Numeral::MAX_DIGITS"),
         (MAX_NUMERAL_DECIMALS, "Numeral::MAX_DECIMALS"),
     ];

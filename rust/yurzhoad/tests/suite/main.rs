@@ -5,6 +5,7 @@
 mod amounts;
 mod blanks;
 mod checks;
+mod counts;
 mod declarations;
 mod entries;
 mod excerpts;

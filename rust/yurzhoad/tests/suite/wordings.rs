@@ -135,6 +135,16 @@ fn number_6() {
         "the rule is refused: number 6 at offset 3: it ends here and is not whole",
         "\n  &:a\n     ^",
     );
+    assert_printed(
+        rule("#4097e"),
+        "the rule is refused: number 6 at offset 4: it does not read on from here",
+        "\n  #4097e\n      ^",
+    );
+    assert_printed(
+        rule("#12"),
+        "the rule is refused: number 6 at offset 3: it ends here and is not whole",
+        "\n  #12\n     ^",
+    );
 }
 
 #[test]
@@ -166,6 +176,12 @@ fn number_9() {
         rule(&long),
         "the rule is refused: number 9 at offset 1: the comparison that opens here has more than 14 steps",
         &format!("\n  {long}\n   ^"),
+    );
+    let long = format!("&:a#3{}", steps(15));
+    assert_printed(
+        rule(&long),
+        "the rule is refused: number 9 at offset 3: the count that begins here has more than 14 steps",
+        &format!("\n  {long}\n     ^"),
     );
 }
 

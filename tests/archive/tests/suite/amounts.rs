@@ -2,16 +2,15 @@
 //! constants and against every other, numerals of every length, texts cut in
 //! every place, and many spellings of few amounts.
 
-use crate::evaluation_agreement::{assert_agreement, called, needed, EVALUATIONS};
+use crate::evaluation_agreement::assert_due;
 use evaluator::amount::amount;
-use evaluator::document::{check, NODE_LIMIT};
+use evaluator::document::NODE_LIMIT;
 use evaluator::meaning::compare;
 use evaluator::random::{numeral, numeral_or_nearly, Random};
 use evaluator::rule::Sign;
 use evaluator::samples::counts::row;
 use evaluator::samples::document;
 use evaluator::tree::trimmed;
-use yurzhoad::limits::needed_words;
 
 /// What may stand in a numeral, and what may not.
 const BYTES: &str = "-.019 a";
@@ -44,25 +43,6 @@ fn sign_text(sign: Sign) -> &'static str {
 /// Whether two texts are in the relation once they are cut, by the evaluator.
 fn holds(sign: Sign, a: &str, b: &str) -> bool {
     compare(sign, trimmed(a.as_bytes()), trimmed(b.as_bytes()))
-}
-
-/// Asserts that both evaluations of the archive mark just the nodes that are
-/// due, and returns how many.
-fn assert_due(document: &[u8], rule: &str, due: impl Fn(usize) -> bool) -> usize {
-    let nodes = check(document).nodes;
-    let due: Vec<u8> = (0..nodes).map(|v| u8::from(due(v))).collect();
-    for evaluation in EVALUATIONS {
-        let (mut scratch, mut marks) = (vec![9; needed_words(nodes)], vec![9; nodes]);
-        let bytes = rule.as_bytes();
-        let outcome = called(evaluation, document, bytes, &mut scratch, &mut marks);
-        assert_eq!(outcome.number, 0, "{rule}");
-        if let Some(v) = (0..nodes).find(|v| marks[*v] != due[*v]) {
-            // The evaluator tells what is wrong, on a small document.
-            assert_agreement(rule, document, bytes, needed(1));
-            panic!("{evaluation:?}: {rule} at node {v}");
-        }
-    }
-    due.iter().filter(|mark| **mark == 1).count()
 }
 
 /// The attributes of a row begin at node 1; the root has the empty value.

@@ -277,6 +277,25 @@ pub fn assert_refused(
     assert_eq!(outcome, refused, "{origin}: {}", rule.escape_ascii());
 }
 
+/// Asserts that both evaluations of the archive mark just the nodes that are
+/// due, and returns how many. The evaluator is asked only where they do not.
+pub fn assert_due(document: &[u8], rule: &str, due: impl Fn(usize) -> bool) -> usize {
+    let nodes = document::check(document).nodes;
+    let due: Vec<u8> = (0..nodes).map(|v| u8::from(due(v))).collect();
+    for evaluation in EVALUATIONS {
+        let (mut scratch, mut marks) = (vec![9; needed_words(nodes)], vec![9; nodes]);
+        let bytes = rule.as_bytes();
+        let outcome = called(evaluation, document, bytes, &mut scratch, &mut marks);
+        assert_eq!(outcome.number, 0, "{rule}");
+        if let Some(v) = (0..nodes).find(|v| marks[*v] != due[*v]) {
+            // The evaluator tells what is wrong, on a small document.
+            assert_agreement(rule, document, bytes, needed(1));
+            panic!("{evaluation:?}: {rule} at node {v}");
+        }
+    }
+    due.iter().filter(|mark| **mark == 1).count()
+}
+
 /// How long a failing call is made smaller. Calls on large documents are slow.
 const PATIENCE: Duration = Duration::from_secs(20);
 

@@ -64,6 +64,34 @@ fn each_of_64_tests_counts() {
 }
 
 #[test]
+fn each_of_many_counts_counts() {
+    let values: Vec<String> = (0..40).map(|number| format!("v{number}")).collect();
+    let document = row(&values);
+    // From node v of the row 41 - v nodes are reached.
+    let all = ["#4096*r".to_string(), "#0*r".to_string()];
+    for (only, number) in (0..32).map(|only| (only, 5 + only)) {
+        let reached: Vec<usize> = (1..=41 - number).collect();
+        let mut leaves = vec![all[0].clone(); 32];
+        leaves[only] = format!("#{number}*r");
+        let rule = joined("|", &leaves);
+        assert_marked("63 tests", &document, rule.as_bytes(), needed(1), &reached);
+        let rest = others(41, &reached);
+        let rule = format!("!{rule}");
+        assert_marked("64 tests", &document, rule.as_bytes(), needed(2), &rest);
+        let mut leaves = vec![all[1].clone(); 32];
+        leaves[only] = format!("#{number}*r");
+        let rule = joined("&", &leaves);
+        assert_marked("63 tests", &document, rule.as_bytes(), needed(3), &reached);
+    }
+    // Just so many: twelve numbers in 24 counts and 59 tests.
+    let exactly = |number: usize| format!("&#{number}*r!#{}*r", number + 1);
+    let leaves: Vec<String> = (1..=12).map(|number| exactly(3 * number)).collect();
+    let due: Vec<usize> = (1..=12).rev().map(|number| 41 - 3 * number).collect();
+    let rule = joined("|", &leaves);
+    assert_marked("59 tests", &document, rule.as_bytes(), needed(4), &due);
+}
+
+#[test]
 fn nesting_32_of_tests_paths_and_brackets() {
     let document = row(&["a", "b", "a"]);
     for (count, due) in [(30, &[0][..]), (31, &[1, 2, 3])] {
@@ -89,6 +117,16 @@ fn nesting_32_of_tests_paths_and_brackets() {
         let (before, behind) = ("([".repeat(15), "]=e)".repeat(15));
         let rule = format!("{before}{inside}{behind}");
         assert_marked("brackets", &document, rule.as_bytes(), needed(5), due);
+    }
+    let rule = format!("#2{stars}r");
+    assert_marked("stars", &document, rule.as_bytes(), needed(2), &[1, 2]);
+    for (inside, due) in insides {
+        let (before, behind) = ("#1[".repeat(15), "]".repeat(15));
+        let rule = format!("{before}{inside}{behind}");
+        assert_marked("counts", &document, rule.as_bytes(), needed(5), due);
+        let (before, behind) = ("#1[([".repeat(7), "]=e)]".repeat(7));
+        let rule = format!("{before}{inside}{behind}");
+        assert_marked("both", &document, rule.as_bytes(), needed(5), due);
     }
     // Each bracket takes one node off the end of the row.
     let values: Vec<String> = (0..20).map(|number| format!("v{number}")).collect();
@@ -145,6 +183,33 @@ fn up_to_14_steps_on_either_side() {
         }
     }
     assert!(some > 500, "{some} marked some nodes and not all");
+}
+
+#[test]
+fn counts_of_up_to_14_steps() {
+    const NODES: usize = 20;
+    let (mut some, mut above) = (0, 0);
+    for seed in 0..6 {
+        let random = &mut Random::new(seed);
+        let document = spell(&library(random, NODES));
+        for count in 0..=14 {
+            for form in [".", "+", "*+"] {
+                let path = path(form, &steps_of_all_kinds(seed as usize + count, count));
+                for number in [1, 2, 3, 5, 9] {
+                    let rule = format!("#{number}{path}");
+                    let origin = format_args!("seed {seed}, {count} steps");
+                    let outcome =
+                        assert_agreement(origin, &document, rule.as_bytes(), needed(seed));
+                    assert_eq!(outcome.number, 0, "{rule}");
+                    let marked = outcome.selected > 0 && outcome.selected < NODES;
+                    some += usize::from(marked);
+                    above += usize::from(marked && number > 2);
+                }
+            }
+        }
+    }
+    println!("{some} marked some nodes and not all, {above} with numbers above 2");
+    assert!(some > 400 && above > 200, "{some}, {above}");
 }
 
 #[test]

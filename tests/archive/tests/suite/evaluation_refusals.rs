@@ -114,6 +114,7 @@ fn lent_rules() -> Vec<Lent<String>> {
         lent(format!("&{long}{}", constants(1_024)), &[5, 9], (5, 0)),
         lent(String::new(), &[6], (6, 0)),
         lent(":a!".into(), &[6], (6, 2)),
+        lent("#4097e".into(), &[6], (6, 4)),
         lent(format!("&:a {deep}"), &[6, 7], (6, 3)),
         lent(format!("{deep} "), &[6, 7], (7, 32)),
         lent(format!("{many})"), &[6, 8], (6, many.len())),
@@ -129,6 +130,7 @@ fn lent_rules() -> Vec<Lent<String>> {
             (8, 1 + last_test - ":a".len()),
         ),
         lent(format!("!{long}"), &[9], (9, 1)),
+        lent(format!("!#4096{}", steps(15)), &[9], (9, 1)),
     ]
 }
 

@@ -1,12 +1,14 @@
 //! All short byte strings of the bytes that mean something in a rule.
 
 use crate::rule_agreement::assert_agreement;
+use evaluator::grammar::COUNT_LIMIT;
 
-/// Every byte that the grammar names, a letter more for names, and a byte that
-/// stands nowhere but in constants.
-const BYTES: &[u8] = b":!&|(=<>\")elrLR[].+*a ";
-/// Those of them that may stand in a name, and in a constant.
-const NAME_BYTES: usize = 4;
+/// Every byte that the grammar names, a letter more for names, two digits, and a
+/// byte that stands nowhere but in constants.
+const BYTES: &[u8] = b":!&|(=<>\")elrLR[].+*#04a ";
+/// Those of them that may begin a name, may stand in one, and in a constant.
+const LETTERS: usize = 4;
+const NAME_BYTES: usize = 6;
 const CONSTANT_BYTES: usize = BYTES.len() - 1;
 
 /// How many strings were compared, and how many of them are rules.
@@ -36,15 +38,24 @@ impl Count {
     }
 }
 
-/// How many rules there are of so many of these bytes, counted along 01's
-/// grammar: a name, `!T`, `&TT` and `|TT`, or a comparison.
+/// How many rules there are of so many of these bytes, counted along the
+/// grammar: a name, `!T`, `&TT` and `|TT`, a comparison, or `#nP`.
 fn tests(bytes: u32) -> usize {
     if bytes < 2 {
         return 0;
     }
     let inside = bytes - 1;
-    let names = NAME_BYTES.pow(inside);
-    names + tests(inside) + 2 * pairs(inside, tests, tests) + comparisons(bytes)
+    let names = LETTERS * NAME_BYTES.pow(inside - 1);
+    let joined = 2 * pairs(inside, tests, tests);
+    names + tests(inside) + joined + comparisons(bytes) + pairs(inside, numbers, paths)
+}
+
+/// Those of so many bytes that a count may have, none of another digit.
+fn numbers(bytes: u32) -> usize {
+    let all = (0..=COUNT_LIMIT).map(|number| number.to_string());
+    let of_bytes = all.filter(|text| text.len() == bytes as usize);
+    let known = |text: &String| text.bytes().all(|digit| BYTES.contains(&digit));
+    of_bytes.filter(known).count()
 }
 
 /// Five of one byte, `*P`, `.PP` and `+PP`, or `[T]`.

@@ -19,6 +19,7 @@ const SHAPES: [Shape; 4] = [
             "(.*.l.ll[:text]=\"60\")",
             "(.*L[:drug]=.l.l*l)",
             "&:name(.l.l.ll>=.*L[(.L[:lib]<\"100\")])",
+            "#12.*l[:drug]",
         ],
     ),
     (
@@ -28,6 +29,7 @@ const SHAPES: [Shape; 4] = [
             "(.l[:text]=..lr.*.lrl)",
             "(e<.L*+LR)",
             "|(e=.r.*.lrl)(.R[:text]>\"9\")",
+            "#7..*.lrl[(e<\"100\")]",
         ],
     ),
     (
@@ -37,6 +39,7 @@ const SHAPES: [Shape; 4] = [
             "(e=.r*r)",
             "(.R.*R[:name]<e)",
             "&(.r.rr!=e)(l<=.*R[(e=\"5000\")])",
+            "&#2..r*r[#1l](.r*r=e)",
         ],
     ),
     (
@@ -46,6 +49,7 @@ const SHAPES: [Shape; 4] = [
             "(e<r)",
             "(.r.rr>.R.R.RR)",
             "&(e>=\"1024\")|(e=.r+re)(e<=.*R[(e>\"4000\")])",
+            "#20..R*R[(e<\"400\")]",
         ],
     ),
 ];
@@ -105,10 +109,12 @@ fn random_trees_around_each_power_of_two() {
 fn most_nodes_deep_and_wide() {
     for nodes in [NODE_LIMIT - 1, NODE_LIMIT] {
         for (name, shape, rules) in SHAPES {
+            // The last one has a count.
             let rules = match (name, nodes) {
-                ("chain", NODE_LIMIT) => &rules[..1],
-                ("chain", _) => &[],
-                _ => rules,
+                ("chain", NODE_LIMIT) => vec![rules[0], rules[3]],
+                ("chain", _) => Vec::new(),
+                (_, NODE_LIMIT) => rules.to_vec(),
+                _ => rules[..3].to_vec(),
             };
             let library = shape(nodes);
             for rule in rules {

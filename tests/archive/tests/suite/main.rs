@@ -1,12 +1,13 @@
 //! The proved functions in the archive against the evaluator, which is written
-//! from document 01 and the requests (b), (d) and (f) of document 02 and not from
-//! their code.
+//! from document 01 and the requests (b), (d), (f) and (h) of document 02 and not
+//! from their code.
 //!
 //! The proof holds of the source; these tests run what was compiled from it,
 //! through the calling convention that other languages use.
 
 mod agreement;
 mod amounts;
+mod at_least;
 mod branching_counts;
 mod damaged_evaluations;
 mod evaluation_agreement;

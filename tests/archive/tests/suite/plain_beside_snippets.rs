@@ -50,8 +50,8 @@ fn assert_beside(origin: &str, library: &Library, rule: &[u8]) -> Outcome {
     snippets
 }
 
-/// Near and far, nested, denied, and every sign.
-const RULES: [&str; 7] = [
+/// Near and far, nested, denied, every sign, and counts.
+const RULES: [&str; 9] = [
     SESSION,
     "(.l.lr=.r.rl)",
     "!(.+lr+lr=.+LR+LR)",
@@ -59,6 +59,8 @@ const RULES: [&str; 7] = [
     "&(+lr!=+rL)(.lr<=+Re)",
     "|(+e+lr>\"50\")(.L[(e=r)]<.rr)",
     "(..ll[!:name]>=.L[(.*re=l)])",
+    "#2..l*r[(e=.+rl+re)]",
+    "(.+lr[#3.l*r]=+L.R[!#2+lr])",
 ];
 
 #[test]

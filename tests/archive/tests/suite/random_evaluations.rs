@@ -8,14 +8,16 @@ use crate::rules_seen::Seen;
 use evaluator::amount::amount;
 use evaluator::document::{spell, Kind, Library};
 use evaluator::evaluate::{needed_words, Outcome};
+use evaluator::grammar::COUNT_LIMIT;
+use evaluator::meaning;
 use evaluator::random::{any_library, library, numeral_or_nearly, rule, rule_about, Random};
-use evaluator::rule::{equalities, parts, Operand, Path, Piece, Test};
+use evaluator::rule::{counts, equalities, parts, Operand, Path, Piece, Test};
 use evaluator::text_order::{self, some_order_holds};
 use evaluator::tree::{trimmed, Tree};
 use evaluator::uncut::{counts_differ, marks_differ};
 
 /// So many pairs of a document and a rule.
-const CASES: u64 = 36_000;
+const CASES: u64 = 40_000;
 /// At least so many of them accepted, the others refused by 10 or 11.
 const ACCEPTED: usize = 30_000;
 /// On at least so many of these the marks, and the counts, are others than they
@@ -26,6 +28,11 @@ const OTHER_COUNTS: usize = 3_500;
 /// are others than they would be by the order of texts.
 const ORDERED: usize = 5_000;
 const OTHER_ORDER: usize = 5_000;
+/// At least so many have a count of nodes, so that twice as many evaluations do;
+/// and in so many of them one of more than one node holds at some nodes and fails
+/// at others.
+const COUNTING: usize = 12_000;
+const TELLING: usize = 2_000;
 
 /// A pair with the tree of its document, to look into.
 struct Pair {
@@ -125,6 +132,7 @@ impl Exercise {
             self.add_rule(pair);
             self.add_cuts(pair);
             self.add_amounts(pair);
+            self.add_counts(pair);
         }
     }
 
@@ -237,6 +245,46 @@ impl Exercise {
         self.count("marks differ by the order of texts", by_text);
     }
 
+    /// Whether there are counts, where they stand, and whether they tell nodes
+    /// apart.
+    fn add_counts(&mut self, pair: &Pair) {
+        let counts = counts(&pair.rule);
+        self.count("a count", !counts.is_empty());
+        self.count("several counts", counts.len() >= 2);
+        self.count(
+            "a count in a count",
+            counts.iter().any(|c| inside(c, is_count)),
+        );
+        self.count(
+            "a comparison in a count",
+            counts.iter().any(|c| inside(c, is_comparison)),
+        );
+        self.count(
+            "an equality in a count",
+            counts.iter().any(|count| !equalities(count).is_empty()),
+        );
+        let all = parts(&pair.rule);
+        let mut tests = all.iter().filter_map(|part| part.piece.test());
+        let compared = tests.any(|test| is_comparison(test) && inside(test, is_count));
+        self.count("a count in a comparison", compared);
+        let nodes = pair.tree.size();
+        let number = |test: &Test| test.counted().map(|(n, _)| n);
+        let numbers = |n: usize| counts.iter().any(|test| number(test) == Some(n));
+        self.count("a count of none", numbers(0));
+        self.count("a count of all", numbers(nodes));
+        self.count("a count of one more", numbers(nodes + 1));
+        self.count("a count of the most", numbers(COUNT_LIMIT));
+        let telling = |least: usize| {
+            counts.iter().any(|test| {
+                let holds = meaning::holds(&pair.tree, test);
+                number(test) >= Some(least) && holds.contains(&true) && holds.contains(&false)
+            })
+        };
+        self.count("a count tells nodes apart", telling(1));
+        self.count("a count above 1 tells nodes apart", telling(2));
+        self.count("a count above 3 tells nodes apart", telling(4));
+    }
+
     fn assert_not_idle(&self) {
         println!("{:?}", self.cases);
         assert!(self.cases["accepted"] >= ACCEPTED, "{:?}", self.cases);
@@ -255,24 +303,45 @@ impl Exercise {
             self.cases["marks differ by the order of texts"],
         );
         assert!(ordered >= ORDERED && by_text >= OTHER_ORDER);
+        let (counting, telling) = (
+            self.cases["a count"],
+            self.cases["a count above 1 tells nodes apart"],
+        );
+        assert!(counting >= COUNTING && telling >= TELLING);
         assert!(
             self.cases.values().all(|cases| *cases >= 200),
             "{:?}",
             self.cases
         );
         assert_eq!(self.nodes.len(), 40, "{:?}", self.nodes);
-        // Six kinds of tests and 14 of paths, six signs before paths and before
+        // Seven kinds of tests and 14 of paths, six signs before paths and before
         // constants, and all numbers of steps.
         assert_eq!(
             self.rules.constructs.len(),
-            20,
+            21,
             "{:?}",
             self.rules.constructs
         );
         assert_eq!(self.rules.signs.len(), 12);
         assert_eq!(self.rules.steps.len(), 15, "{:?}", self.rules.steps);
+        let counted = &self.rules.counted_steps;
+        assert_eq!(counted.len(), 15, "{counted:?}");
         assert!(self.rules.tests.iter().any(|tests| *tests >= 48));
     }
+}
+
+fn is_count(test: &Test) -> bool {
+    test.counted().is_some()
+}
+
+fn is_comparison(test: &Test) -> bool {
+    matches!(test, Test::Compare(..))
+}
+
+/// Whether some test inside this one is such.
+fn inside(test: &Test, such: fn(&Test) -> bool) -> bool {
+    let inner = parts(test).into_iter().skip(1);
+    inner.filter_map(|part| part.piece.test()).any(such)
 }
 
 fn has_cut_constant(rule: &Test) -> bool {
@@ -282,24 +351,25 @@ fn has_cut_constant(rule: &Test) -> bool {
     })
 }
 
-/// How deep brackets stand inside one another, each with a comparison around.
+/// How deep brackets stand inside one another, each with a comparison or a count
+/// around.
 fn bracket_nesting(test: &Test) -> usize {
     match test {
         Test::Name(_) => 0,
         Test::Not(a) => bracket_nesting(a),
         Test::And(a, b) | Test::Or(a, b) => bracket_nesting(a).max(bracket_nesting(b)),
-        Test::Compare(p, _, operand) => {
-            let mut steps = p.steps();
-            if let Operand::Path(r) = operand {
-                steps.extend(r.steps());
-            }
-            let inside = |step: &&Path| match step {
-                Path::Stay(test) => 1 + bracket_nesting(test),
-                _ => 0,
-            };
-            steps.iter().map(inside).max().unwrap_or(0)
-        }
+        Test::Compare(p, _, Operand::Path(r)) => inside_paths(&[p, r]),
+        Test::Compare(p, ..) | Test::AtLeast(_, p) => inside_paths(&[p]),
     }
+}
+
+fn inside_paths(paths: &[&Path]) -> usize {
+    let steps = paths.iter().flat_map(|path| path.steps());
+    let inside = |step: &Path| match step {
+        Path::Stay(test) => 1 + bracket_nesting(test),
+        _ => 0,
+    };
+    steps.map(inside).max().unwrap_or(0)
 }
 
 #[test]

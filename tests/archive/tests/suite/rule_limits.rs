@@ -15,12 +15,14 @@ const AROUND_TESTS: [Around; 5] = [
     ("|:b", ""),
 ];
 const AROUND_PATHS: [Around; 5] = [("*", ""), (".", "e"), (".e", ""), ("+", "e"), ("+e", "")];
-/// A comparison and a bracket: two parts around the test inside.
-const AROUND_BOTH: [Around; 4] = [
+/// A comparison or a count, and a bracket: two parts around the test inside.
+const AROUND_BOTH: [Around; 6] = [
     ("([", "]=e)"),
     ("(e>=[", "])"),
     ("([", "]!=\"c\")"),
     ("(l<[", "])"),
+    ("#1[", "]"),
+    ("#4096[", "]"),
 ];
 
 fn wrap((before, behind): Around, times: usize, leaf: &str) -> String {
@@ -59,31 +61,38 @@ fn nesting_31_to_34_of_tests() {
 fn nesting_31_to_34_of_paths() {
     for nesting in 31..=34 {
         for around in AROUND_PATHS {
-            // The comparison is one more part around them all.
+            // The comparison or the count is one more part around them all.
             let path = wrap(around, nesting - 2, "l");
             let place = 30 * around.0.len() + 1;
             assert_nesting(&format!("({path}=e)"), nesting, 1 + place);
             assert_nesting(&format!("({path}<\"c\")"), nesting, 1 + place);
             assert_nesting(&format!("(e<={path})"), nesting, 4 + place);
+            assert_nesting(&format!("#0{path}"), nesting, 2 + place);
+            assert_nesting(&format!("#4096{path}"), nesting, 5 + place);
         }
     }
 }
 
 #[test]
-fn nesting_31_to_34_of_comparisons_and_brackets() {
+fn nesting_31_to_34_of_comparisons_counts_and_brackets() {
     for nesting in 31..=34 {
         for around in AROUND_BOTH {
             // Two parts a time, and inside them one part or two.
-            let leaf = if nesting % 2 == 1 { ":a" } else { "(e=e)" };
-            let rule = wrap(around, (nesting - 1) / 2, leaf);
-            assert_nesting(&rule, nesting, 16 * around.0.len());
+            let leaves = match nesting % 2 {
+                1 => [":a", ":b"],
+                _ => ["(e=e)", "#27e"],
+            };
+            for leaf in leaves {
+                let rule = wrap(around, (nesting - 1) / 2, leaf);
+                assert_nesting(&rule, nesting, 16 * around.0.len());
+            }
         }
     }
 }
 
 #[test]
 fn tests_63_to_66() {
-    for leaf in [":a", "(e=e)", "(.l*R<=\"(:!\")"] {
+    for leaf in [":a", "(e=e)", "(.l*R<=\"(:!\")", "#1e", "#4096.l*R"] {
         for sign in ["&", "|"] {
             // 32 leaves and 31 signs, 33 leaves and 32 signs.
             let (most, above) = (joined(sign, leaf, 32), joined(sign, leaf, 33));
@@ -98,6 +107,11 @@ fn tests_63_to_66() {
             assert_judged("64 tests", inside.as_bytes(), (0, 0));
             let inside = format!("([{above}]=e)");
             assert_judged("66 tests", inside.as_bytes(), (8, 2 + last - leaf.len()));
+            // A count is one test, with any number.
+            let counted = format!("#10[{most}]");
+            assert_judged("64 tests", counted.as_bytes(), (0, 0));
+            let counted = format!("#10[{above}]");
+            assert_judged("66 tests", counted.as_bytes(), (8, 4 + last - leaf.len()));
             let second = format!("(e=[!{most}])");
             assert_judged(
                 "65 tests",
@@ -114,7 +128,8 @@ fn kinds_of_step() -> Vec<String> {
     let plain = ["l", "r", "L", "R", "*l", ".er", "+L*e"];
     let mut kinds: Vec<String> = plain.map(String::from).into();
     let inside = joined(".", "l", 14);
-    for test in [":a", &format!("({inside}=e)"), "([:a]>[:b])"] {
+    let (compared, counted) = (format!("({inside}=e)"), format!("#14{inside}"));
+    for test in [":a", &compared, "([:a]>[:b])", &counted, "#2[#1e]"] {
         kinds.push(format!("[{test}]"));
     }
     kinds
@@ -133,6 +148,8 @@ fn steps_13_to_16() {
                 assert_steps(format!("!({path}=e)"));
                 assert_steps(format!("!(e!={path})"));
                 assert_steps(format!("!({path}<\"c\")"));
+                assert_steps(format!("!#0{path}"));
+                assert_steps(format!("!#4096{path}"));
             }
             for first in 1..count {
                 let paths = [first, count - first].map(|steps| joined(".", &step, steps));
@@ -157,6 +174,36 @@ fn steps_13_to_16_inside_a_bracket() {
         // The comparison behind one with a bracket starts from 0 again.
         let both = format!("&([(l=r)]=e){inner}");
         assert_judged(&name, both.as_bytes(), due("&([(l=r)]=e)".len()));
+    }
+}
+
+#[test]
+fn steps_13_to_16_of_comparisons_and_counts() {
+    let due = |heavy: &[(usize, usize)]| {
+        let first = heavy.iter().find(|(steps, _)| *steps > 14);
+        first.map_or((0, 0), |(_, place)| (9, *place))
+    };
+    for (first, second) in (13..=16).flat_map(|one| (13..=16).map(move |other| (one, other))) {
+        let name = format!("{first} and {second} steps");
+        let compared = |count: usize| format!("({}=e)", steps(count));
+        let counted = |count: usize| format!("#20{}", steps(count));
+        let behind = |one: String, other: String| {
+            let at = 1 + one.len();
+            let rule = format!("&{one}{other}");
+            assert_judged(&name, rule.as_bytes(), due(&[(first, 1), (second, at)]));
+        };
+        behind(compared(first), counted(second));
+        behind(counted(first), compared(second));
+        behind(counted(first), counted(second));
+        // The second in a bracket of the first, which is one of its steps.
+        let around = steps(first - 1);
+        for inner in [compared(second), counted(second)] {
+            let rule = format!("#300.[{inner}]{around}");
+            assert_judged(&name, rule.as_bytes(), due(&[(first, 0), (second, 6)]));
+        }
+        let rule = format!("(e=.{around}[{}])", counted(second));
+        let place = 5 + around.len();
+        assert_judged(&name, rule.as_bytes(), due(&[(first, 0), (second, place)]));
     }
 }
 

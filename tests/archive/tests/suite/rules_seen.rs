@@ -5,7 +5,7 @@ use std::collections::BTreeSet;
 use evaluator::reader;
 use evaluator::rule::{parts, Operand, Path, Piece, Test};
 
-/// What 01 allows, and how much of it the rules had.
+/// What 01 and 02 allow, and how much of it the rules had.
 #[derive(Default)]
 pub struct Seen {
     pub constructs: BTreeSet<&'static str>,
@@ -18,7 +18,11 @@ pub struct Seen {
     pub constant_lengths: BTreeSet<usize>,
     pub nestings: BTreeSet<usize>,
     pub tests: BTreeSet<usize>,
+    /// Of comparisons, and of counts.
     pub steps: BTreeSet<usize>,
+    pub counted_steps: BTreeSet<usize>,
+    /// The n of counts.
+    pub numbers: BTreeSet<usize>,
     pub longest: usize,
 }
 
@@ -56,6 +60,11 @@ impl Seen {
                 let constant = matches!(operand, Operand::Constant(_));
                 self.signs.insert((sign.spell(), constant));
                 self.add_operand(path.steps().len(), operand)
+            }
+            Test::AtLeast(n, path) => {
+                self.counted_steps.insert(path.steps().len());
+                self.numbers.insert(*n);
+                "#nP"
             }
         };
         self.constructs.insert(construct);

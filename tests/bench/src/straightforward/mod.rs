@@ -2,10 +2,12 @@
 //! against: the same algorithms without a proof.
 //!
 //! A set of positions at a node is one word of 16 bits, and values are compared
-//! by the ranks of their texts or of their amounts. Document and rule are taken as accepted and not checked, and
+//! by the ranks of their texts or of their amounts. Both evaluations count nodes
+//! in the same way. Document and rule are taken as accepted and not checked, and
 //! memory is allocated as needed, where the proved functions have their scratch.
 
 mod automaton;
+mod count;
 mod library;
 pub mod plain;
 pub mod snippets;
@@ -62,6 +64,7 @@ fn holds(library: &Library, test: &Test, comparing: &dyn Comparing) -> Vec<bool>
             let hits = hits(library, *sign, cut(c));
             comparing.hits(library, &automaton(p, &Path::Empty), &hits)
         }
+        Test::AtLeast(n, p) => count::at_least(library, &automaton(p, &Path::Empty), *n),
     }
 }
 

@@ -14,6 +14,8 @@ pub struct Walk<'a> {
     touched: Vec<u16>,
     /// Positions at a node that were not followed yet.
     open: Vec<(u16, u16)>,
+    /// So many nodes have a last position among those reached there.
+    found: usize,
 }
 
 impl Walk<'_> {
@@ -25,6 +27,7 @@ impl Walk<'_> {
             seen: vec![0; library.size()],
             touched: Vec::new(),
             open: Vec::new(),
+            found: 0,
         }
     }
 
@@ -41,6 +44,26 @@ impl Walk<'_> {
             }
             self.seen[node] = 0;
         }
+        self.found = 0;
+    }
+
+    /// Whether the path with this start ends at so many nodes, from v. What is near
+    /// comes first, and the walk goes no further than it takes to tell.
+    pub fn finds(&mut self, start: usize, v: usize, number: usize) -> bool {
+        self.reach(v as u16, 1 << start);
+        let mut next = 0;
+        while self.found < number && next < self.open.len() {
+            let (node, positions) = self.open[next];
+            self.follow(node, positions);
+            next += 1;
+        }
+        let enough = self.found >= number;
+        self.open.clear();
+        for node in self.touched.drain(..) {
+            self.seen[usize::from(node)] = 0;
+        }
+        self.found = 0;
+        enough
     }
 
     /// One step on from these positions at a node.
@@ -78,6 +101,8 @@ impl Walk<'_> {
         if *seen == 0 {
             self.touched.push(node);
         }
+        let last = self.automaton.last;
+        self.found += usize::from(*seen & last == 0 && new & last != 0);
         *seen |= new;
         self.open.push((node, new));
     }

@@ -19,13 +19,40 @@ pub fn damage_document(random: &mut Random, document: &[u8]) -> Vec<u8> {
 pub fn damage_rule(random: &mut Random, rule: &[u8]) -> Vec<u8> {
     let mut damaged = rule.to_vec();
     for _ in 0..=random.below(3) {
-        damaged = damage_bytes(
-            random,
-            &damaged,
-            b":!&|(=<>\"elrLR[].+*)az09-xX~\n\x7f\xff ",
-        );
+        damaged = match random.percent(20) {
+            true => damage_count(random, &damaged),
+            false => damage_bytes(
+                random,
+                &damaged,
+                b":!&|(=<>\"elrLR[].+*)az09-xX~\n\x7f\xff #4",
+            ),
+        };
     }
     damaged
+}
+
+/// Puts another number behind some `#`, or a digit before or behind the number
+/// there. In a constant a `#` has no number, and gets one. What has no `#` stays
+/// as it is.
+fn damage_count(random: &mut Random, rule: &[u8]) -> Vec<u8> {
+    let places: Vec<usize> = (0..rule.len()).filter(|at| rule[*at] == b'#').collect();
+    if places.is_empty() {
+        return rule.to_vec();
+    }
+    let (before, behind) = rule.split_at(random.pick(&places) + 1);
+    let digits = behind.iter().take_while(|byte| byte.is_ascii_digit());
+    let (number, rest) = behind.split_at(digits.count());
+    let numbers = [
+        "", "0", "00", "01", "9", "999", "4095", "4096", "4097", "4100", "5000", "9999", "40960",
+    ];
+    let digit = [b'0' + random.below(10) as u8];
+    let other = match random.below(4) {
+        0 => [b"0", number].concat(),
+        1 => [&digit, number].concat(),
+        2 => [number, &digit].concat(),
+        _ => random.pick(&numbers).as_bytes().to_vec(),
+    };
+    [before, &other, rest].concat()
 }
 
 /// Drops, repeats or exchanges lines, or puts one line for another.

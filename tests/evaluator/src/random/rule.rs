@@ -5,7 +5,7 @@ use super::{nearly_numeral, numeral_or_nearly, padded, printable, printable_of, 
 use super::{Random, NAMES};
 use crate::amount::amount;
 use crate::document::LABEL_LIMIT;
-use crate::grammar::CONSTANT_LIMIT;
+use crate::grammar::{CONSTANT_LIMIT, COUNT_LIMIT};
 use crate::rule::{parts, Operand, Path, Sign, Test};
 use crate::rule_check::{BYTE_LIMIT, NESTING_LIMIT, STEP_LIMIT, TEST_LIMIT};
 use crate::tree::trimmed;
@@ -42,8 +42,8 @@ pub fn any_rule(random: &mut Random, size: usize) -> Test {
     draw_legal(|| draw_joined(random, Words::Any, size, 1, STEP_LIMIT))
 }
 
-/// The same, but it may have too many tests, too many bytes and comparisons
-/// of too many steps. It reads, and its nesting is legal.
+/// The same, but it may have too many tests, too many bytes, and comparisons
+/// and counts of too many steps. It reads, and its nesting is legal.
 pub fn large_rule(random: &mut Random, size: usize) -> Test {
     draw_joined(random, Words::Any, size, 1, STEP_LIMIT + 4)
 }
@@ -107,7 +107,8 @@ impl Words<'_> {
         }
     }
 
-    /// Of a hundred comparisons so many begin with a path of many steps.
+    /// Of a hundred comparisons and counts so many begin with a path of many
+    /// steps.
     fn long_paths(self) -> usize {
         match self {
             Words::Shared => 0,
@@ -145,7 +146,7 @@ impl<'a> Drawing<'a> {
         if self.must_close(nesting) {
             return self.name();
         }
-        match self.random.below(12) {
+        match self.random.below(20) {
             0 => self.name(),
             1 | 2 => Test::Not(Box::new(self.test(nesting + 1))),
             3 => Test::And(
@@ -156,6 +157,7 @@ impl<'a> Drawing<'a> {
                 Box::new(self.test(nesting + 1)),
                 Box::new(self.test(nesting + 1)),
             ),
+            5..=8 => self.count(nesting),
             _ => self.comparison(nesting),
         }
     }
@@ -177,8 +179,7 @@ impl<'a> Drawing<'a> {
             true => Sign::Equal,
             false => *self.random.pick(&Sign::ALL),
         };
-        let long = nesting < NESTING_LIMIT / 2 && self.seldom(self.words.long_paths());
-        let first = match long {
+        let first = match self.is_long(nesting) {
             true => self.long_path(nesting + 1, steps, &mut steps),
             false => self.compared_path(sign, nesting + 1, &mut steps),
         };
@@ -189,15 +190,66 @@ impl<'a> Drawing<'a> {
         Test::Compare(first, sign, operand)
     }
 
+    /// Whether a path directly inside a test at this nesting gets many steps.
+    fn is_long(&mut self, nesting: usize) -> bool {
+        nesting < NESTING_LIMIT / 2 && self.seldom(self.words.long_paths())
+    }
+
     /// Before an order sign and behind it often one that leads to many nodes, so
     /// that there is a numeral among them.
     fn compared_path(&mut self, sign: Sign, nesting: usize, steps: &mut usize) -> Path {
         let room = *steps >= 2 && nesting + 2 <= NESTING_LIMIT;
-        if !is_order(sign) || !room || !self.random.percent(60) {
-            return self.path(nesting, steps);
+        match is_order(sign) && room && self.random.percent(60) {
+            true => self.spreading_path(steps),
+            false => self.path(nesting, steps),
         }
+    }
+
+    /// Two plain steps, either of them again and again.
+    fn spreading_path(&mut self, steps: &mut usize) -> Path {
         let [first, second] = [0, 1].map(|_| Box::new(self.plain_step(steps)));
         Path::Repeat(Box::new(Path::Either(first, second)))
+    }
+
+    fn count(&mut self, nesting: usize) -> Test {
+        let mut steps = self.most_steps;
+        let path = match self.is_long(nesting) {
+            true => self.long_path(nesting + 1, steps, &mut steps),
+            false => self.counted_path(nesting + 1, &mut steps),
+        };
+        Test::AtLeast(self.number(), path)
+    }
+
+    /// Often one that leads to many nodes, so that it matters how many.
+    fn counted_path(&mut self, nesting: usize, steps: &mut usize) -> Path {
+        let room = nesting + 5 <= NESTING_LIMIT;
+        match self.random.below(4) {
+            0 if room => self.spreading_path(steps),
+            1 if room => self.wandering_path(nesting, steps),
+            _ => self.path(nesting, steps),
+        }
+    }
+
+    /// Mostly a small one, so that as many nodes are reached from some nodes and
+    /// not from others; sometimes as many as the library has, one more, or the
+    /// most.
+    fn number(&mut self) -> usize {
+        let nodes = match self.words {
+            Words::Any => return any_number(self.random),
+            Words::Shared => 1 + self.random.below(12),
+            Words::About(values) => values.len(),
+        };
+        let number = match self.random.below(20) {
+            0 => 0,
+            1..=5 => 1,
+            6..=11 => 2,
+            12..=14 => 3,
+            15 | 16 => 4 + self.random.below(5),
+            17 => nodes,
+            18 => nodes + 1,
+            _ => COUNT_LIMIT,
+        };
+        number.min(COUNT_LIMIT)
     }
 
     /// True in so many cases of a hundred. Nothing is drawn if it never is, so
@@ -327,6 +379,15 @@ fn any_constant(random: &mut Random) -> Vec<u8> {
     text
 }
 
+/// The n of a count, of every number of digits and up to the most.
+fn any_number(random: &mut Random) -> usize {
+    let most = *random.pick(&[10, 100, 1_000, COUNT_LIMIT]);
+    match random.percent(20) {
+        true => most,
+        false => random.below(most),
+    }
+}
+
 /// A name, one byte longer or shorter.
 fn nearly_label(random: &mut Random, mut label: Vec<u8>) -> Vec<u8> {
     match label.len() < LABEL_LIMIT && random.percent(50) {
@@ -370,8 +431,9 @@ fn unquote(text: &mut [u8]) {
 
 /// A rule of the given nesting, built from the outside inwards: the bytes
 /// before each inner part, and the bytes behind all of them. Where a part has
-/// others inside, the first begins right behind its own first byte. Steps are
-/// few, so that nothing but the nesting can break a limit.
+/// others inside, the first begins right behind its own first byte, or behind
+/// the number of a count. Steps are few, so that nothing but the nesting can
+/// break a limit.
 pub fn deep_rule(random: &mut Random, nesting: usize) -> (Vec<&'static str>, Vec<u8>) {
     let tests = [
         ("!", "", true),
@@ -382,6 +444,8 @@ pub fn deep_rule(random: &mut Random, nesting: usize) -> (Vec<&'static str>, Vec
         ("(", "=e)", false),
         ("(", "<\"c\")", false),
         ("(l!=", ")", false),
+        ("#3", "", false),
+        ("#4096", "", false),
     ];
     let paths = [
         ("*", "", false),

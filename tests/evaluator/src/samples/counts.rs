@@ -3,7 +3,7 @@
 
 use super::libraries::{attribute, element};
 use super::selections::SESSION;
-use super::{amounts, blanks, flat, name, X};
+use super::{amounts, at_least, blanks, flat, name, X};
 use crate::document::{spell, Library};
 
 pub struct CountCase {
@@ -16,7 +16,7 @@ pub struct CountCase {
 pub type Group = (&'static str, fn() -> Vec<CountCase>);
 
 /// All fixed cases.
-pub const GROUPS: [Group; 7] = [
+pub const GROUPS: [Group; 8] = [
     ("document 01 gives two counts on X", given),
     ("a snippet yielded by two values counts once", two_values),
     ("nodes below y are no ends for p", not_below),
@@ -24,6 +24,10 @@ pub const GROUPS: [Group; 7] = [
     ("one node has no snippets", one_node),
     ("groups go by the cut value", blanks::groups),
     ("groups go by text and not by amount", amounts::groups),
+    (
+        "a count of nodes has no snippets of its own",
+        at_least::snippets,
+    ),
 ];
 
 pub(super) fn case(document: &[u8], rule: &'static str, snippets: usize) -> CountCase {

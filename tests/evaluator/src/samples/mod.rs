@@ -2,6 +2,7 @@
 //! other packages.
 
 pub mod amounts;
+pub mod at_least;
 pub mod attributes;
 pub mod blanks;
 pub mod counts;

@@ -1,7 +1,7 @@
 //! Fixed rules with what their check must hand back: every row of the table
 //! for numbers 5 to 9, and which of two comes first.
 
-use super::{balanced, blanks, steps};
+use super::{at_least, balanced, blanks, steps};
 use crate::Refusal;
 
 pub struct RuleCase {
@@ -13,7 +13,7 @@ pub struct RuleCase {
 pub type Group = (&'static str, fn() -> Vec<RuleCase>);
 
 /// All fixed cases.
-pub const GROUPS: [Group; 16] = [
+pub const GROUPS: [Group; 23] = [
     ("the examples of document 01", examples),
     ("every construct is accepted", constructs),
     ("a rule above 1,024 bytes is 5", byte_limit),
@@ -30,6 +30,19 @@ pub const GROUPS: [Group; 16] = [
     ("of several refusals the order decides", first_of_several),
     ("of each two in both orders of place", competing_pairs),
     ("blanks are part of a constant", blanks::rules),
+    ("n is 0 to 4,096 without leading zeros", at_least::spelled),
+    ("a number that is no n is 6", at_least::unread_numbers),
+    ("a count that does not read is 6", at_least::unread_counts),
+    (
+        "the path of a count is a part, and n is none",
+        at_least::nesting,
+    ),
+    ("a count is one test", at_least::tests),
+    ("a count above 14 steps is 9", at_least::step_limit),
+    (
+        "of comparisons and counts above 14 the first is named",
+        at_least::first_above,
+    ),
 ];
 
 pub(super) fn case(rule: impl Into<Vec<u8>>, number: u32, place: usize) -> RuleCase {
@@ -48,7 +61,7 @@ pub(super) fn unread<const COUNT: usize>(cases: [(&str, usize); COUNT]) -> Vec<R
     cases.map(|(rule, place)| case(rule, 6, place)).into()
 }
 
-fn nots(count: usize) -> String {
+pub(super) fn nots(count: usize) -> String {
     "!".repeat(count)
 }
 
@@ -82,7 +95,7 @@ fn examples() -> Vec<RuleCase> {
 }
 
 /// Rules that have every construct between them.
-pub const CONSTRUCTS: [&str; 21] = [
+pub const CONSTRUCTS: [&str; 24] = [
     ":a",
     "!:a",
     "&:a:b",
@@ -104,6 +117,9 @@ pub const CONSTRUCTS: [&str; 21] = [
     ":a-9",
     ":a-",
     "(.l[&:a!:b]<=\"))((\")",
+    "#0e",
+    "#30*l",
+    "#4096.l[#1r]",
 ];
 
 fn constructs() -> Vec<RuleCase> {

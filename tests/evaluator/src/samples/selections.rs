@@ -1,8 +1,8 @@
 //! Fixed documents and rules with the nodes that must be marked: document 01's
 //! cases on X, where a reading of it slips, what each construct means, blanks at
-//! the ends of values, and the order of amounts.
+//! the ends of values, the order of amounts, and counts.
 
-use super::{amounts, blanks, document, X};
+use super::{amounts, at_least, blanks, document, X};
 
 pub struct SelectionCase {
     pub document: Vec<u8>,
@@ -15,7 +15,7 @@ pub struct SelectionCase {
 pub type Group = (&'static str, fn() -> Vec<SelectionCase>);
 
 /// All fixed cases.
-pub const GROUPS: [Group; 35] = [
+pub const GROUPS: [Group; 41] = [
     ("the ten cases on X mark what is written", cases_on_x),
     ("= and != both fail at node 3 of X", both_fail),
     ("= and != may both hold, or one, or neither", both_hold),
@@ -66,6 +66,15 @@ pub const GROUPS: [Group; 35] = [
         amounts::joined_texts,
     ),
     ("the longest values as numerals", amounts::longest),
+    ("a count asks for at least n nodes", at_least::numbers),
+    ("a node reached in two ways counts once", at_least::once),
+    ("nodes inside and below are counted", at_least::inside),
+    (
+        "counts and comparisons stand in each other",
+        at_least::nested,
+    ),
+    ("at least three concentrations", at_least::concentrations),
+    ("nodes of a row are counted", at_least::rows),
 ];
 
 /// The session of document 01.
@@ -87,12 +96,12 @@ pub const CASES_ON_X: [(&str, &[usize]); 10] = [
 
 pub(super) type Marked = (&'static str, &'static [usize]);
 
-fn on_x(cases: &[Marked]) -> Vec<SelectionCase> {
+pub(super) fn on_x(cases: &[Marked]) -> Vec<SelectionCase> {
     on(X.as_bytes(), cases)
 }
 
 /// 0 lib, 1 drug with attribute 2, text 3, unit 4 with text 5, text 6; 7 empty.
-fn on_mixed(cases: &[Marked]) -> Vec<SelectionCase> {
+pub(super) fn on_mixed(cases: &[Marked]) -> Vec<SelectionCase> {
     let mixed = document(&[
         ('e', 0, "lib", ""),
         ('e', 1, "drug", ""),

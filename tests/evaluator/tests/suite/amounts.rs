@@ -292,7 +292,7 @@ fn what_would_hold_by_text_is_told_apart() {
 #[test]
 fn order_signs_hold_often_on_random_pairs_and_differ_from_the_order_of_texts() {
     let (mut held, mut differ) = (0, 0);
-    const CASES: u64 = 3_000;
+    const CASES: u64 = 3_600;
     for seed in 0..CASES {
         let random = &mut Random::new(seed);
         let nodes = 2 + random.below(20);

@@ -1,8 +1,9 @@
-//! What document 01 and the requests (b), (d) and (f) of document 02 say, tried
+//! What document 01 and the requests (b), (d), (f) and (h) of document 02 say, tried
 //! on this evaluator: the examples, every row of the table of refusals, and the
 //! promises on random documents and rules.
 
 mod amounts;
+mod at_least;
 mod blanks;
 mod calls;
 mod document_refusals;

@@ -40,7 +40,7 @@ fn compare_chains(seed: u64, tree: &Tree, p: &Path, r: &Path) -> usize {
 #[test]
 fn a_place_comes_to_what_links_lead_to() {
     let (mut compared, mut joined) = (0, 0);
-    for seed in 0..400 {
+    for seed in 0..500 {
         let random = &mut Random::new(seed);
         let nodes = 1 + random.below(12);
         let tree = Tree::of(&library(random, nodes));

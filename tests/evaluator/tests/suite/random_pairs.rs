@@ -92,6 +92,7 @@ fn exchange_test(test: &Test) -> Test {
         Test::Compare(p, sign, constant) => {
             Test::Compare(exchange_path(p), *sign, constant.clone())
         }
+        Test::AtLeast(n, p) => Test::AtLeast(*n, exchange_path(p)),
     }
 }
 

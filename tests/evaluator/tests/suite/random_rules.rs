@@ -80,6 +80,14 @@ fn judged_by_the_grammar(damaged: &[u8], whole: &[u8]) {
     }
 }
 
+/// Where the first part inside another begins, behind the beginning of that one.
+fn first_inside(head: &str) -> usize {
+    match head.starts_with('#') {
+        true => head.len(),
+        false => 1,
+    }
+}
+
 #[test]
 fn in_damaged_deep_rules_7_goes_before_6() {
     let mut sevens_before_sixes = 0;
@@ -88,7 +96,7 @@ fn in_damaged_deep_rules_7_goes_before_6() {
         let nesting = 33 + random.below(30);
         let (heads, tail) = deep_rule(random, nesting);
         let rule = [heads.concat().into_bytes(), tail].concat();
-        let place = heads[..31].concat().len() + 1;
+        let place = heads[..31].concat().len() + first_inside(heads[31]);
         assert_eq!(check(&rule), Refusal { number: 7, place }, "seed {seed}");
 
         // Damage behind the first byte of that part leaves the 7.

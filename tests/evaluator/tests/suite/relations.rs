@@ -1,8 +1,16 @@
-//! Relations are joined row by row and closed by doubling. Here both are held
-//! against what the words say, pair by pair.
+//! Relations are joined row by row, and closed by rows that grow. Here both are
+//! held against what the words say, pair by pair.
 
 use evaluator::random::Random;
 use evaluator::relation::Relation;
+
+/// Mostly few nodes; seldom more than a row has in one word or two.
+fn draw_size(random: &mut Random) -> usize {
+    match random.below(50) {
+        0 => 60 + random.below(75),
+        _ => 1 + random.below(14),
+    }
+}
 
 /// A random relation over so many nodes, with few pairs or many.
 fn draw_relation(random: &mut Random, size: usize) -> Relation {
@@ -23,7 +31,7 @@ fn joined_relations_have_a_node_between() {
     let mut some = 0;
     for seed in 0..1_000 {
         let random = &mut Random::new(seed);
-        let size = 1 + random.below(14);
+        let size = draw_size(random);
         let (first, second) = (draw_relation(random, size), draw_relation(random, size));
         let joined = first.then(&second);
         assert_eq!(joined, one_after_the_other(&first, &second), "seed {seed}");
@@ -37,21 +45,38 @@ fn a_closure_is_the_relation_zero_or_more_times() {
     let mut often = 0;
     for seed in 0..1_000 {
         let random = &mut Random::new(seed);
-        let size = 1 + random.below(14);
+        let size = draw_size(random);
         let relation = draw_relation(random, size);
-        // No more turns are needed than there are nodes: a way that comes to
-        // a node twice can be cut short.
+        // A turn that adds nothing is the last that is needed.
         let mut turns = Relation::where_holds(size, |v, w| v == w);
         let mut closure = turns.clone();
         let mut needed = 0;
-        for turn in 1..=size {
+        loop {
             turns = one_after_the_other(&turns, &relation);
             let longer = Relation::where_holds(size, |v, w| closure.has(v, w) || turns.has(v, w));
-            needed = if longer == closure { needed } else { turn };
+            if longer == closure {
+                break;
+            }
+            needed += 1;
             closure = longer;
         }
         assert_eq!(relation.repeated(), closure, "seed {seed}");
         often += usize::from(needed >= 3);
     }
     assert!(often > 300, "{often} needed three turns");
+}
+
+#[test]
+fn a_union_has_the_pairs_of_both_and_a_row_its_nodes_rising() {
+    for seed in 0..1_000 {
+        let random = &mut Random::new(seed);
+        let size = draw_size(random);
+        let (first, second) = (draw_relation(random, size), draw_relation(random, size));
+        let union = first.union(&second);
+        for v in 0..size {
+            let related = |w: &usize| first.has(v, *w) || second.has(v, *w);
+            let due: Vec<usize> = (0..size).filter(related).collect();
+            assert_eq!(union.from(v), due, "seed {seed}");
+        }
+    }
 }

@@ -2,6 +2,7 @@
 
 use evaluator::document::{check, read, spell, BYTE_LIMIT};
 use evaluator::random::{any_library, Random};
+use evaluator::rule::{counts, Test};
 use evaluator::rule_check;
 use evaluator::samples::document;
 use evaluator::shrink::{shrink, shrink_document, shrink_rule};
@@ -61,6 +62,13 @@ fn a_rule_loses_all_around_the_part_that_matters() {
     let bracket = |rule: &[u8]| rule.windows(4).any(|bytes| bytes == b"[:b]");
     let legal = |rule: &[u8]| rule_check::check(rule).number == 0 && bracket(rule);
     assert_eq!(shrink_rule(rule, legal, || true), b"(e=[:b])");
+    // A count loses nodes.
+    let rule_with_counts = b"&:a!#4000.l[(e=.r[#37*+lr])]";
+    let many = |rule: &[u8]| {
+        let three = |test: &&Test| matches!(test, Test::AtLeast(3.., _));
+        rule_check::read(rule).is_ok_and(|rule| counts(&rule).iter().any(three))
+    };
+    assert_eq!(shrink_rule(rule_with_counts, many, || true), b"#3e");
     // What is no rule loses bytes.
     assert_eq!(shrink_rule(b"(e=[:b]", bracket, || true), b"[:b]");
     // Nothing is tried once there is no going on.

@@ -30,10 +30,10 @@ bracket-tests-requires c κs = two-numbered (c .before .before .before .before .
 
 -- ── Drawing the part ──
 draw-requires : tie.Need-draw-requires
-draw-requires c κs = draw-room (c .before .before .before .before .before .before .pre .2 .task) (c .before .before .before .before .before .before .args .t .now) refl
+draw-requires c κs = draw-room (c .before .before .before .before .before .before .pre .2 .task .scene) (c .before .before .before .before .before .before .args .t .now) refl
 
 draw-tests-requires : tie.Need-draw-tests-requires
-draw-tests-requires c κs = let h = c .before .before .before .before .before .before .before .before .before .before .pre .2 in (draw-room (h .task) (c .before .before .before .draw .last .0) (c .before .before .before .draw .ensures .within .long), has-brackets h (c .before .before .before .before .before .bracket-tests .ensures) .small)
+draw-tests-requires c κs = let h = c .before .before .before .before .before .before .before .before .before .before .pre .2 in (draw-room (h .task .scene) (c .before .before .before .draw .last .0) (c .before .before .before .draw .ensures .within .long), has-brackets h (c .before .before .before .before .before .bracket-tests .ensures) .small)
 
 ranks-of-requires : tie.Need-ranks-of-requires
 ranks-of-requires c κs = search needs
@@ -41,20 +41,20 @@ ranks-of-requires c κs = search needs
 draw-ranks-requires : tie.Need-draw-ranks-requires
 draw-ranks-requires c κs =
     let h = c .before .before .before .before .before .before .before .before .before .before .before .before .before .before .before .pre .2 in let p = c .before .before .before .before .before .before .before .before .draw .ensures in let q = c .before .before .before .before .draw-tests .ensures in
-    (draw-room (h .task) (c .before .before .before .before .draw-tests .last .0) (q .within .long ∙ p .within .long), c .before .ranks-of .ensures .0)
+    (draw-room (h .task .scene) (c .before .before .before .before .draw-tests .last .0) (q .within .long ∙ p .within .long), c .before .ranks-of .ensures .0)
 
 -- ── Lending the part to the evaluator ──
 needed-requires : tie.Need-needed-requires
-needed-requires c κs = let h = c .before .before .before .before .before .before .before .before .before .before .before .before .before .before .before .before .before .before .pre .2 .task in (some-nodes h, few-nodes h)
+needed-requires c κs = let h = c .before .before .before .before .before .before .before .before .before .before .before .before .before .before .before .before .before .before .pre .2 .task .scene in (some-nodes h, few-nodes h)
 
 mul-compare-paths : tie.Need-mul-compare-paths
-mul-compare-paths c = let h = few-nodes (c .before .before .before .before .before .before .before .before .before .before .before .before .before .before .before .before .before .before .before .pre .2 .task) in omega arith
+mul-compare-paths c = let h = few-nodes (c .before .before .before .before .before .before .before .before .before .before .before .before .before .before .before .before .before .before .before .pre .2 .task .scene) in omega arith
 
 mul-compare-paths-2 : tie.Need-mul-compare-paths-2
-mul-compare-paths-2 c = let h = few-nodes (c .before .before .before .before .before .before .before .before .before .before .before .before .before .before .before .before .before .before .before .pre .2 .task) in omega arith
+mul-compare-paths-2 c = let h = few-nodes (c .before .before .before .before .before .before .before .before .before .before .before .before .before .before .before .before .before .before .before .pre .2 .task .scene) in omega arith
 
 sub-compare-paths : tie.Need-sub-compare-paths
-sub-compare-paths c = let r = scratch-room (c .before .before .before .before .before .before .before .before .before .before .before .before .before .before .before .before .before .before .before .args .n) (some-nodes (c .before .before .before .before .before .before .before .before .before .before .before .before .before .before .before .before .before .before .before .pre .2 .task)) in let e = c .needed .ensures in omega arith
+sub-compare-paths c = let r = scratch-room (c .before .before .before .before .before .before .before .before .before .before .before .before .before .before .before .before .before .before .before .args .n) (some-nodes (c .before .before .before .before .before .before .before .before .before .before .before .before .before .before .before .before .before .before .before .pre .2 .task .scene)) in let e = c .needed .ensures in omega arith
 
 -- the part ends where the scratch's own words do
 lent : (c : tie.After-needed) → c .needed .result ≤ length (c .before .before .before .draw-ranks .last .0)
@@ -63,10 +63,10 @@ lent c =
     let k = c .before .before .before .draw-ranks .ensures .within .long in let l = c .before .before .before .before .before .before .before .before .draw-tests .ensures .within .long in let m = c .before .before .before .before .before .before .before .before .before .before .before .before .draw .ensures .within .long in omega arith
 
 part-compare-paths-start : tie.Need-part-compare-paths-start
-part-compare-paths-start c = let l = lent c in let g = scratch-room (c .before .before .before .before .before .before .before .before .before .before .before .before .before .before .before .before .before .before .before .args .n) (some-nodes (c .before .before .before .before .before .before .before .before .before .before .before .before .before .before .before .before .before .before .before .pre .2 .task)) in let e = c .needed .ensures in omega arith
+part-compare-paths-start c = let l = lent c in let g = scratch-room (c .before .before .before .before .before .before .before .before .before .before .before .before .before .before .before .before .before .before .before .args .n) (some-nodes (c .before .before .before .before .before .before .before .before .before .before .before .before .before .before .before .before .before .before .before .pre .2 .task .scene)) in let e = c .needed .ensures in omega arith
 
 part-compare-paths-end : tie.Need-part-compare-paths-end
-part-compare-paths-end c = let l = lent c in let g = scratch-room (c .before .before .before .before .before .before .before .before .before .before .before .before .before .before .before .before .before .before .before .args .n) (some-nodes (c .before .before .before .before .before .before .before .before .before .before .before .before .before .before .before .before .before .before .before .pre .2 .task)) in let e = c .needed .ensures in omega arith
+part-compare-paths-end c = let l = lent c in let g = scratch-room (c .before .before .before .before .before .before .before .before .before .before .before .before .before .before .before .before .before .before .before .args .n) (some-nodes (c .before .before .before .before .before .before .before .before .before .before .before .before .before .before .before .before .before .before .before .pre .2 .task .scene)) in let e = c .needed .ensures in omega arith
 
 compare-paths-requires : tie.Need-compare-paths-requires
 compare-paths-requires c κs =

@@ -22,10 +22,13 @@ returns-4 : tie.Need-returns-4
 returns-4 c = λ T j a. sym (ap testBy (c .match .keys4)) ∙ test-by (c .before .before .args .s .now) (omega arith) a
 
 returns-5 : tie.Need-returns-5
-returns-5 c = λ T j a.
+returns-5 c = λ T j a. sym (ap testBy (c .match .keys5)) ∙ test-by (c .before .before .args .s .now) (omega arith) a
+
+returns-6 : tie.Need-returns-6
+returns-6 c = λ T j a.
     let n = c .match .rest in
-    test-rest _ (n .0 .0 .0 .1) (n .0 .0 .1) (n .0 .1) (n .1) ∙ test-by (c .before .before .args .s .now) (omega arith) a
+    test-rest _ (n .0 .0 .0 .0 .1) (n .0 .0 .0 .1) (n .0 .0 .1) (n .0 .1) (n .1) ∙ test-by (c .before .before .args .s .now) (omega arith) a
 
 pub test-kind-spec : {M : Type 1} → statement M
 test-kind-spec =
-    tie.close (tie.spec shared-slice-read-b returns returns-2 returns-3 returns-4 returns-5)
+    tie.close (tie.spec shared-slice-read-b returns returns-2 returns-3 returns-4 returns-5 returns-6)

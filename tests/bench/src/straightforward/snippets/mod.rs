@@ -44,14 +44,19 @@ impl Comparing for Snippets {
     }
 
     fn hits(&self, library: &Library, automaton: &Automaton, hits: &[bool]) -> Vec<bool> {
-        let mut retrace = Retrace::new(library, automaton);
-        for (w, hit) in hits.iter().enumerate() {
-            if *hit {
-                retrace.end(w, |_, _| {});
-            }
-        }
-        retrace.seen.iter().map(|seen| seen & 1 == 1).collect()
+        led_to(library, automaton, hits)
     }
+}
+
+/// Whether the first path leads to a node that is a hit, backwards from the hits.
+pub fn led_to(library: &Library, automaton: &Automaton, hits: &[bool]) -> Vec<bool> {
+    let mut retrace = Retrace::new(library, automaton);
+    for (w, hit) in hits.iter().enumerate() {
+        if *hit {
+            retrace.end(w, |_, _| {});
+        }
+    }
+    retrace.seen.iter().map(|seen| seen & 1 == 1).collect()
 }
 
 /// By the least and the greatest rank that each path comes to.

@@ -4,8 +4,8 @@ use native.Mathlib.Omega.{arith}
 use mathlib.Core.Path.{_≡_, refl, ap, _∙_}
 use mathlib.Core.List.{List, [], _∷_, _++_}
 use lib.ListN.{length, length-append}
-use Rattle.lists.specs.Text.{bytes}
-use Rattle.xpath.specs.Syntax.{Test, named, not, and, or, compare, compareTo, XPath, empty, one, seq, union, star, Step, toLeft, toRight, fromLeft, fromRight, stay}
+use Rattle.lists.specs.Text.{bytes, decimal}
+use Rattle.xpath.specs.Syntax.{Test, named, not, and, or, compare, compareTo, atLeast, XPath, empty, one, seq, union, star, Step, toLeft, toRight, fromLeft, fromRight, stay}
 use Rattle.rule_spec.specs.Spelling.{sign, spellTest, spellPath, spellStep}
 use Rattle.rule_spec.specs.Parts.{Part, Sort, tests, testParts, pathParts, stepParts}
 use Rattle.tokens.specs.declared.read.Tally.{Tally}
@@ -16,7 +16,7 @@ count ps = length (tests ps)
 
 -- p counts if it is a test
 abbrev with : Sort → Part → List Part → List Part
-with x p ps = elim x [ Sort.test ↦ p ∷ ps | Sort.comparison m ↦ p ∷ ps | Sort.path ↦ ps ]
+with x p ps = elim x [ Sort.test ↦ p ∷ ps | Sort.stepped m ↦ p ∷ ps | Sort.path ↦ ps ]
 
 -- ── Tallies ──
 begun-left : (t : Tally) (o : ℕ) → begun t o .left ≡ t .left - 1
@@ -35,7 +35,7 @@ left-is (p ∷ ps) t = go (p .sort) (λ x. left-is ps (noted t (p .offset) x))
     go : (x : Sort) → ((y : Sort) → tallied (noted t (p .offset) y) ps .left ≡ noted t (p .offset) y .left - count ps)
         → tallied (noted t (p .offset) x) ps .left ≡ t .left - length (with x p (tests ps))
     go Sort.test ih = let e = ih Sort.test in let l = begun-left t (p .offset) in omega arith
-    go (Sort.comparison m) ih = let e = ih (Sort.comparison m) in let l = begun-left t (p .offset) in omega arith
+    go (Sort.stepped m) ih = let e = ih (Sort.stepped m) in let l = begun-left t (p .offset) in omega arith
     go Sort.path ih = ih Sort.path
 
 -- ── Counting ──
@@ -47,7 +47,7 @@ tests-append (p ∷ ps) qs = go (p .sort) (tests-append ps qs)
   where
     go : (x : Sort) → tests (ps ++ qs) ≡ tests ps ++ tests qs → with x p (tests (ps ++ qs)) ≡ with x p (tests ps) ++ tests qs
     go Sort.test e = ap (λ rs. p ∷ rs) e
-    go (Sort.comparison m) e = ap (λ rs. p ∷ rs) e
+    go (Sort.stepped m) e = ap (λ rs. p ∷ rs) e
     go Sort.path e = e
 
 count-append : (ps qs : List Part) → count (ps ++ qs) ≡ count ps + count qs
@@ -76,6 +76,8 @@ mutual
       omega arith
   count-test (compareTo s P c) o n =
       let i = count-path P (suc o) (suc n) in let b = length-append (spellPath P) (sign s ++ (bytes "\"" ++ (c ++ bytes "\")"))) in omega arith
+  count-test (atLeast k P) o n =
+      let i = count-path P (suc o + length (decimal k)) (suc n) in let b = length-append (decimal k) (spellPath P) in omega arith
 
   count-path : (P : XPath) (o n : ℕ) → count (pathParts P o n) ≤ length (spellPath P)
   count-path empty o n = omega arith

@@ -1,0 +1,4 @@
+pub mod Forgetting
+pub mod Finding
+pub mod Searching
+pub mod Counting
