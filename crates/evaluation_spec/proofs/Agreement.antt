@@ -1,7 +1,7 @@
 -- What the contracts of the two evaluations say together: both mark the same nodes, and neither leaves anything open.
 use Prim.Native.Nat.{ℕ, _+_, _-_, _≤_, _<_}
 use mathlib.Core.Path.{_≡_, sym, ap, ap₂, _∙_, subst}
-use mathlib.Core.Logic.{_⊎_, inl, inr}
+use mathlib.Core.Logic.{_⊎_, inl, inr, _↔_}
 use mathlib.Core.List.{List, _++_}
 use lib.ListN.{length, getD, drop, take-append-drop}
 use lib.Seq.{getD-drop, ext-getD}
@@ -12,6 +12,7 @@ use Rattle.lists.proofs.Lists.{number-one}
 use Rattle.refusals.specs.Refusals.{Refusal, number, First, documentLength, lineForm, nodeCount, treeRule, ruleLength, unreadable, nesting, tests, steps, scratchLength, marksLength, duplicateAttribute}
 use Rattle.xpath.specs.Syntax.{Test}
 use Rattle.xpath.specs.Tree.{Tree}
+use Rattle.xpath.proofs.Booleans.{same}
 use Rattle.document_spec.specs.Library.{Node}
 use Rattle.document_spec.specs.Verdict as Document
 use Rattle.rule_spec.specs.Verdict as Rule
@@ -24,12 +25,12 @@ use Rattle.evaluation_spec.specs.Evaluation.{Outcome, Selects, Selected,
 use Rattle.evaluation_spec.proofs.Judged.{judged}
 
 -- ── One mark ──
--- a mark is told by whether its node is selected
-mark-one : (A : Type 0) (a b : ℕ) → (A × (a ≡ 1)) ⊎ ((¬ A) × (a ≡ 0)) → (A × (b ≡ 1)) ⊎ ((¬ A) × (b ≡ 0)) → a ≡ b
-mark-one A a b (inl h) (inl g) = h .1 ∙ sym (g .1)
-mark-one A a b (inl h) (inr g) = absurd (g .0 (h .0))
-mark-one A a b (inr h) (inl g) = absurd (h .0 (g .0))
-mark-one A a b (inr h) (inr g) = h .1 ∙ sym (g .1)
+-- a mark is told by whether its node is selected, here by A and there by B
+pub mark-one : {A B : Type 0} → A ↔ B → (a b : ℕ) → (A × (a ≡ 1)) ⊎ ((¬ A) × (a ≡ 0)) → (B × (b ≡ 1)) ⊎ ((¬ B) × (b ≡ 0)) → a ≡ b
+mark-one i a b (inl h) (inl g) = h .1 ∙ sym (g .1)
+mark-one i a b (inl h) (inr g) = absurd (g .0 (i .0 (h .0)))
+mark-one i a b (inr h) (inl g) = absurd (h .0 (i .1 (g .0)))
+mark-one i a b (inr h) (inr g) = h .1 ∙ sym (g .1)
 
 pub number-positive : (r : Refusal) → 0 < number r
 number-positive documentLength = omega arith
@@ -83,7 +84,7 @@ evaluations-agree document rule scratch₁ marks₁ scratch₂ marks₂ o₁ o�
       a .test,
       record {
         selected = number-one (s₁ .selected) (s₂ .selected);
-        marked = λ v r. mark-one (Selects ns T v) (getD marks₁′ v 0) (getD marks₂′ v 0) (s₁ .marked v r) (s₂ .marked v r);
+        marked = λ v r. mark-one same (getD marks₁′ v 0) (getD marks₂′ v 0) (s₁ .marked v r) (s₂ .marked v r);
         picked = s₁ .marked;
       },
     )
@@ -121,7 +122,7 @@ module _ (Snippets : Tree → Test → ℕ → Type 0) (one : (t : Tree) (T : Te
             (λ i. record { number = n i; place = p i; selected = c i; snippets = k i }),
             sym (take-append-drop (scratchWords (length ns)) scratch₁) ∙ ap₂ (λ (a b : List ℕ). a ++ b) (s .cleared ∙ sym (t .cleared)) (s .laterWords ∙ sym (t .laterWords)) ∙ take-append-drop (scratchWords (length ns)) scratch₂,
             spliced (length ns) marks₁ marks₂ marks (s .asManyMarks) (t .asManyMarks) (s .laterMarks) (t .laterMarks)
-                (λ v r. mark-one (Selects ns T v) (getD marks₁ v 0) (getD marks₂ v 0) (s .marked v r) (t .marked v r)),
+                (λ v r. mark-one same (getD marks₁ v 0) (getD marks₂ v 0) (s .marked v r) (t .marked v r)),
           )
 
       go : ((r : Refusal) × First (Ground document rule (length scratch) (length marks)) r) ⊎ ((ns : List Node) × (T : Test) × Accepted document rule (length scratch) (length marks) ns T)

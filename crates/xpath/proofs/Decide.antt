@@ -40,6 +40,22 @@ pub some-iff : (n : ℕ) (f : ℕ → Bool) → T (someBelow n f) ↔ ((i : ℕ)
 some-iff zero f = (λ h. absurd h, λ h. let r = h .1 in absurd (omega arith))
 some-iff (suc n) f = some-step n f (some-iff n f)
 
+abbrev pub everyBelow : ℕ → (ℕ → Bool) → Bool
+everyBelow zero f = true
+everyBelow (suc n) f = both (f n) (everyBelow n f)
+
+pub every-iff : (n : ℕ) (f : ℕ → Bool) (B : ℕ → Type 0) → ((i : ℕ) → i < n → T (f i) ↔ B i) → T (everyBelow n f) ↔ ((i : ℕ) → i < n → B i)
+every-iff zero f B e = (λ h i r. absurd (omega arith), λ h. tt)
+every-iff (suc n) f B e =
+    trans (T-both (f n) (everyBelow n f)) (trans (×-iff (e n (omega arith)) (every-iff n f B (λ i r. e i (omega arith)))) (λ h i r. up (h .0) (h .1) i r (ℕ-discrete i n), λ h. (h n (omega arith), λ i r. h i (omega arith))))
+  where
+    up : B n → ((i : ℕ) → i < n → B i) → (i : ℕ) → i < suc n → Dec (i ≡ n) → B i
+    up h g i r (yes p) = subst B (sym p) h
+    up h g i r (no p) = g i (omega arith)
+
+pub every-by : (n : ℕ) (f : ℕ → Bool) → T (everyBelow n f) → (i : ℕ) → i < n → T (f i)
+every-by n f = every-iff n f (λ i. T (f i)) (λ i r. same) .0
+
 -- ── How many ──
 abbrev countBelow : ℕ → (ℕ → Bool) → ℕ
 countBelow zero f = 0
@@ -75,6 +91,10 @@ module _ {A : Type 0} (f : A → Bool) where
   each-by B g [] h a o = absurd o
   each-by B g (x ∷ xs) h a (inl e) = subst B (sym e) (g x (T-both (f x) (allb xs) .0 h .0))
   each-by B g (x ∷ xs) h a (inr o) = each-by B g xs (T-both (f x) (allb xs) .0 h .1) a o
+
+  pub by-each : (B : A → Type 0) → ((a : A) → B a → T (f a)) → (xs : List A) → ((a : A) → Occurs a xs → B a) → T (allb xs)
+  by-each B g [] h = tt
+  by-each B g (x ∷ xs) h = T-both (f x) (allb xs) .1 (g x (h x (inl refl)), by-each B g xs (λ a o. h a (inr o)))
 
 -- ── Strings ──
 abbrev pub sameb : List ℕ → List ℕ → Bool
@@ -131,7 +151,7 @@ relb le bs cs = byAmountb atMostb (amountOf bs) (amountOf cs)
 relb gt bs cs = byAmountb belowb (amountOf cs) (amountOf bs)
 relb ge bs cs = byAmountb atMostb (amountOf cs) (amountOf bs)
 
-rel-iff : (o : Op) (bs cs : List ℕ) → T (relb o bs cs) ↔ Rel o bs cs
+pub rel-iff : (o : Op) (bs cs : List ℕ) → T (relb o bs cs) ↔ Rel o bs cs
 rel-iff eq bs cs = same-iff bs cs
 rel-iff ne bs cs = trans (T-neg (sameb bs cs)) (¬-iff (same-iff bs cs))
 rel-iff lt bs cs = by-amount-iff belowb Below below-iff bs cs
@@ -213,6 +233,13 @@ side-iff true true = (λ h. refl, λ e. tt)
 side-iff true false = (λ h. absurd h, λ e. let z : _≡_ {A = ℕ} 0 1 = cc in absurd (omega arith))
 side-iff false true = (λ h. absurd h, λ e. let z : _≡_ {A = ℕ} 0 1 = cc in absurd (omega arith))
 side-iff false false = (λ h. refl, λ e. tt)
+
+-- two facts that hold or fail together, each told by a test
+pub sides-iff : {A B : Type 0} (a b : Bool) → T a ↔ A → T b ↔ B → T (sideb a b) ↔ (A ↔ B)
+sides-iff true true i j = (λ h. (λ x. j .0 tt, λ y. i .0 tt), λ h. tt)
+sides-iff true false i j = (λ h. absurd h, λ h. j .1 (h .0 (i .0 tt)))
+sides-iff false true i j = (λ h. absurd h, λ h. i .1 (h .1 (j .0 tt)))
+sides-iff false false i j = (λ h. (λ x. absurd (i .1 x), λ y. absurd (j .1 y)), λ h. tt)
 
 abbrev pub childb : Tree → Bool → ℕ → ℕ → Bool
 childb t side v w = both (both (ltb 0 w) (ltb w (t .size))) (both (eqb (t .parent w) v) (sideb (t .isLeft w) side))
@@ -335,3 +362,57 @@ module _ (t : Tree) (wf : WellFormed t) where
     move-iff fromLeft v w r x = child-iff t true w v
     move-iff fromRight v w r x = child-iff t false w v
     move-iff (stay U) v w r x = trans (T-both (eqb v w) (holdsb t U v)) (×-iff (eqb-iff v w) (holds-iff U v r))
+
+-- ── Well-formed trees ──
+abbrev impb : Bool → Bool → Bool
+impb a b = either (neg a) b
+
+imp-by : (a b : Bool) → T (impb a b) → T a → T b
+imp-by true b h k = h
+imp-by false b h k = absurd k
+
+module _ (t : Tree) where
+  -- v is numbered behind its parent
+  abbrev upb : ℕ → Bool
+  upb v = impb (ltb 0 v) (ltb (t .parent v) v)
+
+  -- if w is v's left child, it is the next node
+  abbrev nextb : ℕ → ℕ → Bool
+  nextb v w = impb (childb t true v w) (eqb w (suc v))
+
+  -- if w and u are v's right children, they are one
+  abbrev rightb : ℕ → ℕ → ℕ → Bool
+  rightb v w u = impb (childb t false v w) (impb (childb t false v u) (eqb w u))
+
+  abbrev pairb : ℕ → ℕ → Bool
+  pairb v w = both (nextb v w) (everyBelow (t .size) (rightb v w))
+
+  abbrev nodeb : ℕ → Bool
+  nodeb v = both (upb v) (everyBelow (t .size) (pairb v))
+
+  abbrev pub formedb : Bool
+  formedb = both (ltb 0 (t .size)) (everyBelow (t .size) nodeb)
+
+  module _ (h : T formedb) where
+    node : (v : ℕ) → v < t .size → T (upb v) × T (everyBelow (t .size) (pairb v))
+    node v r = T-both (upb v) (everyBelow (t .size) (pairb v)) .0 (every-by (t .size) nodeb (T-both (ltb 0 (t .size)) (everyBelow (t .size) nodeb) .0 h .1) v r)
+
+    up : (v : ℕ) → 0 < v → v < t .size → t .parent v < v
+    up v l r = ltb→lt (t .parent v) v (imp-by (ltb 0 v) (ltb (t .parent v) v) (node v r .0) (lt→ltb 0 v l))
+
+    pair : (side : Bool) (v w : ℕ) → Child t side v w → T (nextb v w) × T (everyBelow (t .size) (rightb v w))
+    pair side v w c =
+        let l = up w (c .inner) (c .inside) in let e = c .above in let r = c .inside in
+        T-both (nextb v w) (everyBelow (t .size) (rightb v w)) .0 (every-by (t .size) (pairb v) (node v (omega arith) .1) w r)
+
+    next : (v w : ℕ) → Child t true v w → w ≡ suc v
+    next v w c = eqb→eq w (suc v) (imp-by (childb t true v w) (eqb w (suc v)) (pair true v w c .0) (child-iff t true v w .1 c))
+
+    only : (v w u : ℕ) → Child t false v w → Child t false v u → w ≡ u
+    only v w u c d =
+        let h = every-by (t .size) (rightb v w) (pair false v w c .1) u (d .inside) in
+        let k = imp-by (childb t false v w) (impb (childb t false v u) (eqb w u)) h (child-iff t false v w .1 c) in
+        eqb→eq w u (imp-by (childb t false v u) (eqb w u) k (child-iff t false v u .1 d))
+
+    pub formed-by : WellFormed t
+    formed-by = record { rooted = ltb→lt 0 (t .size) (T-both (ltb 0 (t .size)) (everyBelow (t .size) nodeb) .0 h .0); upwards = up; leftNext = next; oneRight = only }

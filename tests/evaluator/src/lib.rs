@@ -1,6 +1,8 @@
 //! An evaluator of document 01 with the requests (b), (d), (f) and (h) of
 //! document 02, written from their sentences and not from the proved code. No
-//! code is shared. The archive is compared with it.
+//! code is shared. The archive is compared with it. Request (n) asks for no other
+//! evaluation: what it supposes of two documents and a rule is said by `masking`,
+//! and what it promises of them is tried on the archive and on this evaluator.
 //!
 //! By the definitions, over plain sets and tables, are
 //! - the checks: `document`, and `grammar` with `rule_check`;
@@ -16,7 +18,7 @@
 //! `meaning::compare`.
 //!
 //! The checks have no bound; marks and snippets are meant for libraries of up to
-//! a few hundred nodes. In five places something is found in a quicker way than
+//! a few hundred nodes. In six places something is found in a quicker way than
 //! the sentence says, and the tests in `tests/suite` hold it against the
 //! sentence:
 //! - `document` keeps the labels of the attributes of the element at hand; in
@@ -28,6 +30,7 @@
 //! - `chains` searches from place to place; in `place_chains` it is the closure
 //!   of the single links. A search by a list of what is open is also how the
 //!   proved plain evaluation walks (crate `reach`, over sets of positions).
+//! - `masking` compares each two values once; in its tests, each two nodes.
 //! - `backward` has the marks a second time, and no snippets, for libraries of
 //!   up to 4,096 nodes. That it goes backwards from the nodes where paths end is
 //!   also the way of the proved crate `backward` (for constants and order, over
@@ -41,6 +44,7 @@ pub mod chains;
 pub mod document;
 pub mod evaluate;
 pub mod grammar;
+pub mod masking;
 pub mod meaning;
 pub mod positions;
 pub mod program;

@@ -2,6 +2,7 @@
 
 use std::cell::Cell;
 
+use crate::document::{self, Library, Node};
 use crate::rule::{parts, Piece, Test};
 use crate::{reader, rule_check};
 
@@ -94,6 +95,36 @@ pub fn shrink_rule(
         small = simpler;
     }
     shrink_while(&small, still_fails, go_on)
+}
+
+/// Makes two failing documents and their rule small. A node is left out of both,
+/// so that they stay alike, and only what is accepted is tried.
+pub fn shrink_alike(
+    one: &Library,
+    other: &Library,
+    rule: &Test,
+    still_fails: impl Fn(&Library, &Library, &Test) -> bool,
+    go_on: impl Fn() -> bool,
+) -> (Library, Library, Test) {
+    let nodes = one.nodes.iter().cloned().zip(other.nodes.iter().cloned());
+    let mut nodes: Vec<(Node, Node)> = nodes.collect();
+    let mut rule = rule.clone();
+    let apart = |nodes: &[(Node, Node)]| {
+        let (one, other) = nodes.iter().cloned().unzip();
+        (Library { nodes: one }, Library { nodes: other })
+    };
+    let accepted = |library: &Library| document::check(&document::spell(library)).number == 0;
+    let fails = |nodes: &[(Node, Node)], rule: &Test| {
+        let (one, other) = apart(nodes);
+        accepted(&one) && accepted(&other) && still_fails(&one, &other, rule)
+    };
+    for _ in 0..2 {
+        nodes = shrink_while(&nodes, |kept| fails(kept, &rule), &go_on);
+        let legal = |bytes: &[u8]| rule_check::read(bytes).is_ok_and(|rule| fails(&nodes, &rule));
+        rule = reader::read(&shrink_rule(&rule.spell(), legal, &go_on));
+    }
+    let (one, other) = apart(&nodes);
+    (one, other, rule)
 }
 
 /// The rules with one part of a legal rule replaced, shortest first.

@@ -1,6 +1,7 @@
 //! The proved functions in the archive against the evaluator, which is written
 //! from document 01 and the requests (b), (d), (f) and (h) of document 02 and not
-//! from their code.
+//! from their code; and, for request (n), the archive on one document against the
+//! archive on the same document with names masked.
 //!
 //! The proof holds of the source; these tests run what was compiled from it,
 //! through the calling convention that other languages use.
@@ -9,7 +10,9 @@ mod agreement;
 mod amounts;
 mod at_least;
 mod branching_counts;
+mod broken_names;
 mod damaged_evaluations;
+mod drug_names;
 mod evaluation_agreement;
 mod evaluation_limits;
 mod evaluation_refusals;
@@ -22,6 +25,8 @@ mod fixed_rules;
 mod large_documents;
 mod large_evaluations;
 mod many_attributes;
+mod masked_agreement;
+mod masked_names;
 mod padded_large;
 mod padded_values;
 mod plain_beside_snippets;

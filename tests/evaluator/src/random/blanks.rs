@@ -17,6 +17,14 @@ pub fn padded(random: &mut Random, text: &[u8], longest: usize) -> Vec<u8> {
     [&vec![BLANK; front], kept, &vec![BLANK; behind]].concat()
 }
 
+/// The whole text with blanks at its ends, which are cut again.
+pub(super) fn surrounded(random: &mut Random, text: &[u8]) -> Vec<u8> {
+    let room = VALUE_LIMIT - text.len();
+    let front = blanks(random).min(room);
+    let behind = blanks(random).min(room - front);
+    [&vec![BLANK; front], text, &vec![BLANK; behind]].concat()
+}
+
 /// How many blanks stand at one end: mostly few or none, seldom very many.
 fn blanks(random: &mut Random) -> usize {
     match random.below(20) {

@@ -5,6 +5,7 @@ mod damage;
 mod library;
 mod line_damage;
 mod numerals;
+mod renaming;
 mod rule;
 
 pub use blanks::{padded, padded_ends};
@@ -12,6 +13,7 @@ pub use damage::{damage_document, damage_rule};
 pub use library::{any_library, branching_library, library, repeating_library};
 pub use line_damage::damage_one_line;
 pub use numerals::{nearly_numeral, numeral, numeral_or_nearly};
+pub use renaming::{one_value_changed, renamed, Renamed};
 pub use rule::{any_rule, deep_rule, large_rule, rule, rule_about, wandering_rule};
 
 use crate::document::NODE_LIMIT;

@@ -31,23 +31,25 @@ fn zeros(random: &mut Random, most: usize) -> String {
     "0".repeat(random.below(most + 1))
 }
 
-/// A numeral, or in one of six cases another text that looks like one; some of
-/// these make a numeral where texts are joined.
+/// Texts that look like a numeral and are none. Some of them make one where texts
+/// are joined.
+pub(super) const OTHERS: [&str; 12] = [
+    ".5",
+    "1.",
+    "+1",
+    "--1",
+    "-",
+    ".",
+    "1.00000",
+    "1234567890",
+    "0000000001",
+    "1 0",
+    "1e1",
+    "1.5.0",
+];
+
+/// A numeral, or in one of six cases another text that looks like one.
 pub fn numeral_or_nearly(random: &mut Random) -> Vec<u8> {
-    const OTHERS: [&str; 12] = [
-        ".5",
-        "1.",
-        "+1",
-        "--1",
-        "-",
-        ".",
-        "1.00000",
-        "1234567890",
-        "0000000001",
-        "1 0",
-        "1e1",
-        "1.5.0",
-    ];
     match random.below(6) {
         0 => random.pick(&OTHERS).as_bytes().to_vec(),
         _ => numeral(random),

@@ -8,6 +8,7 @@ pub mod blanks;
 pub mod counts;
 pub mod documents;
 pub mod libraries;
+pub mod masks;
 pub mod rules;
 pub mod selections;
 

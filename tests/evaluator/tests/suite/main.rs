@@ -1,6 +1,6 @@
-//! What document 01 and the requests (b), (d), (f) and (h) of document 02 say, tried
-//! on this evaluator: the examples, every row of the table of refusals, and the
-//! promises on random documents and rules.
+//! What document 01 and the requests (b), (d), (f), (h) and (n) of document 02 say,
+//! tried on this evaluator: the examples, every row of the table of refusals, and
+//! the promises on random documents and rules.
 
 mod amounts;
 mod at_least;
@@ -9,6 +9,7 @@ mod calls;
 mod document_refusals;
 mod examples;
 mod failure;
+mod masking;
 mod meanings;
 mod place_chains;
 mod program_runs;

@@ -1,11 +1,12 @@
 //! The shrinker leaves only what a failure needs.
 
-use evaluator::document::{check, read, spell, BYTE_LIMIT};
-use evaluator::random::{any_library, Random};
+use evaluator::document::{check, read, spell, Library, BYTE_LIMIT};
+use evaluator::masking::masked;
+use evaluator::random::{any_library, library, renamed, Random};
 use evaluator::rule::{counts, Test};
-use evaluator::rule_check;
 use evaluator::samples::document;
-use evaluator::shrink::{shrink, shrink_document, shrink_rule};
+use evaluator::shrink::{shrink, shrink_alike, shrink_document, shrink_rule};
+use evaluator::{reader, rule_check};
 
 #[test]
 fn only_the_bytes_that_matter_are_left() {
@@ -89,4 +90,29 @@ fn a_deep_chain_is_given_up_soon() {
     let deep = |bytes: &[u8]| read(bytes).is_ok_and(|library| library.nodes.len() > 10);
     let small = shrink_document(&document(&rows), deep);
     assert!(check(&small).nodes > 10);
+}
+
+#[test]
+fn two_documents_lose_the_same_nodes_and_stay_masked() {
+    let random = &mut Random::new(3);
+    let one = library(random, 60);
+    let rule = reader::read(b"|(*+lr=.R[:drug])!#2.l[(e<=\"a\")]");
+    let other = renamed(random, &one, &rule).expect("a renaming").library;
+    let fails = |one: &Library, other: &Library, rule: &Test| {
+        let values = |library: &Library| -> Vec<Vec<u8>> {
+            let nodes = library.nodes.iter();
+            nodes.map(|node| node.value.clone()).collect()
+        };
+        let changed = values(one) != values(other);
+        changed && !counts(rule).is_empty() && masked(one, other, rule)
+    };
+    assert!(fails(&one, &other, &rule));
+    let (first, second, small) = shrink_alike(&one, &other, &rule, fails, || true);
+    assert!(fails(&first, &second, &small));
+    // A root, and the node of which the value is another.
+    assert_eq!((first.nodes.len(), second.nodes.len()), (2, 2));
+    assert_eq!(small.spell(), b"#0e");
+    // Nothing is tried once there is no going on.
+    let same = shrink_alike(&one, &other, &rule, fails, || false);
+    assert_eq!(same, (one, other, rule));
 }

@@ -1,0 +1,10 @@
+pub mod Shape
+pub mod Meaning
+pub mod Positions
+pub mod Snippets
+pub mod Counts
+pub mod Libraries
+pub mod Evaluations
+pub mod Signs
+pub mod Supposed
+pub mod Examples

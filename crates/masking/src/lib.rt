@@ -1,0 +1,1 @@
+// Definitions and proofs alone: see specs/ and proofs/.
