@@ -1,6 +1,6 @@
 -- What 02 (n) supposes, as a test that computes: a program can tell whether two libraries are as the request asks.
-use Prim.Native.Nat.{ℕ, zero, suc, _<_}
-use mathlib.Core.Path.{_≡_, refl, sym, ap, _∙_}
+use Prim.Native.Nat.{ℕ, _<_}
+use mathlib.Core.Path.{_≡_, refl, ap}
 use mathlib.Core.Logic.{inl, inr, _↔_}
 use mathlib.Core.Bool.{Bool}
 use mathlib.Core.List.{List, [], _∷_}
@@ -13,8 +13,9 @@ use Rattle.xpath.specs.Meaning.{Rel}
 use Rattle.xpath.specs.Booleans.{both}
 use Rattle.xpath.proofs.Booleans.{T-both, eqb-iff, trans, ×-iff}
 use Rattle.xpath.proofs.Decide.{everyBelow, every-iff, allb, each-by, by-each, sameb, same-iff, relb, rel-iff, sideb, sides-iff}
-use Rattle.document_spec.specs.Library.{Kind, element, attribute, text, Node, at}
+use Rattle.document_spec.specs.Library.{Kind, Node, at, kindLine}
 use Rattle.document_spec.specs.Binary.{comparedOf}
+use Rattle.document_spec.proofs.Spelling.{kind-injective}
 use Rattle.masking.specs.Masking.{constants, SameSigns, Masked}
 
 -- ── Signs ──
@@ -42,24 +43,9 @@ module _ (b c b′ c′ : List ℕ) where
   signs-iff : T signsb ↔ SameSigns b c b′ c′
   signs-iff = (λ h o. each-by signb (λ o. Rel o b c ↔ Rel o b′ c′) (λ o. sign-iff o .0) signs h o (every-sign o), λ h. by-each signb (λ o. Rel o b c ↔ Rel o b′ c′) (λ o. sign-iff o .1) signs (λ o i. h o))
 
--- ── Kinds, by numbers ──
-abbrev code : Kind → ℕ
-code element = 0
-code attribute = 1
-code text = 2
-
-abbrev coded : ℕ → Kind
-coded zero = element
-coded (suc zero) = attribute
-coded (suc (suc n)) = text
-
-coded-code : (k : Kind) → coded (code k) ≡ k
-coded-code element = refl
-coded-code attribute = refl
-coded-code text = refl
-
-kind-iff : (k l : Kind) → T (eqb (code k) (code l)) ↔ (k ≡ l)
-kind-iff k l = trans (eqb-iff (code k) (code l)) (λ e. sym (coded-code k) ∙ ap coded e ∙ coded-code l, λ e. ap code e)
+-- ── Kinds, by their lines ──
+kind-iff : (k l : Kind) → T (sameb (kindLine k) (kindLine l)) ↔ (k ≡ l)
+kind-iff k l = trans (same-iff (kindLine k) (kindLine l)) (kind-injective k l, ap kindLine)
 
 -- ── The supposition ──
 -- both of two facts, each told by a test
@@ -71,7 +57,7 @@ module _ (U : Test) (ns ns′ : List Node) where
   depthb v = eqb (at ns v .depth) (at ns′ v .depth)
 
   abbrev kindb : ℕ → Bool
-  kindb v = eqb (code (at ns v .kind)) (code (at ns′ v .kind))
+  kindb v = sameb (kindLine (at ns v .kind)) (kindLine (at ns′ v .kind))
 
   abbrev labelb : ℕ → Bool
   labelb v = sameb (at ns v .label) (at ns′ v .label)

@@ -1,4 +1,4 @@
--- Two trees of one shape and with the same labels, whose values no sign tells apart: what `Masked` supposes of two libraries, said of their trees, and of constants c with C c.
+-- Two well-formed trees of one shape and with the same labels, whose values no sign tells apart: what `Masked` supposes of two libraries, said of their trees, and of constants c with C c.
 use Prim.Native.Nat.{ℕ, _<_}
 use mathlib.Core.Path.{_≡_}
 use mathlib.Core.List.{List}

@@ -57,7 +57,7 @@ pub record Masked (T : Test) (ns ns′ : List Node) : Type 0 where
   pub labels : (v : ℕ) → v < length ns → at ns v .label ≡ at ns′ v .label
   -- the signs on the compared values of each two nodes, in either order; v and w may be one node
   pub values : (v w : ℕ) → v < length ns → w < length ns → SameSigns (comparedOf ns v) (comparedOf ns w) (comparedOf ns′ v) (comparedOf ns′ w)
-  -- and on each node's value against each constant
+  -- and on each node's value against each constant, whose blanks at the ends do not count
   pub against : (v : ℕ) → v < length ns → (c : List ℕ) → Occurs c (constants T) → SameSigns (comparedOf ns v) (trim c) (comparedOf ns′ v) (trim c)
 
 -- two documents and a rule, all accepted, as a site sends them

@@ -67,6 +67,8 @@ names a b = drugs (bytes "name") a (bytes "name") b
 abbrev pub kept : List Pair
 kept =
     pair later X (names (bytes "drug 1") (bytes " drug 1 "))
+    -- a label that the rule names is no constant of it
+    ∷ pair later (names (bytes "name") (bytes "name")) (names (bytes "drug 1") (bytes "drug 1"))
     ∷ pair heparin (names (bytes "heparin") (bytes "insulin")) (names (bytes "heparin") (bytes "drug 2"))
     -- numerals become others in the same order, on the same side of 20
     ∷ pair low (three (bytes "5") (bytes "10") (bytes "10.0")) (three (bytes "7.5") (bytes "19") (bytes "019.00"))

@@ -6,7 +6,7 @@ use std::collections::BTreeMap;
 
 use crate::drug_names::{drug_node, is_above_limit, library_of_drugs, Names};
 use crate::evaluation_agreement::{assert_agreement, assert_marked, needed, EVALUATIONS};
-use crate::masked_agreement::{answers, assert_unaltered, draw_masked, Pair};
+use crate::masked_agreement::{answers, assert_unaltered, draw_masked, Pair, Tally};
 use evaluator::masking::{differences, masked, Difference, Right};
 use evaluator::random::{one_value_changed, Random};
 use evaluator::reader;
@@ -67,17 +67,15 @@ fn least_broken(changed: Vec<(usize, Pair)>) -> Option<Pair> {
 
 /// How the pairs came out.
 #[derive(Default)]
-struct Exercise(BTreeMap<&'static str, usize>);
+struct Exercise {
+    pairs: Tally,
+}
 
 /// So many signs or fewer are few: two words that are equal in one document alone
 /// differ in four, and two amounts that change their order in eight.
 const FEW: usize = 8;
 
 impl Exercise {
-    fn count(&mut self, name: &'static str, condition: bool) {
-        *self.0.entry(name).or_default() += usize::from(condition);
-    }
-
     fn add(&mut self, pair: &Pair, seed: u64) {
         let [plain, snippets] = EVALUATIONS.map(|evaluation| answers(evaluation, pair, seed));
         for at in [0, 1] {
@@ -85,21 +83,24 @@ impl Exercise {
         }
         let marks = plain[0].marks != plain[1].marks;
         let counts = snippets[0].snippets != snippets[1].snippets;
-        self.count("broken", true);
-        self.count("marks differ", marks);
-        self.count("counts differ", counts);
-        self.count("counts differ and marks do not", counts && !marks);
+        self.pairs.count("broken", true);
+        self.pairs.count("marks differ", marks);
+        self.pairs.count("counts differ", counts);
+        self.pairs
+            .count("counts differ and marks do not", counts && !marks);
         let trees = [Tree::of(&pair.one), Tree::of(&pair.other)];
         let found = differences(&trees[0], &trees[1], &pair.rule);
         let few = found.len() <= FEW;
-        self.count("few signs, marks differ", few && marks);
-        self.count("few signs, counts differ", few && counts);
+        self.pairs.count("few signs, marks differ", few && marks);
+        self.pairs.count("few signs, counts differ", few && counts);
         let order = |d: &Difference| !matches!(d.sign, Sign::Equal | Sign::Unequal);
         let order = found.iter().all(order);
-        self.count("order signs alone, marks differ", order && marks);
+        self.pairs
+            .count("order signs alone, marks differ", order && marks);
         let constant = |d: &Difference| matches!(d.right, Right::Constant(_));
         let constants = found.iter().all(constant);
-        self.count("constants alone, marks differ", constants && marks);
+        self.pairs
+            .count("constants alone, marks differ", constants && marks);
     }
 }
 
@@ -129,16 +130,13 @@ fn random_pairs_that_break_few_signs_may_differ() {
         let changed = draw_changed(random, &pair);
         for (_, pair) in changed.iter().filter(|(found, _)| *found == 0) {
             assert_unaltered(format_args!("seed {seed}"), pair, seed);
-            exercise.count("still masked", true);
+            exercise.pairs.count("still masked", true);
         }
         if let Some(pair) = least_broken(changed) {
             exercise.add(&pair, seed);
         }
     }
-    println!("{:?}", exercise.0);
-    for (name, least) in AT_LEAST {
-        assert!(exercise.0[name] >= least, "{name}: {:?}", exercise.0);
-    }
+    exercise.pairs.assert_at_least(&AT_LEAST);
 }
 
 /// The steps from the root down to a node.

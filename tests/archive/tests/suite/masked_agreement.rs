@@ -3,6 +3,7 @@
 //! nodes are marked and as many snippets counted. A failure is reported with
 //! small documents.
 
+use std::collections::BTreeMap;
 use std::fmt::Display;
 use std::time::{Duration, Instant};
 
@@ -189,4 +190,24 @@ pub fn draw_masked(random: &mut Random, nodes: usize) -> Pair {
         }
     }
     panic!("no library of {nodes} nodes is renamed");
+}
+
+/// How many pairs had each of these.
+#[derive(Default)]
+pub struct Tally(BTreeMap<&'static str, usize>);
+
+impl Tally {
+    pub fn count(&mut self, name: &'static str, condition: bool) {
+        *self.0.entry(name).or_default() += usize::from(condition);
+    }
+
+    /// Asserts that at least so many had each, and that nothing was counted that
+    /// nobody asks for.
+    pub fn assert_at_least(&self, due: &[(&str, usize)]) {
+        println!("{:?}", self.0);
+        for (name, least) in due {
+            assert!(self.0[name] >= *least, "{name}: {:?}", self.0);
+        }
+        assert_eq!(self.0.len(), due.len(), "{:?}", self.0);
+    }
 }

@@ -2,11 +2,9 @@
 //! that are masked from each other are marked and counted alike by both
 //! evaluations, fixed ones, random ones, and ones of 4,096 nodes.
 
-use std::collections::BTreeMap;
-
 use crate::drug_names::{dose, drug_node, is_above_limit, library_of_drugs, Names, DRUGS, HEPARIN};
 use crate::evaluation_agreement::{assert_agreement, assert_marked, Buffers, Length};
-use crate::masked_agreement::{assert_unaltered, draw_masked, Answer, Pair};
+use crate::masked_agreement::{assert_unaltered, draw_masked, Answer, Pair, Tally};
 use evaluator::amount::amount;
 use evaluator::document::{self, Library, NODE_LIMIT};
 use evaluator::masking::constants;
@@ -58,20 +56,18 @@ fn read(document: &[u8]) -> Library {
     document::read(document).expect("a legal document")
 }
 
-/// How much the pairs exercised: how many had each of these.
+/// How much the pairs exercised.
 #[derive(Default)]
-struct Exercise(BTreeMap<&'static str, usize>);
+struct Exercise {
+    pairs: Tally,
+}
 
 impl Exercise {
-    fn count(&mut self, name: &'static str, condition: bool) {
-        *self.0.entry(name).or_default() += usize::from(condition);
-    }
-
     fn add(&mut self, pair: &Pair, answer: &Answer) {
         let trees = [Tree::of(&pair.one), Tree::of(&pair.other)];
-        self.count("snippets", answer.snippets > 0);
+        self.pairs.count("snippets", answer.snippets > 0);
         let some = answer.selected > 0 && answer.selected < trees[0].size();
-        self.count("some marked", some);
+        self.pairs.count("some marked", some);
         self.add_values(&trees, answer);
         self.add_rule(&trees[0], &pair.rule);
         self.add_meanings(pair);
@@ -83,40 +79,47 @@ impl Exercise {
         let filled: Vec<[&[u8]; 2]> = all.map(values).filter(|[a, _]| !a.is_empty()).collect();
         let others: Vec<[&[u8]; 2]> = filled.iter().copied().filter(|[a, b]| a != b).collect();
         let most = 4 * others.len() > 3 * filled.len();
-        self.count("most values are others", most);
-        self.count("most are others, snippets", most && answer.snippets > 0);
+        self.pairs.count("most values are others", most);
+        self.pairs
+            .count("most are others, snippets", most && answer.snippets > 0);
         let numerals = others.iter().filter(|[a, _]| amount(a).is_some()).count();
-        self.count("numerals renamed", numerals > 0);
-        self.count("words renamed", numerals < others.len());
+        self.pairs.count("numerals renamed", numerals > 0);
+        self.pairs.count("words renamed", numerals < others.len());
         let moved = |[a, b]: &[&[u8]; 2]| amount(a) != amount(b);
-        self.count("other amounts", others.iter().any(moved));
+        self.pairs.count("other amounts", others.iter().any(moved));
         let long = |[a, _]: &[&[u8]; 2]| a.len() > 255;
-        self.count("a value joined to many bytes", others.iter().any(long));
+        self.pairs
+            .count("a value joined to many bytes", others.iter().any(long));
     }
 
     fn add_rule(&mut self, tree: &Tree, rule: &Test) {
         let constants = constants(rule);
-        self.count("a constant", !constants.is_empty());
+        self.pairs.count("a constant", !constants.is_empty());
         let occurs = |text: &&[u8]| (0..tree.size()).any(|v| tree.compared(v) == trimmed(text));
-        self.count("a constant that is kept", constants.iter().any(occurs));
+        self.pairs
+            .count("a constant that is kept", constants.iter().any(occurs));
         let all = parts(rule);
         let nested = all.iter().any(|part| match part.piece {
             Piece::Path(Path::Stay(test)) => !self::constants(test).is_empty(),
             _ => false,
         });
-        self.count("a nested constant", nested);
+        self.pairs.count("a nested constant", nested);
         let counts = counts(rule);
-        self.count("a count", !counts.is_empty());
+        self.pairs.count("a count", !counts.is_empty());
         let compares = |count: &&Test| {
             let inner = parts(count);
             let mut tests = inner.iter().filter_map(|part| part.piece.test());
             tests.any(|test| matches!(test, Test::Compare(..)))
         };
-        self.count("a comparison in a count", counts.iter().any(compares));
+        self.pairs
+            .count("a comparison in a count", counts.iter().any(compares));
         let constant = |count: &&Test| !self::constants(count).is_empty();
-        self.count("a constant in a count", counts.iter().any(constant));
-        self.count("several equalities", equalities(rule).len() > 1);
-        self.count("an order sign holds", some_order_holds(tree, rule));
+        self.pairs
+            .count("a constant in a count", counts.iter().any(constant));
+        self.pairs
+            .count("several equalities", equalities(rule).len() > 1);
+        self.pairs
+            .count("an order sign holds", some_order_holds(tree, rule));
     }
 
     /// Whether an evaluation that ordered texts, or that did not cut values,
@@ -127,17 +130,10 @@ impl Exercise {
             holds(&tree, &test)
         };
         let shows = |meaning| marks(meaning, one) != marks(meaning, other);
-        self.count("would show an order of texts", shows(by_text));
-        self.count("would show values that are not cut", shows(uncut));
-    }
-
-    fn assert_at_least(&self, due: &[(&str, usize)]) {
-        println!("{:?}", self.0);
-        for (name, least) in due {
-            assert!(self.0[name] >= *least, "{name}: {:?}", self.0);
-        }
-        // Nothing is counted that nobody asks for.
-        assert_eq!(self.0.len(), due.len(), "{:?}", self.0);
+        self.pairs
+            .count("would show an order of texts", shows(by_text));
+        self.pairs
+            .count("would show values that are not cut", shows(uncut));
     }
 }
 
@@ -180,7 +176,7 @@ fn random_masked_pairs_are_unaltered() {
         exercise.add(&pair, &answer);
     }
     println!("seeds from {FIRST_SEED} on");
-    exercise.assert_at_least(&AT_LEAST);
+    exercise.pairs.assert_at_least(&AT_LEAST);
 }
 
 /// Of up to some hundred nodes, most of them too large for the evaluator to count
