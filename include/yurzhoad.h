@@ -3,8 +3,9 @@
  *
  * A rule, a test in Regular XPath, selects nodes of a library document. Two
  * evaluations find them. It is proved that both mark the same nodes, and that
- * these are the nodes that Regular XPath selects. docs/FORMAT.md says how
- * documents and rules are written and what a rule means.
+ * these are the nodes that Regular XPath selects. A third takes one equality by
+ * a list of its values; by all of them it does what the second does. docs/FORMAT.md
+ * says how documents and rules are written and what a rule means.
  *
  * This file is the authority for C and C++. It needs C99 or C++11.
  *
@@ -56,9 +57,9 @@
  * WHAT A CALL ASKS OF ITS BUFFERS
  *
  * A buffer is a pointer and a length. The length counts bytes, and words of
- * 16 bits for the scratch. A call reads and writes inside the buffers only.
- * The caller sees to it that each buffer has the length that it is said to
- * have. Beyond that:
+ * 16 bits for the scratch and for a list of values. A call reads and writes
+ * inside the buffers only. The caller sees to it that each buffer has the
+ * length that it is said to have. Beyond that:
  *
  * - Empty buffers. A null pointer is allowed if the length is 0.
  * - Short buffers. If the scratch or the marks are too short for the
@@ -122,6 +123,9 @@
 #endif
 #define YURZHOAD_EVALUATES \
     YURZHOAD_READS(1, 2) YURZHOAD_READS(3, 4) YURZHOAD_WRITES(5, 6) YURZHOAD_WRITES(7, 8)
+#define YURZHOAD_EVALUATES_VALUES \
+    YURZHOAD_READS(1, 2) YURZHOAD_READS(3, 4) YURZHOAD_READS(5, 6) \
+    YURZHOAD_WRITES(7, 8) YURZHOAD_WRITES(9, 10)
 
 #ifdef __cplusplus
 extern "C" {
@@ -175,11 +179,11 @@ extern "C" {
  * Numbers. Each call hands back one of them, in the field number, with a place
  * beside it. Where several grounds apply, the one that comes first is handed
  * back: 1; then of 2, 3, 4 and 14 the one on the first line, and on one line
- * the lower number; 5; of 6 and 7 the one at the lower offset; 8; 9; 10; 11.
- * docs/FORMAT.md, section 4, has each with examples.
+ * the lower number; 5; of 6 and 7 the one at the lower offset; 8; 9; 23; 10; 11;
+ * 13. docs/FORMAT.md, section 4, has each with examples.
  *
- * The numbers 12 and 13 are kept for calls to come. No call hands them back
- * yet.
+ * The numbers 12 and 15 to 22 are kept for calls to come. No call hands them
+ * back yet.
  *
  * Lines count from 1, offsets from 0. Node v has the lines 4v + 2 to 4v + 5.
  */
@@ -236,6 +240,9 @@ extern "C" {
 /* There are fewer marks than nodes. Place: 0. */
 #define YURZHOAD_MARKS_LENGTH 11
 
+/* A node of a list is none of the document: it is not below N. Place: 0. */
+#define YURZHOAD_NO_SUCH_NODE 13
+
 /*
  * An attribute has the label of another one before it, of the same element.
  * So no element of an accepted document has two attributes of one label.
@@ -244,16 +251,26 @@ extern "C" {
 #define YURZHOAD_DUPLICATE_ATTRIBUTE 14
 
 /*
+ * The rule is not the comparison that the call is for, which is one equality
+ * between two paths. Place: 0.
+ */
+#define YURZHOAD_OTHER_COMPARISON 23
+
+/*
  * The buffers are not such as a call may be handed. The archive never hands
  * this back: it was not called, and nothing was read or written. Place: the
  * number of the buffer, which is 1 for the document, 2 for the rule, 3 for the
- * scratch and 4 for the marks. It is the first buffer for which this holds:
+ * scratch, 4 for the marks and 5 for a list of values. It is the lowest number
+ * of a buffer for which this holds:
  *
  * - its pointer is null, and its length is not 0;
  * - with its length it would go beyond the last address;
- * - it is the scratch, and its address is odd;
- * - it is the scratch or the marks, and shares a byte with an earlier buffer.
- *   The document and the rule are only read, and may overlap each other.
+ * - it is the scratch or the list, and its address is odd;
+ * - it is the scratch or the marks, and shares a byte with one of a lower
+ *   number;
+ * - it is the list, and shares a byte with the scratch or the marks.
+ *
+ * The document, the rule and the list are only read, and may overlap each other.
  */
 #define YURZHOAD_MISUSE 0xFFFF
 
@@ -277,7 +294,9 @@ static inline const char *yurzhoad_words(uint16_t number)
     case YURZHOAD_STEPS: return "too many steps in a comparison or a count";
     case YURZHOAD_SCRATCH_LENGTH: return "scratch too short";
     case YURZHOAD_MARKS_LENGTH: return "too few marks";
+    case YURZHOAD_NO_SUCH_NODE: return "no such node";
     case YURZHOAD_DUPLICATE_ATTRIBUTE: return "duplicate attribute";
+    case YURZHOAD_OTHER_COMPARISON: return "rule not one equality between two paths";
     case YURZHOAD_MISUSE: return "buffer null, overlapping or out of place";
     default: return "unknown number";
     }
@@ -339,7 +358,7 @@ typedef struct yurzhoad_rule_answer {
 
 /* What an evaluation hands back. */
 typedef struct yurzhoad_evaluation {
-    uint16_t number; /* YURZHOAD_ACCEPTED, or 1 to 11 or 14, or YURZHOAD_MISUSE */
+    uint16_t number; /* YURZHOAD_ACCEPTED, or 1 to 11, 13, 14 or 23, or YURZHOAD_MISUSE */
     size_t place;    /* 0 if accepted; else see the number */
     size_t selected; /* the nodes that are marked if accepted, else 0 */
     size_t snippets; /* their count if accepted by snippets, else 0 */
@@ -431,6 +450,36 @@ yurzhoad_evaluation yurzhoad_evaluate_snippets(
     uint16_t *YURZHOAD_RESTRICT scratch, size_t scratch_words,
     uint8_t *YURZHOAD_RESTRICT marks, size_t marks_length);
 
+/*
+ * Evaluates a rule that is one equality between two paths by some of the values
+ * of the document. A value is given by a node that has it; the same value may be
+ * given several times, by one node or by several, and in any order.
+ *
+ * values: read, values_length node numbers, at an even address. It may overlap
+ * the document and the rule. It may be empty.
+ *
+ * The count is that of the distinct snippets which these values yield for the
+ * equality, and of all snippets of the equalities in its brackets: docs/FORMAT.md,
+ * section 7. A node is marked if these values settle the equality there; what is
+ * settled by one node for both paths needs no value. If the list has every value
+ * of the document, the record and all buffers are those of
+ * yurzhoad_evaluate_snippets.
+ *
+ * Judges by the numbers of the other evaluations and by 23 and 13: the document,
+ * the rule, 23 if it is no such equality, the scratch, the marks, and 13 if a node
+ * of the list is not below N. What it does with its buffers is the same.
+ *
+ * Cost: as above, but for the rule itself N * B * 256, and at most 4 * N for each
+ * number in the list whose value two nodes or more have, a repeated one each time.
+ */
+YURZHOAD_EVALUATES_VALUES
+yurzhoad_evaluation yurzhoad_evaluate_values(
+    const uint8_t *document, size_t document_length,
+    const uint8_t *rule, size_t rule_length,
+    const uint16_t *values, size_t values_length,
+    uint16_t *YURZHOAD_RESTRICT scratch, size_t scratch_words,
+    uint8_t *YURZHOAD_RESTRICT marks, size_t marks_length);
+
 /* ------------------------------------------------------------------------
  * The checks before a call. The macros at the end lead here. What has no
  * _guarded in its name is for this file alone.
@@ -486,6 +535,31 @@ static inline size_t yurzhoad_misused(
         || yurzhoad_overlap(marks, marks_length, rule, rule_length)
         || yurzhoad_overlap(marks, marks_length, scratch, bytes)) {
         return 4;
+    }
+    return 0;
+}
+
+/* The same with a list of values, which is looked at last. */
+static inline size_t yurzhoad_misused_values(
+    const void *document, size_t document_length,
+    const void *rule, size_t rule_length,
+    const void *values, size_t values_length,
+    const void *scratch, size_t scratch_words,
+    const void *marks, size_t marks_length)
+{
+    size_t bytes = values_length * sizeof(uint16_t);
+    size_t misused = yurzhoad_misused(
+        document, document_length, rule, rule_length,
+        scratch, scratch_words, marks, marks_length);
+    if (misused != 0) {
+        return misused;
+    }
+    if (values_length > SIZE_MAX / sizeof(uint16_t)
+        || yurzhoad_astray(values, bytes)
+        || yurzhoad_address(values) % sizeof(uint16_t) != 0
+        || yurzhoad_overlap(values, bytes, scratch, scratch_words * sizeof(uint16_t))
+        || yurzhoad_overlap(values, bytes, marks, marks_length)) {
+        return 5;
     }
     return 0;
 }
@@ -567,11 +641,39 @@ static inline yurzhoad_evaluation yurzhoad_evaluate_snippets_guarded(
         scratch, scratch_words, marks, marks_length);
 }
 
+YURZHOAD_EVALUATES_VALUES
+static inline yurzhoad_evaluation yurzhoad_evaluate_values_guarded(
+    const uint8_t *document, size_t document_length,
+    const uint8_t *rule, size_t rule_length,
+    const uint16_t *values, size_t values_length,
+    uint16_t *YURZHOAD_RESTRICT scratch, size_t scratch_words,
+    uint8_t *YURZHOAD_RESTRICT marks, size_t marks_length)
+{
+    uint8_t no_byte = 0;
+    uint8_t no_mark = 0;
+    uint16_t no_word = 0;
+    uint16_t no_value = 0;
+    yurzhoad_evaluation misuse = {YURZHOAD_MISUSE, 0, 0, 0};
+    misuse.place = yurzhoad_misused_values(
+        document, document_length, rule, rule_length, values, values_length,
+        scratch, scratch_words, marks, marks_length);
+    if (misuse.place != 0) {
+        return misuse;
+    }
+    return yurzhoad_evaluate_values(
+        document != NULL ? document : &no_byte, document_length,
+        rule != NULL ? rule : &no_byte, rule_length,
+        values != NULL ? values : &no_value, values_length,
+        scratch != NULL ? scratch : &no_word, scratch_words,
+        marks != NULL ? marks : &no_mark, marks_length);
+}
+
 /* From here on, a call by a function's name is checked. */
 #define yurzhoad_check_document(...) yurzhoad_check_document_guarded(__VA_ARGS__)
 #define yurzhoad_check_rule(...) yurzhoad_check_rule_guarded(__VA_ARGS__)
 #define yurzhoad_evaluate_plain(...) yurzhoad_evaluate_plain_guarded(__VA_ARGS__)
 #define yurzhoad_evaluate_snippets(...) yurzhoad_evaluate_snippets_guarded(__VA_ARGS__)
+#define yurzhoad_evaluate_values(...) yurzhoad_evaluate_values_guarded(__VA_ARGS__)
 
 #ifdef __cplusplus
 }

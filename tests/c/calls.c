@@ -1,7 +1,7 @@
 /*
  * The archive through include/yurzhoad.h: records, the ten cases M on document X, blanks at the ends of
- * values, the order of amounts, counts of nodes, a refusal of each number, lengths of the buffers, misuse,
- * and a document of the most nodes. It compiles as C99 and as C++11. Prints each check that failed with its
+ * values, the order of amounts, counts of nodes, lists of values, a refusal of each number, lengths of the
+ * buffers, misuse, and a document of the most nodes. It compiles as C99 and as C++11. Prints each check that failed with its
  * line, and at the end how many were made.
  */
 #include "yurzhoad.h"
@@ -67,9 +67,12 @@ typedef struct call {
     size_t scratch_words;
     uint8_t *marks;
     size_t marks_length;
+    const uint16_t *values;
+    size_t values_length;
 } call;
 
-enum { PLAIN, SNIPPETS, EVALUATIONS };
+/* Two evaluations of a whole rule, and one by the values of the call. */
+enum { PLAIN, SNIPPETS, EVALUATIONS, VALUES = EVALUATIONS };
 
 /* Calls are handed on through here, so that no compiler sees their misuse beforehand. */
 static const call *volatile handed;
@@ -79,10 +82,15 @@ static yurzhoad_evaluation evaluate(int evaluation, const call *lent)
     const call *c;
     handed = lent;
     c = handed;
-    subject = evaluation == PLAIN ? "plain" : "snippets";
+    subject = evaluation == PLAIN ? "plain" : evaluation == SNIPPETS ? "snippets" : "values";
     if (evaluation == PLAIN) {
         return yurzhoad_evaluate_plain(
             c->document, c->document_length, c->rule, c->rule_length,
+            c->scratch, c->scratch_words, c->marks, c->marks_length);
+    }
+    if (evaluation == VALUES) {
+        return yurzhoad_evaluate_values(
+            c->document, c->document_length, c->rule, c->rule_length, c->values, c->values_length,
             c->scratch, c->scratch_words, c->marks, c->marks_length);
     }
     return yurzhoad_evaluate_snippets(
@@ -183,6 +191,8 @@ static call on_x(const char *rule)
     c.scratch_words = X_WORDS;
     c.marks = marks;
     c.marks_length = X_NODES;
+    c.values = NULL;
+    c.values_length = 0;
     return c;
 }
 
@@ -411,9 +421,79 @@ static void test_counts(void)
     }
 }
 
+/* ---- an equality by a list of its values, on document X ---- */
+
+/* The nodes 0, 1 and 3 have the empty value, 2 and 4 have heparin. */
+static const uint16_t empty_values[] = {3};
+static const uint16_t heparin[] = {2};
+static const uint16_t heparin_again[] = {4, 2, 4, 4};
+static const uint16_t all_values[] = {4, 1};
+static const uint16_t all_nodes[] = {3, 4, 0, 2, 1};
+
+typedef struct list {
+    const uint16_t *values;
+    size_t length;
+    selection due;
+} list;
+
+#define LIST(values) values, sizeof values / sizeof values[0]
+
+static const list lists[] = {
+    /* Of the 19 snippets of the session heparin yields 15, and it alone settles node 1. */
+    {NULL, 0, {"(.l[:name]=..r*rl)", "00000", 0}},
+    {LIST(empty_values), {"(.l[:name]=..r*rl)", "00000", 4}},
+    {LIST(heparin), {"(.l[:name]=..r*rl)", "01000", 15}},
+    {LIST(heparin_again), {"(.l[:name]=..r*rl)", "01000", 15}},
+    {LIST(all_values), {"(.l[:name]=..r*rl)", "01000", 19}},
+    {LIST(all_nodes), {"(.l[:name]=..r*rl)", "01000", 19}},
+    /* One node for both paths needs no value. */
+    {NULL, 0, {"(e=e)", "11111", 0}},
+    {LIST(heparin), {"(e=e)", "11111", 0}},
+    {LIST(all_values), {"(e=e)", "11111", 4}},
+    /* The equality in the bracket has all its snippets. */
+    {NULL, 0, {"([(e=e)]=e)", "11111", 4}},
+    {LIST(heparin), {"([(e=e)]=e)", "11111", 4}},
+    {LIST(empty_values), {"([(e=e)]=e)", "11111", 12}},
+};
+
+static void test_values(void)
+{
+    size_t i;
+    for (i = 0; i < sizeof lists / sizeof lists[0]; i++) {
+        call c = on_x(lists[i].due.rule);
+        c.values = lists[i].values;
+        c.values_length = lists[i].length;
+        select_one(&lists[i].due, &c, VALUES);
+    }
+}
+
+/* By all values each equality of the cases is evaluated as by snippets. */
+static void test_all_values(void)
+{
+    size_t i;
+    for (i = 0; i < sizeof cases / sizeof cases[0]; i++) {
+        call c = on_x(cases[i].rule);
+        yurzhoad_evaluation by_snippets = evaluate(SNIPPETS, &c);
+        yurzhoad_evaluation by_values;
+        c.values = all_nodes;
+        c.values_length = X_NODES;
+        by_values = evaluate(VALUES, &c);
+        subject = cases[i].rule;
+        if (by_values.number == YURZHOAD_ACCEPTED) {
+            CHECK(by_values.selected == by_snippets.selected);
+            CHECK(by_values.snippets == by_snippets.snippets);
+            select_one(&cases[i], &c, VALUES);
+        } else {
+            CHECK(is_refused(by_values, YURZHOAD_OTHER_COMPARISON, 0));
+        }
+        /* (e=e), (r=e) and the session's are equalities between two paths. */
+        CHECK((by_values.number == YURZHOAD_ACCEPTED) == (i == 2 || i == 8 || i == 9));
+    }
+}
+
 /* ---- refusals ---- */
 
-/* The numbers that a call of the archive hands back. 12 and 13 are not among them yet. */
+/* The numbers that a call of the archive hands back. 12 and 15 to 22 are not among them yet. */
 static const uint16_t numbers[] = {
     YURZHOAD_ACCEPTED,
     YURZHOAD_DOCUMENT_LENGTH,
@@ -427,12 +507,14 @@ static const uint16_t numbers[] = {
     YURZHOAD_STEPS,
     YURZHOAD_SCRATCH_LENGTH,
     YURZHOAD_MARKS_LENGTH,
+    YURZHOAD_NO_SUCH_NODE,
     YURZHOAD_DUPLICATE_ATTRIBUTE,
+    YURZHOAD_OTHER_COMPARISON,
 };
 
 #define NUMBERS (sizeof numbers / sizeof numbers[0])
 
-static int refused[YURZHOAD_DUPLICATE_ATTRIBUTE + 1];
+static int refused[YURZHOAD_OTHER_COMPARISON + 1];
 
 /* The checks refuse what is theirs, and accept the rest. */
 static void refuse_checks(const call *c, uint16_t number, size_t place)
@@ -452,16 +534,25 @@ static void refuse_checks(const call *c, uint16_t number, size_t place)
     CHECK(r.number == (of_rule ? number : YURZHOAD_ACCEPTED));
 }
 
+static void refuse_by(int evaluation, const call *c, uint16_t number, size_t place)
+{
+    fill();
+    CHECK(is_refused(evaluate(evaluation, c), number, place));
+    CHECK(untouched());
+    refused[number] = 1;
+}
+
 static void refuse(const call *c, uint16_t number, size_t place)
 {
     int evaluation;
     refuse_checks(c, number, place);
     for (evaluation = PLAIN; evaluation < EVALUATIONS; evaluation++) {
-        fill();
-        CHECK(is_refused(evaluate(evaluation, c), number, place));
-        CHECK(untouched());
+        refuse_by(evaluation, c, number, place);
     }
-    refused[number] = 1;
+    /* By values too, where the document or the rule is refused. */
+    if (number <= YURZHOAD_STEPS || number == YURZHOAD_DUPLICATE_ATTRIBUTE) {
+        refuse_by(VALUES, c, number, place);
+    }
 }
 
 /* A document for a refusal, in the place of X. */
@@ -582,6 +673,31 @@ static void test_rules(void)
     refuse_rule(rule, YURZHOAD_STEPS, 1);
 }
 
+/* A list with a number of no node, and a rule that is no equality, in their places among the others. */
+static void test_lists(void)
+{
+    static const uint16_t none[] = {0, X_NODES};
+    static const uint16_t far_off[] = {0xFFFF};
+    const uint16_t *const values[] = {none, far_off};
+    size_t turn;
+    for (turn = 0; turn < 2; turn++) {
+        call c = on_x("(e=e)");
+        c.values = values[turn];
+        c.values_length = 2 - turn;
+        refuse_by(VALUES, &c, YURZHOAD_NO_SUCH_NODE, 0);
+        c.marks_length = X_NODES - 1;
+        refuse_by(VALUES, &c, YURZHOAD_MARKS_LENGTH, 0);
+        c.scratch_words = X_WORDS - 1;
+        refuse_by(VALUES, &c, YURZHOAD_SCRATCH_LENGTH, 0);
+        c.rule = bytes_of("(e<e)");
+        refuse_by(VALUES, &c, YURZHOAD_OTHER_COMPARISON, 0);
+        c.rule = bytes_of("(e<e=");
+        refuse_by(VALUES, &c, YURZHOAD_UNREADABLE, 4);
+        c.document_length = 0;
+        refuse_by(VALUES, &c, YURZHOAD_LINE_FORM, 1);
+    }
+}
+
 /* One short of each buffer is refused; just enough, which the cases have, is not. */
 static void test_lengths(void)
 {
@@ -604,13 +720,22 @@ static void test_lengths(void)
 
 /* ---- null pointers and lengths that no buffer has ---- */
 
+static void expect_by(int evaluation, const call *c, uint16_t number, size_t place)
+{
+    fill();
+    CHECK(is_refused(evaluate(evaluation, c), number, place));
+    CHECK(untouched());
+}
+
+/* By a list of values the rules that are used here are refused if nothing else is. */
 static void expect(const call *c, uint16_t number, size_t place)
 {
     int evaluation;
     for (evaluation = PLAIN; evaluation < EVALUATIONS; evaluation++) {
-        fill();
-        CHECK(is_refused(evaluate(evaluation, c), number, place));
-        CHECK(untouched());
+        expect_by(evaluation, c, number, place);
+    }
+    if (number == YURZHOAD_MISUSE) {
+        expect_by(VALUES, c, number, place);
     }
 }
 
@@ -686,6 +811,28 @@ static void test_astray(void)
     expect(&c, YURZHOAD_MISUSE, 3);
     c.document = NULL;
     expect(&c, YURZHOAD_MISUSE, 1);
+}
+
+/* A list of values: null, beyond the last address, a product that does not fit, odd, and behind all others. */
+static void test_misused_values(void)
+{
+    call c = on_x("(e=e)");
+    c.values_length = 1;
+    expect_by(VALUES, &c, YURZHOAD_MISUSE, 5);
+    c.values = all_nodes;
+    c.values_length = SIZE_MAX;
+    expect_by(VALUES, &c, YURZHOAD_MISUSE, 5);
+    c.values_length = SIZE_MAX / 2;
+    expect_by(VALUES, &c, YURZHOAD_MISUSE, 5);
+    c.values_length = SIZE_MAX / 2 + 1;
+    expect_by(VALUES, &c, YURZHOAD_MISUSE, 5);
+    c.values_length = 1;
+    c.values = (const uint16_t *)((uintptr_t)all_nodes + 1);
+    expect_by(VALUES, &c, YURZHOAD_MISUSE, 5);
+    c.marks = NULL;
+    expect_by(VALUES, &c, YURZHOAD_MISUSE, 4);
+    c.document = NULL;
+    expect_by(VALUES, &c, YURZHOAD_MISUSE, 1);
 }
 
 /* ---- buffers that overlap ---- */
@@ -775,6 +922,31 @@ static void test_overlap(void)
     try_at(SCRATCH, 0, SCRATCH);
 }
 
+/* A list in the scratch or in the marks is misused, by one byte too, and beside them it is not. */
+static void test_overlapping_values(void)
+{
+    call c = on_x("(e=e)");
+    c.scratch = scratch + 8;
+    c.marks = marks + 8;
+    c.values_length = 2;
+    c.values = c.scratch + X_WORDS - 1;
+    expect_by(VALUES, &c, YURZHOAD_MISUSE, 5);
+    c.values = c.scratch - 1;
+    expect_by(VALUES, &c, YURZHOAD_MISUSE, 5);
+    c.values = (const uint16_t *)(const void *)(c.marks + ((uintptr_t)c.marks + 4) % 2 + 4);
+    expect_by(VALUES, &c, YURZHOAD_MISUSE, 5);
+    /* What lies beside them holds numbers of no node. */
+    c.values = c.scratch + X_WORDS;
+    expect_by(VALUES, &c, YURZHOAD_NO_SUCH_NODE, 0);
+    c.values = c.scratch - 2;
+    expect_by(VALUES, &c, YURZHOAD_NO_SUCH_NODE, 0);
+    /* An empty list overlaps nothing. */
+    c.values = c.scratch;
+    c.values_length = 0;
+    fill();
+    CHECK(evaluate(VALUES, &c).selected == X_NODES);
+}
+
 /* The document and the rule may overlap: here the rule is a value in the document. */
 static void test_rule_in_document(void)
 {
@@ -828,6 +1000,10 @@ static void test_bare(void)
         c.document, c.document_length, c.rule, c.rule_length,
         scratch, X_WORDS, marks, X_NODES);
     CHECK(e.number == YURZHOAD_ACCEPTED && e.selected == X_NODES && e.snippets == 4);
+    e = (yurzhoad_evaluate_values)(
+        c.document, c.document_length, c.rule, c.rule_length, all_nodes, X_NODES,
+        scratch, X_WORDS, marks, X_NODES);
+    CHECK(e.number == YURZHOAD_ACCEPTED && e.selected == X_NODES && e.snippets == 4);
 }
 
 /* ---- words for numbers, and words of scratch ---- */
@@ -842,7 +1018,7 @@ static int same_words(uint16_t a, uint16_t b)
 
 static void test_words(void)
 {
-    static const uint16_t others[] = {12, 13, 15, 255, 256, 0xFFFE};
+    static const uint16_t others[] = {12, 15, 22, 24, 255, 256, 0xFFFE};
     size_t a;
     size_t b;
     size_t i;
@@ -964,6 +1140,41 @@ static void count_large(const char *rule, size_t selected)
     }
 }
 
+/* The same document by its one value, given by each node, from the last to the first; there is no node behind. */
+static void test_large_values(void)
+{
+    static uint16_t values[YURZHOAD_MAX_NODES];
+    call c = on_x("(r=e)");
+    yurzhoad_evaluation by_snippets;
+    yurzhoad_evaluation by_values;
+    size_t v;
+    for (v = 0; v < YURZHOAD_MAX_NODES; v++) {
+        values[v] = (uint16_t)(YURZHOAD_MAX_NODES - 1 - v);
+    }
+    c.document = bytes_of(long_document);
+    c.document_length = write_large(long_document);
+    c.scratch_words = YURZHOAD_MAX_WORDS;
+    c.marks_length = YURZHOAD_MAX_NODES;
+    c.values = values;
+    by_snippets = evaluate(SNIPPETS, &c);
+    for (v = 1; v <= YURZHOAD_MAX_NODES; v += YURZHOAD_MAX_NODES - 1) {
+        c.values_length = v;
+        fill();
+        by_values = evaluate(VALUES, &c);
+        CHECK(by_values.number == YURZHOAD_ACCEPTED && by_values.place == 0);
+        CHECK(by_values.selected == YURZHOAD_MAX_NODES - 2);
+        CHECK(by_values.snippets == by_snippets.snippets && by_values.snippets > 0);
+        CHECK(words_are(0, YURZHOAD_MAX_WORDS, 0));
+        CHECK(words_are(YURZHOAD_MAX_WORDS, YURZHOAD_MAX_WORDS + 8, WORD));
+        CHECK(marks_are(YURZHOAD_MAX_NODES, YURZHOAD_MAX_NODES + 8, MARK));
+    }
+    c.values_length = 0;
+    CHECK(evaluate(VALUES, &c).selected == 0);
+    values[7] = YURZHOAD_MAX_NODES;
+    c.values_length = 8;
+    expect_by(VALUES, &c, YURZHOAD_NO_SUCH_NODE, 0);
+}
+
 MUST(most_counted, YURZHOAD_MAX_COUNT == 4096 && YURZHOAD_MAX_NODES == 4096);
 
 static void test_large_counts(void)
@@ -979,20 +1190,26 @@ int main(void)
     test_padded();
     test_limits();
     test_counts();
+    test_values();
+    test_all_values();
     test_documents();
     test_duplicates();
     test_rules();
+    test_lists();
     test_lengths();
     test_null();
     test_misused_checks();
+    test_misused_values();
     test_astray();
     test_overlap();
+    test_overlapping_values();
     test_rule_in_document();
     test_empty();
     test_bare();
     test_words();
     test_needed_words();
     test_large();
+    test_large_values();
     test_large_counts();
     printf("c: %lu checks, %lu failed\n", checks, failures);
     return failures > 0 || checks == 0;

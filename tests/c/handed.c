@@ -23,7 +23,7 @@ static void check(int holds, int line, const char *what)
 /* ---- what a function got ---- */
 
 /* The buffers by the numbers that misuse has for them. */
-enum { DOCUMENT = 1, RULE, SCRATCH, MARKS, BUFFERS };
+enum { DOCUMENT = 1, RULE, SCRATCH, MARKS, LENT, VALUES = LENT, BUFFERS };
 
 static const void *pointers[BUFFERS];
 static size_t lengths[BUFFERS];
@@ -86,15 +86,32 @@ yurzhoad_evaluation (yurzhoad_evaluate_snippets)(
     return answer;
 }
 
+yurzhoad_evaluation (yurzhoad_evaluate_values)(
+    const uint8_t *document, size_t document_length, const uint8_t *rule, size_t rule_length,
+    const uint16_t *values, size_t values_length,
+    uint16_t *YURZHOAD_RESTRICT scratch, size_t scratch_words,
+    uint8_t *YURZHOAD_RESTRICT marks, size_t marks_length)
+{
+    yurzhoad_evaluation answer = note_all(
+        document, document_length, rule, rule_length, scratch, scratch_words, marks, marks_length);
+    note(VALUES, values, values_length);
+    answer.snippets = 16;
+    return answer;
+}
+
 /* ---- calls ---- */
 
 static uint8_t document[7];
 static uint8_t rule[5];
 static uint16_t scratch[3];
 static uint8_t marks[2];
+static const uint16_t values[6] = {0};
+
+/* The evaluations, and the count of snippets that each hands back. */
+enum { PLAIN = 14, SNIPPETS, BY_VALUES };
 
 /* A call with one buffer null: of length 0, or of its own length if it is to be misused. */
-static yurzhoad_evaluation evaluate(int snippets, int null, int misused)
+static yurzhoad_evaluation evaluate(int evaluation, int null, int misused)
 {
     volatile int without = null;
     const uint8_t *d = without == DOCUMENT ? NULL : document;
@@ -105,19 +122,25 @@ static yurzhoad_evaluation evaluate(int snippets, int null, int misused)
     size_t r_length = r != NULL || misused ? 5 : 0;
     size_t s_words = s != NULL || misused ? 3 : 0;
     size_t m_length = m != NULL || misused ? 2 : 0;
+    const uint16_t *v = without == VALUES ? NULL : values;
+    size_t v_length = v != NULL || misused ? 6 : 0;
     called = 0;
-    return snippets
+    if (evaluation == BY_VALUES) {
+        return yurzhoad_evaluate_values(
+            d, d_length, r, r_length, v, v_length, s, s_words, m, m_length);
+    }
+    return evaluation == SNIPPETS
         ? yurzhoad_evaluate_snippets(d, d_length, r, r_length, s, s_words, m, m_length)
         : yurzhoad_evaluate_plain(d, d_length, r, r_length, s, s_words, m, m_length);
 }
 
 /* Each buffer is handed on as it is, but for a null pointer. The record comes back as it is. */
-static void test_evaluation(int snippets, int null)
+static void test_evaluation(int evaluation, int null)
 {
-    yurzhoad_evaluation e = evaluate(snippets, null, 0);
+    yurzhoad_evaluation e = evaluate(evaluation, null, 0);
     CHECK(called == 1);
     CHECK(e.number == 11 && e.place == 12 && e.selected == 13);
-    CHECK(e.snippets == (snippets ? 15 : 14));
+    CHECK(e.snippets == (size_t)evaluation);
     CHECK(null == DOCUMENT ? pointers[DOCUMENT] != NULL : pointers[DOCUMENT] == document);
     CHECK(null == RULE ? pointers[RULE] != NULL : pointers[RULE] == rule);
     CHECK(null == SCRATCH ? pointers[SCRATCH] != NULL : pointers[SCRATCH] == scratch);
@@ -126,12 +149,16 @@ static void test_evaluation(int snippets, int null)
     CHECK(lengths[RULE] == (null == RULE ? 0 : 5));
     CHECK(lengths[SCRATCH] == (null == SCRATCH ? 0 : 3));
     CHECK(lengths[MARKS] == (null == MARKS ? 0 : 2));
+    if (evaluation == BY_VALUES) {
+        CHECK(null == VALUES ? pointers[VALUES] != NULL : pointers[VALUES] == values);
+        CHECK(lengths[VALUES] == (null == VALUES ? 0 : 6));
+    }
 }
 
 /* What is misused is not handed on at all. */
-static void test_misuse(int snippets, int null)
+static void test_misuse(int evaluation, int null)
 {
-    yurzhoad_evaluation e = evaluate(snippets, null, 1);
+    yurzhoad_evaluation e = evaluate(evaluation, null, 1);
     CHECK(called == 0);
     CHECK(e.number == YURZHOAD_MISUSE && e.place == (size_t)null);
     CHECK(e.selected == 0 && e.snippets == 0);
@@ -160,13 +187,14 @@ static void test_checks(void)
 
 int main(void)
 {
-    int snippets;
+    int evaluation;
     int null;
-    for (snippets = 0; snippets < 2; snippets++) {
-        test_evaluation(snippets, 0);
-        for (null = DOCUMENT; null < BUFFERS; null++) {
-            test_evaluation(snippets, null);
-            test_misuse(snippets, null);
+    for (evaluation = PLAIN; evaluation <= BY_VALUES; evaluation++) {
+        int buffers = evaluation == BY_VALUES ? BUFFERS : LENT;
+        test_evaluation(evaluation, 0);
+        for (null = DOCUMENT; null < buffers; null++) {
+            test_evaluation(evaluation, null);
+            test_misuse(evaluation, null);
         }
     }
     test_checks();

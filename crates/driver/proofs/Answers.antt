@@ -16,7 +16,7 @@ use Rattle.rule_spec.proofs.Bytes.{clash}
 use Rattle.layout.specs.Part.{STAYS}
 use Rattle.layout.specs.Table.{COLUMNS, LEFT, RANK}
 use Rattle.layout.specs.Words.{word, Within}
-use Rattle.layout.proofs.Frames.{frame-then, within-then, within-more}
+use Rattle.layout.proofs.Frames.{within-then, within-more}
 use Rattle.test_bits.specs.Columns.{held}
 use Rattle.test_numbers.specs.Tests.{pathTests, test}
 use Rattle.test_numbers.specs.Numbering.{Brackets}
@@ -24,9 +24,9 @@ use Rattle.machine.specs.declared.Machine.{Machine}
 use Rattle.machine.specs.Meaning.{IsStep, IsMachine, Drawn}
 use Rattle.plain.specs.Plain.{Answered}
 use Rattle.staging.specs.Drawing.{Copied, Stayed}
-use Rattle.driver.specs.Tasks.{Scene, Tells, Apart, Answers}
+use Rattle.driver.specs.Tasks.{Scene, Tells, Apart}
 use Rattle.driver.proofs.Frames.{within-apart, held-apart}
-use Rattle.driver.proofs.Parts.{part, back, back-apart, back-word}
+use Rattle.driver.proofs.Parts.{part, back, back-word}
 use Rattle.driver.proofs.Drawn.{drawn}
 
 and-true : (a b : Bool) → (and a b ≡ true) ↔ ((a ≡ true) × (b ≡ true))
@@ -59,13 +59,12 @@ brackets-hold {ns} {n} {k} {t} {t₁} {m} {numbers} P R settled apart machine br
 answer-iff : {n : ℕ} {A : ℕ → Type 0} {p p′ : List ℕ} → Answered n A p p′ → (v : ℕ) → v < n → (word p′ n 0 v ≡ 1) ↔ A v
 answer-iff a v l = ⊎-elim (λ x. (λ e. x .0, λ y. x .1)) (λ x. (λ e. let z = x .1 in absurd (omega arith), λ y. absurd (x .0 y))) (a .answers v l)
 
--- what comes back of a part in which the test is answered
-module _ {ns : List Node} {n : ℕ} {U : Test} {t t′ p′ : List ℕ} (pos : 0 < n) (room : scratchWords n ≤ length t′) (apart : Apart n t t′) where
-  pub answered : (a : Answered n (Holds (treeOf ns) U) (part n t′ pos room) p′) → Answers ns n U t (back n t′ pos room p′ (a .long))
-  answered a = record {
-    apart = frame-then apart (back-apart n t′ pos room p′ (a .long));
-    answers = λ v l. let g = answer-iff a v l in let w = back-word n t′ pos room p′ (a .long) v l in (λ e. g .0 (sym w ∙ e), λ x. w ∙ g .1 x);
-  }
+-- so it stands behind the table when the part comes back
+pub answer-told : {n : ℕ} {A : ℕ → Type 0} (t : List ℕ) {p : List ℕ} (pos : 0 < n) (room : scratchWords n ≤ length t) (a : Answered n A (part n t pos room) p)
+    → (v : ℕ) → v < n → (word (back n t pos room p (a .long)) n COLUMNS v ≡ 1) ↔ A v
+answer-told {n} t {p} pos room a v l =
+    let g = answer-iff a v l in let w = back-word n t pos room p (a .long) v l in
+    (λ e. g .0 (sym w ∙ e), λ x. w ∙ g .1 x)
 
 -- ── What is drawn for two paths ──
 module _ {s : List ℕ} {ns : List Node} {n : ℕ} {t : List ℕ} (scene : Scene s ns n t) where
@@ -75,9 +74,6 @@ module _ {s : List ℕ} {ns : List Node} {n : ℕ} {t : List ℕ} (scene : Scene
   module _ {b : ℕ} {numbers t₁ t₂ : List ℕ} (copied : Copied n t t₁) (stayed : Stayed n b numbers t₁ t₂) where
     pub drawn-within : Within n (COLUMNS + LEFT) (COLUMNS + STAYS + 1) t t₂
     drawn-within = within-then (within-more (omega arith) (omega arith) (copied .within)) (within-more (omega arith) (omega arith) (stayed .within))
-
-    pub drawn-apart : Apart n t t₂
-    drawn-apart = within-apart some-nodes (omega arith) (omega arith) drawn-within
 
   -- the tests in the brackets have the numbers from k on, and p has what is drawn
   pub drawn-paths : {k : ℕ} {m : Machine} {numbers t₁ t₂ : List ℕ} (p : List ℕ) (P R : XPath)

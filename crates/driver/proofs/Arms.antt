@@ -24,7 +24,7 @@ use Rattle.rule_parts.proofs.Inner.{spans-next}
 use Rattle.test_bits.specs.Columns.{held, Settled}
 use Rattle.test_numbers.specs.Tests.{testsOf, test}
 use Rattle.test_numbers.proofs.Counts.{tests-few}
-use Rattle.test_numbers.proofs.Following.{inner-not, inner-two}
+use Rattle.test_numbers.proofs.Following.{Begins, inner-not, inner-two}
 use Rattle.driver.specs.Tasks.{Shape, Task, Tells, Decided}
 use Rattle.driver.proofs.Answers.{some-nodes}
 use Rattle.driver.proofs.Settling.{decided}
@@ -65,6 +65,10 @@ module _ {s rule : List ℕ} {ns : List Node} {T : Test} {n at k : ℕ} {t : Lis
   pub room : Room n t
   room = tabled .room
 
+  -- a test inside it is settled
+  pub told-inner : {i : ℕ} {U : Test} → Begins T k i U → Tells ns n i U t
+  told-inner {i} (b, l, q) = subst (λ W. Tells ns n i W t) q (task .inner i b)
+
   -- ── A name, and a test denied ──
   -- :name
   pub name-spans : Shape Named due → (at + 1 ≤ task .end) × (task .end ≤ length rule)
@@ -80,23 +84,22 @@ module _ {s rule : List ℕ} {ns : List Node} {T : Test} {n at k : ℕ} {t : Lis
   -- !T
   pub not-decided : {t′ : List ℕ} → Shape Not due → Settled n k (λ v. ¬ (held t n (k + 1) v ≡ true)) t t′ → Decided ns n k due t t′
   not-decided {t′} (U, e) p =
-      let (l, q) = inner-not T k e in
-      let tells = subst (λ j. Tells ns n j U t) (sym (add-one k)) (subst (λ W. Tells ns n (suc k) W t) q (task .inner (suc k) (omega arith) l)) in
+      let tells = subst (λ j. Tells ns n j U t) (sym (add-one k)) (told-inner (inner-not T k e)) in
       subst (λ W. Decided ns n k W t t′) (sym e) (decided (not U) (some-nodes (task .scene)) p (λ v r. (λ f h. f (tells v r .1 h), λ f h. f (tells v r .0 h))))
 
   pub not-small : Shape Not due → k + 1 < 64
-  not-small (U, e) = let (l, q) = inner-not T k e in let f = tests-few (task .accepts) in omega arith
+  not-small (U, e) = let (b, l, q) = inner-not T k e in let f = tests-few (task .accepts) in omega arith
 
   -- ── Both of two tests, or either ──
   -- &TT and |TT: the second test has number b
   module _ {U W : Test} {b : ℕ} (second : b ≡ suc k + length (testsOf U)) where
     two-told : (due ≡ and U W) ⊎ (due ≡ or U W) → (k + 1 < 64) × (b < 64) × Tells ns n (k + 1) U t × Tells ns n b W t
     two-told e =
-        let (l, x, m, y) = inner-two T k e in let f = tests-few (task .accepts) in (
+        let (x, y) = inner-two T k e in let l = x .1 in let m = y .1 in let f = tests-few (task .accepts) in (
           omega arith,
           omega arith,
-          subst (λ j. Tells ns n j U t) (sym (add-one k)) (subst (λ A. Tells ns n (suc k) A t) x (task .inner (suc k) (omega arith) l)),
-          subst (λ i. Tells ns n i W t) (sym second) (subst (λ A. Tells ns n (suc k + length (testsOf U)) A t) y (task .inner (suc k + length (testsOf U)) (omega arith) m)),
+          subst (λ j. Tells ns n j U t) (sym (add-one k)) (told-inner x),
+          subst (λ i. Tells ns n i W t) (sym second) (told-inner y),
         )
 
     two-small : (due ≡ and U W) ⊎ (due ≡ or U W) → (k + 1 < 64) × (b < 64)

@@ -18,7 +18,7 @@ use Rattle.test_numbers.specs.Tests.{testsOf, pathTests, test, Light}
 use Rattle.test_numbers.specs.Numbering.{Brackets, TwoNumbered, NumbersTwo, NumbersOne}
 use Rattle.test_numbers.proofs.Counts.{tests-few}
 use Rattle.test_numbers.proofs.Lights.{tests-light}
-use Rattle.test_numbers.proofs.Following.{room-compare, inner-compare, room-compareTo, inner-compareTo, room-count, inner-count}
+use Rattle.test_numbers.proofs.Following.{Begins, room-compare, inner-compare, room-compareTo, inner-compareTo, room-count, inner-count}
 use Rattle.compiler.specs.Machines.{Machined, MachinedAlone}
 use Rattle.machine.specs.declared.Machine.{Machine}
 use Rattle.machine.specs.Meaning.{IsMachine}
@@ -26,11 +26,7 @@ use Rattle.staging.specs.Drawing.{Copied, Stayed}
 use Rattle.driver.specs.Tasks.{Tells, Task, Shape, Paths, Constant, Ready, PathDrawn}
 use Rattle.driver.proofs.Parts.{behind-word}
 use Rattle.driver.proofs.Answers.{drawn-within, drawn-paths}
-
--- a test behind test k is settled
-settled-inner : {s rule : List ℕ} {ns : List Node} {T : Test} {n at k : ℕ} {t : List ℕ} → Task s rule ns T n at k t
-    → {U : Test} (e : ℕ) → (suc k + e < length (testsOf T)) × (test (testsOf T) (suc k + e) ≡ U) → Tells ns n (suc k + e) U t
-settled-inner {ns = ns} {n = n} {k = k} {t = t} task e (l, q) = subst (λ W. Tells ns n (suc k + e) W t) q (task .inner (suc k + e) (omega arith) l)
+use Rattle.driver.proofs.Arms.{told-inner}
 
 -- ── Two paths ──
 module _ {s rule : List ℕ} {ns : List Node} {T : Test} {n at k : ℕ} {t : List ℕ} {behind : ℕ} {o : Operator} (h : Paths s rule ns T n at k t behind o) where
@@ -53,13 +49,13 @@ module _ {s rule : List ℕ} {ns : List Node} {T : Test} {n at k : ℕ} {t : Lis
   has-brackets {r} g = subst (λ m. Brackets (h .first) (h .second) m r) (add-one k) (g (h .first) (h .second) (h .firstEnd) (h .secondEnd) (h .firstAt) (h .secondAt) light few)
 
   pub both-settled : (e : ℕ) → e < length (pathTests (h .first) ++ pathTests (h .second)) → Tells ns n (suc k + e) (test (pathTests (h .first) ++ pathTests (h .second)) e) t
-  both-settled e r = settled-inner (h .task) e (inner-compare T k (h .is) e r)
+  both-settled e r = told-inner (h .task) (inner-compare T k (h .is) e r)
 
 -- ── One path ──
 -- what it needs is ready where no other tests stand inside test k than those in its brackets
 module _ {s rule : List ℕ} {ns : List Node} {T : Test} {n at k : ℕ} {t : List ℕ} (task : Task s rule ns T n at k t) where
   ready : (P : XPath) {i j : ℕ} → PathAt rule P i j → size P ≤ 14 → suc k + length (pathTests P) ≤ length (testsOf T)
-      → ((e : ℕ) → e < length (pathTests P) → (suc k + e < length (testsOf T)) × (test (testsOf T) (suc k + e) ≡ test (pathTests P) e))
+      → ((e : ℕ) → e < length (pathTests P) → Begins T k (suc k + e) (test (pathTests P) e))
       → Ready s rule ns P n i (k + 1) t
   ready P {i} {j} stands light room inner = let f = tests-few (task .accepts) in record {
     scene = task .scene;
@@ -67,7 +63,7 @@ module _ {s rule : List ℕ} {ns : List Node} {T : Test} {n at k : ℕ} {t : Lis
     stands = stands;
     light = light;
     room = omega arith;
-    settled = λ e r. subst (λ m. Tells ns n (m + e) (test (pathTests P) e) t) (sym (add-one k)) (settled-inner task e (inner e r));
+    settled = λ e r. subst (λ m. Tells ns n (m + e) (test (pathTests P) e) t) (sym (add-one k)) (told-inner task (inner e r));
   }
 
   -- of a count

@@ -22,8 +22,8 @@ use Rattle.layout.proofs.Frames.{before-within}
 use Rattle.layout.specs.Words.{word, Within}
 use Rattle.table.specs.Links.{Points, IsParent}
 use Rattle.test_bits.specs.Columns.{held}
-use Rattle.machine.specs.Meaning.{IsStep, Drawn, Judges}
-use Rattle.machine.proofs.Kept.{drawn-same}
+use Rattle.machine.specs.Meaning.{IsStep, Drawn, RanksTell, Judges}
+use Rattle.machine.proofs.Kept.{drawn-same, ranks-kept}
 use Rattle.staging.specs.Drawing.{Copied, Stayed, Judged}
 use Rattle.driver.specs.Tasks.{Scene}
 use Rattle.driver.proofs.Parts.{behind-word, part, part-word}
@@ -69,17 +69,22 @@ module _ {s : List ℕ} {ns : List Node} {n : ℕ} {t t₁ t₂ : List ℕ} {b :
       stays : (v j : ℕ) → v < n → j < 16 → bit (word p n STAYS v) j ≡ and (bit b j) (held t₁ n (getD numbers j 0) v)
       stays v j l h = ap (λ w. bit w j) (same STAYS v (omega arith) (λ e. absurd (omega arith)) l) ∙ stayed .done v j l h
 
+-- the ranks are drawn last
+pub drawn-but-ranks : {n : ℕ} (t t′ : List ℕ) → Within n (COLUMNS + RANK) (COLUMNS + RANK + 1) t t′
+    → (c v : ℕ) → c ≤ STAYS → c ≢ RANK → v < n → word (drop (COLUMNS * n) t′) n c v ≡ word t n (COLUMNS + c) v
+drawn-but-ranks {n} t t′ within c v h d l = behind-word n t′ c v ∙ aside-within within (COLUMNS + c) v (λ e. d (omega arith)) l
+
 -- ── In the part ──
 module _ {n : ℕ} {t t′ : List ℕ} (pos : 0 < n) (room : scratchWords n ≤ length t′) where
-  -- the ranks are drawn last
-  pub drawn-but-ranks : Within n (COLUMNS + RANK) (COLUMNS + RANK + 1) t t′ → (c v : ℕ) → c ≤ STAYS → c ≢ RANK → v < n → word (part n t′ pos room) n c v ≡ word t n (COLUMNS + c) v
-  drawn-but-ranks within c v h d l = part-word n t′ pos room c v (omega arith) l ∙ aside-within within (COLUMNS + c) v (λ e. d (omega arith)) l
-
   -- what is drawn behind the table stands there, also where the hits of a constant are drawn
   pub drawn-lent : {P R : XPath} {u : Tree} → Within n (COLUMNS + HIT) (COLUMNS + HIT + 1) t t′ → Drawn P R u n (drop (COLUMNS * n) t) → Drawn P R u n (part n t′ pos room)
   drawn-lent within = drawn-same (λ c v h l. part-word n t′ pos room c v (omega arith) l ∙ before-within within (COLUMNS + c) v (omega arith) l ∙ sym (behind-word n t c v))
 
--- the hits stand there too
+-- the ranks stand there too
+pub ranks-lent : {n : ℕ} (t : List ℕ) (pos : 0 < n) (room : scratchWords n ≤ length t) (o : Op) (u : Tree) → RanksTell o u n (drop (COLUMNS * n) t) → RanksTell o u n (part n t pos room)
+ranks-lent {n} t pos room o u = ranks-kept o u (drop (COLUMNS * n) t) (part n t pos room) (λ v l. part-word n t pos room RANK v (omega arith) l ∙ sym (behind-word n t RANK v))
+
+-- and the hits
 pub judges : {ns : List Node} {n : ℕ} {t t′ : List ℕ} {o : Op} {c : List ℕ} (pos : 0 < n) (room : scratchWords n ≤ length t′)
     → Judged ns n o c t t′ → Judges o c (treeOf ns) n (part n t′ pos room)
 judges {ns} {n} {t} {t′} {o} {c} pos room j v l =

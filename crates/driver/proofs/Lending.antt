@@ -1,14 +1,15 @@
 -- The middle of the scratch, lent to be evaluated in: what is asked of it, and what is left there. The end is told by the function that counts the words.
-use Prim.Native.Nat.{ℕ, _+_, _-_, _*_, _≤_}
+use Prim.Native.Nat.{ℕ, _+_, _-_, _*_, _≤_, _<_}
 use native.Mathlib.Nat.{mul-comm, add-mul, mul-le-mul-right}
 use native.Mathlib.Omega.{arith}
 use mathlib.Core.Path.{_≡_, sym, subst}
+use mathlib.Core.Logic.{_↔_}
 use mathlib.Core.List.{List, _++_}
 use lib.ListN.{length, take, drop}
 use lib.Seq.{slice}
 use Rattle.lists.specs.Text.{binaryDigits}
 use Rattle.limits.specs.Limits.{scratchWords}
-use Rattle.xpath.specs.Syntax.{Op, Test, atLeast, XPath, empty}
+use Rattle.xpath.specs.Syntax.{Op, Test, compare, atLeast, XPath, empty}
 use Rattle.xpath.specs.Tree.{Tree}
 use Rattle.xpath.specs.Meaning.{Holds}
 use Rattle.document_spec.specs.Library.{Node}
@@ -16,8 +17,8 @@ use Rattle.document_spec.specs.Binary.{treeOf}
 use Rattle.document_spec.proofs.Binary.{tree-formed}
 use Rattle.layout.specs.Part.{Space}
 use Rattle.layout.specs.Table.{COLUMNS}
-use Rattle.layout.specs.Words.{Within}
-use Rattle.layout.proofs.Frames.{frame-then, within-none}
+use Rattle.layout.specs.Words.{word, Within}
+use Rattle.layout.proofs.Frames.{frame-then, within-none, within-then, within-more}
 use Rattle.rule_parts.specs.Kinds.{operator}
 use Rattle.rule_parts.specs.declared.kinds.Operator.{Operator}
 use Rattle.test_numbers.specs.Tests.{testsOf, test}
@@ -30,16 +31,16 @@ use Rattle.machine.proofs.Comparing.{several-holds}
 use Rattle.plain.specs.Plain.{Answered}
 use Rattle.retracing.specs.Backward.{LinkedBothWays}
 use Rattle.retracing.proofs.Linked.{linked-drawn}
-use Rattle.evaluators.specs.Evaluators.{PartRoom, Posed, PosedTo, Staged, StagedTo, Adds, Compared, Hit}
+use Rattle.evaluators.specs.Evaluators.{PartRoom, Posed, PosedTo, StagedTo, Adds, Compared, Hit}
 use Rattle.evaluators.specs.declared.Evaluator.{Evaluator}
 use Rattle.evaluators.proofs.Staging.{drawn-space, answered-as}
 use Rattle.staging.specs.Signs.{ranksOf}
 use Rattle.staging.specs.Drawing.{Copied, RanksCopied, Stayed, Judged}
-use Rattle.driver.specs.Tasks.{Scene, Paths, Constant, PathDrawn, Apart, Answers, Compares}
+use Rattle.driver.specs.Tasks.{Scene, Paths, Constant, PathDrawn, PathsDrawn, Apart, Answers, Compares}
 use Rattle.driver.proofs.Frames.{scratch-room, scene-same, within-apart}
 use Rattle.driver.proofs.Parts.{part, part-long, back-apart}
-use Rattle.driver.proofs.Answers.{some-nodes, drawn-within, drawn-apart, drawn-paths, answered}
-use Rattle.driver.proofs.Drawn.{drawn-but-ranks, drawn-lent, judges}
+use Rattle.driver.proofs.Answers.{some-nodes, drawn-within, drawn-paths, answer-told}
+use Rattle.driver.proofs.Drawn.{drawn-but-ranks, drawn-lent, ranks-lent, judges}
 use Rattle.driver.proofs.Ranks.{ranks-tell}
 use Rattle.driver.proofs.Asked.{is-machine, has-brackets, both-settled}
 
@@ -85,40 +86,52 @@ module _ {s : List ℕ} {ns : List Node} {n : ℕ} {t : List ℕ} (scene : Scene
         subst (λ c. Answered n A (middle n c t′) p → Apart n t (returned n c t′ p)) (sym ends)
         (λ a. frame-then apart (back-apart n t′ (some-nodes scene) lent-room p (a .long)))
 
-    -- and has the answers of the test that is due
+    -- and has the answers in its first column
+    pub lent-told : {A : ℕ → Type 0} {p : List ℕ} → Answered n A (middle n b t′) p → (v : ℕ) → v < n → (word (returned n b t′ p) n COLUMNS v ≡ 1) ↔ A v
+    lent-told {A} {p} =
+        subst (λ c. Answered n A (middle n c t′) p → (v : ℕ) → v < n → (word (returned n c t′ p) n COLUMNS v ≡ 1) ↔ A v) (sym ends) (answer-told t′ (some-nodes scene) lent-room)
+
+    -- those of the test that is due
     pub lent-answers : {U W : Test} {p : List ℕ} → W ≡ U → Answered n (Holds (treeOf ns) U) (middle n b t′) p → Answers ns n W t (returned n b t′ p)
-    lent-answers {U} {W} {p} is =
-        subst (λ X. Answered n (Holds (treeOf ns) U) (middle n b t′) p → Answers ns n X t (returned n b t′ p)) (sym is)
-        (subst (λ c. Answered n (Holds (treeOf ns) U) (middle n c t′) p → Answers ns n U t (returned n c t′ p)) (sym ends) (answered (some-nodes scene) lent-room apart))
+    lent-answers {p = p} is a = subst (λ X. Answers ns n X t (returned n b t′ p)) (sym is) (record { apart = lent-apart a; answers = lent-told a })
 
 -- ── Two paths ──
-module _ {s rule : List ℕ} {ns : List Node} {T : Test} {n at k : ℕ} {t : List ℕ} {behind : ℕ} {o : Operator} (h : Paths s rule ns T n at k t behind o)
-    {m : Machine} {numbers t₁ t₂ t₃ : List ℕ} {b c : ℕ}
-    (machined : Machined rule (at + 1) behind m) (numbered : NumbersTwo rule (at + 1) behind (k + 1) numbers)
-    (copied : Copied n t t₁) (stayed : Stayed n (m .brackets) numbers t₁ t₂) (chosen : (q : Op) → o ≡ operator q → c ≡ ranksOf q) (ranks : RanksCopied n c t₂ t₃) (ends : b ≡ scratchWords n) where
-  paths-apart : Apart n t t₃
-  paths-apart = frame-then (drawn-apart (h .task .scene) copied stayed) (within-apart (some-nodes (h .task .scene)) (omega arith) (omega arith) (ranks .within))
+pub paths-drawn : {s rule : List ℕ} {ns : List Node} {T : Test} {n at k : ℕ} {t : List ℕ} {behind : ℕ} {o : Operator} (h : Paths s rule ns T n at k t behind o)
+    {m : Machine} {numbers t₁ t₂ t₃ : List ℕ} {c : ℕ} → Machined rule (at + 1) behind m → NumbersTwo rule (at + 1) behind (k + 1) numbers
+    → Copied n t t₁ → Stayed n (m .brackets) numbers t₁ t₂ → ((q : Op) → o ≡ operator q → c ≡ ranksOf q) → RanksCopied n c t₂ t₃
+    → PathsDrawn ns n (h .sign) (h .first) (h .second) m t t₃
+paths-drawn {n = n} h {t₂ = t₂} {t₃} machined numbered copied stayed chosen ranks =
+    let scene = h .task .scene in let machine = is-machine h machined in let within = drawn-within scene copied stayed in let later = drawn-scene scene (omega arith) within in
+    record {
+      within = within-then within (within-more (omega arith) (omega arith) (ranks .within));
+      posed = record {
+        formed = tree-formed (scene .library .legal);
+        machine = machine;
+        drawn = drawn-paths scene (drop (COLUMNS * n) t₃) (h .first) (h .second) (both-settled h) machine (has-brackets h numbered) copied stayed (drawn-but-ranks t₂ t₃ (ranks .within));
+        ranks = ranks-tell (few-nodes scene) (scene .size) (later .ranked) (later .weighed) (h .sign) (subst (λ d. RanksCopied n d t₂ t₃) (chosen (h .sign) (h .told)) ranks);
+      };
+    }
 
-  paths-posed : Posed (h .sign) (h .first) (h .second) (treeOf ns) m n (middle n b t₃)
-  paths-posed = lent-is (h .task .scene) paths-apart ends (λ p. Posed (h .sign) (h .first) (h .second) (treeOf ns) m n p) (record {
-    formed = tree-formed (h .task .scene .library .legal);
-    machine = is-machine h machined;
-    drawn = drawn-paths (h .task .scene) _ (h .first) (h .second) (both-settled h) (is-machine h machined) (has-brackets h numbered) copied stayed
-        (drawn-but-ranks (some-nodes (h .task .scene)) (lent-room (h .task .scene) paths-apart ends) (ranks .within));
-    ranks = let scene = drawn-scene (h .task .scene) (omega arith) (drawn-within (h .task .scene) copied stayed) in
-        ranks-tell (some-nodes (h .task .scene)) (lent-room (h .task .scene) paths-apart ends) (few-nodes (h .task .scene)) (h .task .scene .size) (scene .ranked) (scene .weighed) (h .sign) (subst (λ d. RanksCopied n d t₂ t₃) (chosen (h .sign) (h .told)) ranks);
-  })
+module _ {s : List ℕ} {ns : List Node} {n : ℕ} {o : Op} {P R : XPath} {m : Machine} {t t₁ : List ℕ} {b : ℕ} (scene : Scene s ns n t) (paths : PathsDrawn ns n o P R m t t₁) (ends : b ≡ scratchWords n) where
+  pub paths-apart : Apart n t t₁
+  paths-apart = within-apart (some-nodes scene) (omega arith) (omega arith) (paths .within)
 
-  pub paths-asked : Staged o m n (middle n b t₃) × PartRoom n (middle n b t₃)
-  paths-asked = ((h .first, h .second, treeOf ns, h .sign, h .told, paths-posed), lent-long (h .task .scene) paths-apart ends)
+  pub paths-posed : Posed o P R (treeOf ns) m n (middle n b t₁)
+  paths-posed =
+      let posed = paths .posed in let some = some-nodes scene in let room = lent-room scene paths-apart ends in
+      lent-is scene paths-apart ends (λ p. Posed o P R (treeOf ns) m n p)
+      (record { formed = posed .formed; machine = posed .machine; drawn = drawn-lent some room (within-none t₁) (posed .drawn); ranks = ranks-lent t₁ some room o (treeOf ns) (posed .ranks) })
+
+  pub paths-long : PartRoom n (middle n b t₁)
+  paths-long = lent-long scene paths-apart ends
 
   -- what the evaluator tells of any comparison on any tree is told of this one
-  pub paths-compared : {e : Evaluator} {p : List ℕ} {r : ℕ}
-      → ((P R : XPath) (t′ : Tree) (q : Op) → Posed q P R t′ m n (middle n b t₃) → o ≡ operator q → Compared e t′ q P R n (middle n b t₃) p r)
-      → Compares e ns n (test (testsOf T) k) t (returned n b t₃ p) r
-  paths-compared {e} {p} {r} f =
-      let x = f (h .first) (h .second) (treeOf ns) (h .sign) paths-posed (h .told) in
-      record { answers = lent-answers (h .task .scene) paths-apart ends (h .is) (x .answered); adds = subst (λ U. Adds e (treeOf ns) U r) (sym (h .is)) (x .adds) }
+  pub paths-compared : {e : Evaluator} {q : Operator} {U : Test} {p : List ℕ} {r : ℕ} → q ≡ operator o → U ≡ compare o P R
+      → ((A B : XPath) (u : Tree) (f : Op) → Posed f A B u m n (middle n b t₁) → q ≡ operator f → Compared e u f A B n (middle n b t₁) p r)
+      → Compares e ns n U t (returned n b t₁ p) r
+  paths-compared {e} {r = r} told is f =
+      let x = f P R (treeOf ns) o paths-posed told in
+      record { answers = lent-answers scene paths-apart ends is (x .answered); adds = subst (λ U. Adds e (treeOf ns) U r) (sym is) (x .adds) }
 
 -- ── One path ──
 pub path-apart : {s : List ℕ} {ns : List Node} {P : XPath} {n : ℕ} {m : Machine} {t t′ : List ℕ} → Scene s ns n t → PathDrawn ns n P m t t′ → Apart n t t′

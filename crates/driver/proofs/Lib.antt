@@ -9,3 +9,5 @@ pub mod Asked
 pub mod Operands
 pub mod Lending
 pub mod Totals
+pub mod Orders
+pub mod ByValues

@@ -1,19 +1,17 @@
 -- The ranks that a sign compares tell it, also where they are drawn for a comparison.
-use Prim.Native.Nat.{ℕ, _≤_, _<_}
+use Prim.Native.Nat.{ℕ, _*_, _≤_, _<_}
 use native.Mathlib.Omega.{arith}
 use native.Mathlib.Decide.{decLt}
 use mathlib.Core.Path.{_≡_, sym, _∙_, subst, subst₂}
 use mathlib.Core.Logic.{_↔_}
 use mathlib.Core.List.{List}
-use lib.ListN.{length}
-use Rattle.limits.specs.Limits.{scratchWords}
+use lib.ListN.{length, drop}
 use Rattle.xpath.specs.Syntax.{Op, eq, ne, lt, le, gt, ge}
-use Rattle.xpath.specs.Reading.{amountOf}
 use Rattle.xpath.specs.Meaning.{Rel}
 use Rattle.xpath.proofs.Booleans.{trans, ¬-iff}
 use Rattle.document_spec.specs.Library.{Node}
 use Rattle.document_spec.specs.Binary.{comparedOf, treeOf}
-use Rattle.layout.specs.Table.{RANK, AMOUNT}
+use Rattle.layout.specs.Table.{COLUMNS, RANK, AMOUNT}
 use Rattle.layout.specs.Words.{word}
 use Rattle.ranks.specs.Ranks.{Ranked}
 use Rattle.numerals.specs.Keys.{NO-KEY}
@@ -24,7 +22,7 @@ use Rattle.machine.specs.Walks.{Signed}
 use Rattle.machine.specs.Meaning.{RanksTell}
 use Rattle.staging.specs.Signs.{ranksOf}
 use Rattle.staging.specs.Drawing.{RanksCopied}
-use Rattle.driver.proofs.Parts.{part, part-word}
+use Rattle.driver.proofs.Parts.{behind-word}
 
 -- ── In the table ──
 module _ (ns : List Node) (t : List ℕ) where
@@ -83,13 +81,13 @@ told few ranked weighed le v w l k = at-most-told few weighed v w l k
 told few ranked weighed gt v w l k = turned (less-told few weighed w v k l)
 told few ranked weighed ge v w l k = turned (at-most-told few weighed w v k l)
 
--- ── In the part ──
-pub ranks-tell : {ns : List Node} {n : ℕ} {t t′ : List ℕ} (pos : 0 < n) (room : scratchWords n ≤ length t′)
-    → n ≤ 4096 → length ns ≡ n → Ranked ns t → Weighed ns t → (o : Op) → RanksCopied n (ranksOf o) t t′ → RanksTell o (treeOf ns) n (part n t′ pos room)
-ranks-tell {ns} {n} {t} {t′} pos room few size ranked weighed o copied v w l k =
+-- ── Behind the table ──
+pub ranks-tell : {ns : List Node} {n : ℕ} {t t′ : List ℕ} → n ≤ 4096 → length ns ≡ n → Ranked ns t → Weighed ns t → (o : Op) → RanksCopied n (ranksOf o) t t′
+    → RanksTell o (treeOf ns) n (drop (COLUMNS * n) t′)
+ranks-tell {ns} {n} {t} {t′} few size ranked weighed o copied v w l k =
     subst₂ (λ a b. Signed o n a b ↔ Rel o (comparedOf ns v) (comparedOf ns w)) (drawn v l) (drawn w k)
     (subst (λ m. Signed o m (word t m (ranksOf o) v) (word t m (ranksOf o) w) ↔ Rel o (comparedOf ns v) (comparedOf ns w)) size
     (told (omega arith) ranked weighed o v w (omega arith) (omega arith)))
   where
-    drawn : (u : ℕ) → u < n → word t n (ranksOf o) u ≡ word (part n t′ pos room) n RANK u
-    drawn u h = sym (part-word n t′ pos room RANK u (omega arith) h ∙ copied .copied u h)
+    drawn : (u : ℕ) → u < n → word t n (ranksOf o) u ≡ word (drop (COLUMNS * n) t′) n RANK u
+    drawn u h = sym (behind-word n t′ RANK u ∙ copied .copied u h)

@@ -1,12 +1,14 @@
 -- One test after the other: what a settled test leaves, and when the next one is due.
-use Prim.Native.Nat.{ℕ, suc, _≤_, _<_}
-use native.Mathlib.Nat.{eq-or-lt-of-le}
+use Prim.Native.Nat.{ℕ, _<_}
+use native.Mathlib.Decide.{ℕ-discrete}
 use native.Mathlib.Omega.{arith}
 use mathlib.Core.Path.{_≡_, sym, _∙_, subst}
 use mathlib.Core.Logic.{_↔_, ⊎-elim}
 use mathlib.Core.Bool.{true}
-use mathlib.Core.List.{List}
+use mathlib.Core.List.{List, [], _∷_, _++_}
 use lib.ListN.{length, getD}
+use Rattle.lists.specs.Lists.{All, Occurs}
+use Rattle.lists.proofs.Lists.{all-occurs, occurs-append}
 use Rattle.xpath.specs.Syntax.{Test}
 use Rattle.xpath.specs.Meaning.{Holds}
 use Rattle.document_spec.specs.Library.{Node}
@@ -17,6 +19,7 @@ use Rattle.layout.specs.Words.{word}
 use Rattle.layout.proofs.Frames.{frame-none, frame-then, frame-wider, within-frame}
 use Rattle.test_bits.specs.Columns.{Settled}
 use Rattle.test_numbers.specs.Tests.{testsOf, test}
+use Rattle.test_numbers.specs.Orders.{Inside}
 use Rattle.test_places.specs.Places.{Listed}
 use Rattle.driver.specs.Tasks.{Scene, Tells, Task, Answers, Decided, Settling}
 use Rattle.driver.proofs.Frames.{scratch-room, held-apart, scene-same}
@@ -43,30 +46,36 @@ taken {ns} {n} {k} {t} {t₁} {t₂} T pos a s =
       frame = frame-then (frame-wider (omega arith) (omega arith) (a .apart)) (d .frame);
     }
 
--- ── From the last test to the first ──
-pub settling-none : (ns : List Node) (n k : ℕ) (T : Test) (t : List ℕ) → length (testsOf T) ≤ k → Settling ns n k T t t
-settling-none ns n k T t h = record { tells = λ i l m. absurd (omega arith); frame = frame-none t }
+-- ── The tests of a list ──
+pub settling-none : (ns : List Node) (n : ℕ) (T : Test) (t : List ℕ) → Settling ns n T [] t t
+settling-none ns n T t = record { tells = λ k o. absurd o; frame = frame-none t }
 
-pub settling-step : {ns : List Node} {n k : ℕ} {t₀ t t′ : List ℕ} (T : Test) → length (testsOf T) ≤ 64 → Settling ns n (suc k) T t₀ t
-    → Decided ns n k (test (testsOf T) k) t t′ → Settling ns n k T t₀ t′
-settling-step {ns} {n} {k} {t₀} {t} {t′} T few p d = record {
-  tells = λ i l m. ⊎-elim
-      (λ e. subst (λ j. Tells ns n j (test (testsOf T) j) t′) e (d .tells))
-      (λ h. λ v r. subst (λ b. (b ≡ true) ↔ Holds (treeOf ns) (test (testsOf T) i) v) (sym (d .others i v (omega arith) (λ e. omega arith) r)) (p .tells i h m v r))
-      (eq-or-lt-of-le l);
-  frame = frame-then (p .frame) (d .frame);
-}
+module _ {ns : List Node} {n : ℕ} {T : Test} (ks : List ℕ) {t₀ t : List ℕ} (p : Settling ns n T ks t₀ t) where
+  -- one more at the end
+  pub settling-step : (k : ℕ) {t′ : List ℕ} → All (λ i. i < 64) ks → Decided ns n k (test (testsOf T) k) t t′ → Settling ns n T (ks ++ k ∷ []) t₀ t′
+  settling-step k {t′} few d = record {
+    tells = λ i o. ⊎-elim (λ h. go i h (ℕ-discrete i k)) (λ h. ⊎-elim (now i) (λ z. absurd z) h) (occurs-append i ks (k ∷ []) o);
+    frame = frame-then (p .frame) (d .frame);
+  }
+    where
+      now : (i : ℕ) → i ≡ k → Tells ns n i (test (testsOf T) i) t′
+      now i e = subst (λ j. Tells ns n j (test (testsOf T) j) t′) (sym e) (d .tells)
 
--- the test before is due
-pub task : {s rule : List ℕ} {ns : List Node} {n k : ℕ} {t₀ t offsets : List ℕ} {count : ℕ} (T : Test) → Scene s ns n t₀ → Accepts rule T → Listed rule T offsets count
-    → k < count → Settling ns n (suc k) T t₀ t → Task s rule ns T n (getD offsets k 0) k t
-task {k = k} T scene accepts listed h p =
-    let (j, stands) = listed .stands k h in let e = listed .all in
-    record {
-      scene = scene-same scene (p .frame .long) (p .frame .front);
-      accepts = accepts;
-      number = omega arith;
-      end = j;
-      stands = stands;
-      inner = λ i l m. p .tells i l m;
-    }
+      go : (i : ℕ) → Occurs i ks → Dec (i ≡ k) → Tells ns n i (test (testsOf T) i) t′
+      go i h (yes e) = now i e
+      go i h (no f) = λ v r.
+          subst (λ b. (b ≡ true) ↔ Holds (treeOf ns) (test (testsOf T) i) v) (sym (d .others i v (all-occurs (λ j. j < 64) ks .0 few i h) f r)) (p .tells i h v r)
+
+  -- a test is due where those inside it are in the list
+  pub task : {s rule offsets : List ℕ} {count : ℕ} → Scene s ns n t₀ → Accepts rule T → Listed rule T offsets count
+      → (k : ℕ) → k < length (testsOf T) → ((i : ℕ) → Inside T k i → Occurs i ks) → Task s rule ns T n (getD offsets k 0) k t
+  task scene accepts listed k l inner =
+      let e = listed .all in let (j, stands) = listed .stands k (omega arith) in
+      record {
+        scene = scene-same scene (p .frame .long) (p .frame .front);
+        accepts = accepts;
+        number = l;
+        end = j;
+        stands = stands;
+        inner = λ i b. p .tells i (inner i b);
+      }

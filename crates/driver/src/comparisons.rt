@@ -1,6 +1,6 @@
 // A comparison: what its evaluator needs is drawn in its part of the scratch, and that part alone is lent to it.
 use crate::paths::draw_path;
-use compiler::machine_of;
+use crate::paths::draw_paths;
 use evaluators::Evaluator;
 use evaluators::compare_constant;
 use evaluators::compare_paths;
@@ -9,12 +9,7 @@ use limits::Scratch;
 use rule_parts::kinds::Operator;
 use rule_parts::parted;
 use rule_parts::skip_test;
-use staging::draw;
 use staging::draw_hits;
-use staging::draw_ranks;
-use staging::draw_tests;
-use staging::ranks_of;
-use test_numbers::bracket_tests;
 use tokens::stands;
 ghost use mathlib.Core.List.{List};
 ghost use Rattle.xpath.specs.Syntax.{Test};
@@ -38,12 +33,7 @@ fn between_paths(
     requires { ⌜ ((ns : List Library.Node) × (T : Test) × Paths (now s) (now rule) ns T n at k (now t) behind o) ⌝ }
     ensures { λ r. ⌜ ((ns : List Library.Node) (T : Test) → Paths (now (s .entry)) (now (rule .entry)) ns T n at k (now (t .entry)) behind o → Compares e ns n (test (testsOf T) k) (now (t .entry)) (now (t .exit)) r) ⌝ }
 {
-    let m = machine_of(rule, at + 1, behind);
-    let numbers = bracket_tests(rule, at + 1, behind, k + 1);
-    draw(t, n);
-    draw_tests(t, n, m.brackets, numbers);
-    let c = ranks_of(o);
-    draw_ranks(t, n, c);
+    let m = draw_paths(rule, t, n, at, k, behind, o);
     let end = Scratch::needed(n);
     compare_paths(e, &mut t[Table::COLUMNS * n..end], n, m, o)
 }

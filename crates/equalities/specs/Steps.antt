@@ -1,5 +1,5 @@
 -- What the steps of the evaluation leave: rows without snippets, the loops and the powers, and then the snippets.
-use Prim.Native.Nat.{ℕ, _+_, _<_}
+use Prim.Native.Nat.{ℕ, _+_, _*_, _<_}
 use mathlib.Core.Path.{_≡_}
 use mathlib.Core.Logic.{_≢_, _↔_}
 use mathlib.Core.List.{List}
@@ -8,12 +8,11 @@ use Rattle.lists.specs.Lists.{Number}
 use Rattle.limits.specs.Limits.{positions}
 use Rattle.xpath.specs.Syntax.{XPath}
 use Rattle.xpath.specs.Tree.{Tree}
-use Rattle.snippets.specs.Snippets.{Yielded}
-use Rattle.snippets.specs.Count.{IsSnippet}
-use Rattle.snippets.specs.Direct.{Direct}
+use Rattle.snippets.specs.Values.{YieldedBy, IsSnippetBy}
 use Rattle.machine.specs.declared.Machine.{Machine}
 use Rattle.loops.specs.Loops.{Stage}
 use Rattle.layout.specs.Blocks.{snippetAt, rowsAt}
+use Rattle.layout.specs.Table.{COLUMNS}
 use Rattle.layout.specs.Words.{Frame, Same}
 use Rattle.powers.specs.Powers.{Founded}
 use Rattle.settling.specs.Settled.{Marked}
@@ -35,20 +34,17 @@ abbrev pub Empty : ℕ → ℕ → List ℕ → Type 0
 Empty n b p = (k y i : ℕ) → k < b → y < n → i < positions → getD p (snippetAt n k y + i) 0 ≡ 0
 
 -- ── Before the snippets ──
--- the loops and the powers are found, and there are no snippets yet
+-- the loops and the powers are found, and there are no snippets yet; the columns of single words stay
 pub record Prepares (m : Machine) (n b : ℕ) (p p′ : List ℕ) : Type 0 where
   pub long : length p′ ≡ length p
+  pub front : (k : ℕ) → k < COLUMNS * n → getD p′ k 0 ≡ getD p k 0
   pub founded : (P R : XPath) (t : Tree) → Stage P R t m n p → Founded P R t m n b p′
   pub empty : Empty n b p′
 
 -- ── The snippets ──
--- what the first snippets of any value yield
-abbrev pub FromFirst : XPath → XPath → Tree → ℕ → ℕ → ℕ → ℕ → ℕ → Type 0
-FromFirst P R t k x y i j = (d : List ℕ) × Direct t P R d k x y i j
-
--- they are found, r in all, where the powers are enough; those of power 0 are in the rows
-pub record Gathers (m : Machine) (n b : ℕ) (p p′ : List ℕ) (r : ℕ) : Type 0 where
+-- those that the values in the list yield are found, r in all, where the powers are enough; those of power 0 are in the rows
+pub record Gathers (vs : List ℕ) (m : Machine) (n b : ℕ) (p p′ : List ℕ) (r : ℕ) : Type 0 where
   pub long : length p′ ≡ length p
   pub founded : (P R : XPath) (t : Tree) → Founded P R t m n b p → Founded P R t m n b p′
-  pub number : (P R : XPath) (t : Tree) → Founded P R t m n b p → Enough t b → Number (IsSnippet t (record { first = P; second = R })) r
-  pub marked : (P R : XPath) (t : Tree) → Founded P R t m n b p → Enough t b → (x y i j : ℕ) → Marked t n p′ x y i j ↔ Yielded t P R 0 x y i j
+  pub number : (P R : XPath) (t : Tree) → Founded P R t m n b p → Enough t b → Number (IsSnippetBy t vs (record { first = P; second = R })) r
+  pub marked : (P R : XPath) (t : Tree) → Founded P R t m n b p → Enough t b → (x y i j : ℕ) → Marked t n p′ x y i j ↔ YieldedBy t vs P R 0 x y i j

@@ -2,12 +2,13 @@
 use Prim.Native.Nat.{ℕ}
 use mathlib.Core.List.{List}
 use lib.ListN.{length}
-use Rattle.xpath.specs.Syntax.{Test}
+use Rattle.xpath.specs.Syntax.{Test, XPath}
 use Rattle.xpath.specs.Tree.{Tree}
 use Rattle.document_spec.specs.Library.{Node}
 use Rattle.evaluation_spec.specs.Buffers.{Accepted}
 use Rattle.evaluation_spec.specs.Evaluation.{Outcome, Selected, NoSnippets}
 use Rattle.evaluation_spec.specs.Evaluation as Contract
+use Rattle.evaluation_spec.specs.Values.{ValuesAccepted, ValuesSelected}
 use Rattle.snippets.specs.Count.{SnippetCount}
 use Rattle.evaluators.specs.declared.Evaluator.{Evaluator}
 use Rattle.evaluators.specs.declared.Evaluator.the-variants.{Plain, Snippets}
@@ -38,3 +39,9 @@ Selection e document rule scratch marks count snippets scratch′ marks′ =
 -- the whole contract, for either evaluator
 abbrev pub Evaluated : Evaluator → (document rule scratch marks : List ℕ) → Outcome → (scratch′ marks′ : List ℕ) → Type 0
 Evaluated e document rule scratch marks o scratch′ marks′ = Contract.Evaluation (countOf e) document rule scratch marks o scratch′ marks′
+
+-- if a call by a list of values is accepted, what these values settle is marked and counted, and the scratch is cleared
+abbrev pub ValuesSelection : (document rule values scratch marks : List ℕ) (count snippets : ℕ) (scratch′ marks′ : List ℕ) → Type 0
+ValuesSelection document rule values scratch marks count snippets scratch′ marks′ =
+    (ns : List Node) (P R : XPath) → ValuesAccepted document rule values (length scratch) (length marks) ns P R
+    → ValuesSelected values ns P R scratch marks (selecting count snippets) scratch′ marks′

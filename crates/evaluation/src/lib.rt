@@ -1,4 +1,6 @@
 // The evaluations: the inputs are judged, and where they are accepted the rule is settled in the scratch and its nodes are marked.
+pub mod values;
+
 use amounts::rank_amounts;
 use driver::settle_rule;
 use evaluators::Evaluator;
@@ -8,9 +10,11 @@ use marking::mark;
 use ranks::rank;
 use table::build;
 use verdicts::judge;
+ghost use Prim.Native.Nat.{_≤_, _<_};
 ghost use mathlib.Core.Path.{_≡_};
 ghost use mathlib.Core.List.{List};
 ghost use lib.ListN.{length};
+ghost use Rattle.limits.specs.Limits.{documentNodes, scratchWords};
 ghost use Rattle.xpath.specs.Syntax.{Test};
 ghost use Rattle.document_spec.specs.Library as Library;
 ghost use Rattle.document_spec.specs.Verdict.{Accepts};
@@ -21,6 +25,7 @@ ghost use Rattle.table.specs.Tabled.{Tabled};
 ghost use Rattle.ranks.specs.Ranks.{Written};
 ghost use Rattle.amounts.specs.Weighed.{Weighed};
 ghost use Rattle.evaluation.specs.Outcomes.{outcomeOf, Selection, Evaluated};
+ghost use Rattle.evaluation.specs.Steps.{Readied, Finished};
 
 // What an evaluation returns: number, place, the number of selected nodes, and the number of snippets.
 #[repr(C)]
@@ -46,6 +51,26 @@ fn rank_values(document: &[u8], scratch: &mut [u16], n: usize)
     rank_amounts(document, scratch, n);
 }
 
+// All that the tests of a rule find of the document: its tree, and the ranks of its values and their amounts.
+fn ready(document: &[u8], scratch: &mut [u16], n: usize)
+    requires { ⌜ ((ns : List Library.Node) × Accepts (now document) ns × (length ns ≡ n)) × (scratchWords n ≤ length (now scratch)) ⌝ }
+    ensures { λ _. ⌜ Readied (now (document .entry)) n (now (scratch .entry)) (now (scratch .exit)) ⌝ }
+{
+    build(document, scratch, n);
+    rank_values(document, scratch, n);
+}
+
+// Marks the nodes at which a settled rule holds, and leaves zeros in the scratch. Returns how many nodes are marked.
+fn finish(scratch: &mut [u16], n: usize, marks: &mut [u8]) -> usize
+    requires { ⌜ (0 < n) × (n ≤ documentNodes) × (scratchWords n ≤ length (now scratch)) × (n ≤ length (now marks)) ⌝ }
+    ensures { λ r. ⌜ Finished n (now (scratch .entry)) (now (marks .entry)) r (now (scratch .exit)) (now (marks .exit)) ⌝ }
+{
+    let selected = mark(scratch, n, marks);
+    let words = Scratch::needed(n);
+    clear(scratch, words);
+    selected
+}
+
 // Marks the nodes at which an accepted rule holds, and leaves zeros in the scratch.
 fn select(
     e: Evaluator,
@@ -58,12 +83,9 @@ fn select(
     requires { ⌜ ((ns : List Library.Node) × (T : Test) × Accepted (now document) (now rule) (length (now scratch)) (length (now marks)) ns T × (length ns ≡ n)) ⌝ }
     ensures { λ r. ⌜ Selection e (now (document .entry)) (now (rule .entry)) (now (scratch .entry)) (now (marks .entry)) (r .selected) (r .snippets) (now (scratch .exit)) (now (marks .exit)) ⌝ }
 {
-    build(document, scratch, n);
-    rank_values(document, scratch, n);
+    ready(document, scratch, n);
     let snippets = settle_rule(e, document, rule, scratch, n);
-    let selected = mark(scratch, n, marks);
-    let words = Scratch::needed(n);
-    clear(scratch, words);
+    let selected = finish(scratch, n, marks);
     Picked { selected, snippets }
 }
 

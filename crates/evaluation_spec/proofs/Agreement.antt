@@ -3,13 +3,13 @@ use Prim.Native.Nat.{ℕ, _+_, _-_, _≤_, _<_}
 use mathlib.Core.Path.{_≡_, sym, ap, ap₂, _∙_, subst}
 use mathlib.Core.Logic.{_⊎_, inl, inr, _↔_}
 use mathlib.Core.List.{List, _++_}
-use lib.ListN.{length, getD, drop, take-append-drop}
+use lib.ListN.{length, getD, take, drop, take-append-drop}
 use lib.Seq.{getD-drop, ext-getD}
 use native.Mathlib.Omega.{arith}
 use native.Mathlib.Decide.{decLt}
 use Rattle.limits.specs.Limits.{scratchWords}
 use Rattle.lists.proofs.Lists.{number-one}
-use Rattle.refusals.specs.Refusals.{Refusal, number, First, documentLength, lineForm, nodeCount, treeRule, ruleLength, unreadable, nesting, tests, steps, scratchLength, marksLength, duplicateAttribute}
+use Rattle.refusals.specs.Refusals.{Refusal, number, First, documentLength, lineForm, nodeCount, treeRule, ruleLength, unreadable, nesting, tests, steps, scratchLength, marksLength, duplicateAttribute, otherComparison, noSuchNode}
 use Rattle.xpath.specs.Syntax.{Test}
 use Rattle.xpath.specs.Tree.{Tree}
 use Rattle.xpath.proofs.Booleans.{same}
@@ -21,7 +21,7 @@ use Rattle.snippets.specs.Count.{SnippetCount, comparisons}
 use Rattle.snippets.proofs.Counting.{counted-one}
 use Rattle.rule_spec.proofs.Accepted as Grammar
 use Rattle.evaluation_spec.specs.Buffers.{Ground, Accepted}
-use Rattle.evaluation_spec.specs.Evaluation.{Outcome, Selects, Selected, Evaluation, NoSnippets, PlainEvaluation, SnippetEvaluation}
+use Rattle.evaluation_spec.specs.Evaluation.{Outcome, Selects, Refused, Selected, Evaluation, NoSnippets, PlainEvaluation, SnippetEvaluation}
 use Rattle.evaluation_spec.proofs.Judged.{judged}
 
 -- ── One mark ──
@@ -45,6 +45,8 @@ number-positive (steps o) = omega arith
 number-positive scratchLength = omega arith
 number-positive marksLength = omega arith
 number-positive (duplicateAttribute i) = omega arith
+number-positive otherComparison = omega arith
+number-positive noSuchNode = omega arith
 
 -- ── A call that returns number 0 was accepted ──
 module _ (Snippets : Tree → Test → ℕ → Type 0) (document rule scratch marks : List ℕ) (o : Outcome) (scratch′ marks′ : List ℕ)
@@ -90,8 +92,12 @@ evaluations-agree document rule scratch₁ marks₁ scratch₂ marks₂ o₁ o�
     )
 
 -- ── The contract leaves nothing open ──
+-- a list is told by its first n elements and the later ones
+pub words-one : (n : ℕ) (xs ys : List ℕ) → take n xs ≡ take n ys → drop n xs ≡ drop n ys → xs ≡ ys
+words-one n xs ys e f = sym (take-append-drop n xs) ∙ ap₂ (λ (a b : List ℕ). a ++ b) e f ∙ take-append-drop n ys
+
 -- two lists that agree below n, and from n on with one list, are one
-spliced : (n : ℕ) (xs ys zs : List ℕ) → length xs ≡ length zs → length ys ≡ length zs → drop n xs ≡ drop n zs → drop n ys ≡ drop n zs
+pub spliced : (n : ℕ) (xs ys zs : List ℕ) → length xs ≡ length zs → length ys ≡ length zs → drop n xs ≡ drop n zs → drop n ys ≡ drop n zs
     → ((v : ℕ) → v < n → getD xs v 0 ≡ getD ys v 0) → xs ≡ ys
 spliced n xs ys zs lx ly dx dy h = ext-getD 0 xs ys (lx ∙ sym ly) (λ v r. go v (decLt v n))
   where
@@ -104,6 +110,14 @@ spliced n xs ys zs lx ly dx dy h = ext-getD 0 xs ys (lx ∙ sym ly) (λ v r. go 
     go v (yes r) = h v r
     go v (no f) = late xs dx v (omega arith) ∙ sym (late ys dy v (omega arith))
 
+pub outcome-one : {o₁ o₂ : Outcome} → o₁ .number ≡ o₂ .number → o₁ .place ≡ o₂ .place → o₁ .selected ≡ o₂ .selected → o₁ .snippets ≡ o₂ .snippets → o₁ ≡ o₂
+outcome-one n p c k i = record { number = n i; place = p i; selected = c i; snippets = k i }
+
+-- a refused call hands back its number and place, and leaves all as it was
+pub refused-one : {r : Refusal} {scratch marks : List ℕ} {o₁ o₂ : Outcome} {scratch₁ marks₁ scratch₂ marks₂ : List ℕ}
+    → Refused r scratch marks o₁ scratch₁ marks₁ → Refused r scratch marks o₂ scratch₂ marks₂ → (o₁ ≡ o₂) × (scratch₁ ≡ scratch₂) × (marks₁ ≡ marks₂)
+refused-one s t = (s .outcome ∙ sym (t .outcome), s .sameScratch ∙ sym (t .sameScratch), s .sameMarks ∙ sym (t .sameMarks))
+
 module _ (Snippets : Tree → Test → ℕ → Type 0) (one : (t : Tree) (T : Test) (n m : ℕ) → Snippets t T n → Snippets t T m → n ≡ m)
     (document rule scratch marks : List ℕ) where
   -- two results by the same contract are one
@@ -114,22 +128,16 @@ module _ (Snippets : Tree → Test → ℕ → Type 0) (one : (t : Tree) (T : Te
     where
       chosen : (ns : List Node) (T : Test) → Selected Snippets ns T scratch marks o₁ scratch₁ marks₁ → Selected Snippets ns T scratch marks o₂ scratch₂ marks₂
           → (o₁ ≡ o₂) × (scratch₁ ≡ scratch₂) × (marks₁ ≡ marks₂)
-      chosen ns T s t =
-          let n = s .number ∙ sym (t .number) in
-          let p = s .place ∙ sym (t .place) in
-          let c = number-one (s .selected) (t .selected) in
-          let k = one _ T (o₁ .snippets) (o₂ .snippets) (s .snippets) (t .snippets) in (
-            (λ i. record { number = n i; place = p i; selected = c i; snippets = k i }),
-            sym (take-append-drop (scratchWords (length ns)) scratch₁) ∙ ap₂ (λ (a b : List ℕ). a ++ b) (s .cleared ∙ sym (t .cleared)) (s .laterWords ∙ sym (t .laterWords)) ∙ take-append-drop (scratchWords (length ns)) scratch₂,
-            spliced (length ns) marks₁ marks₂ marks (s .asManyMarks) (t .asManyMarks) (s .laterMarks) (t .laterMarks)
-                (λ v r. mark-one same (getD marks₁ v 0) (getD marks₂ v 0) (s .marked v r) (t .marked v r)),
-          )
+      chosen ns T s t = (
+        outcome-one (s .number ∙ sym (t .number)) (s .place ∙ sym (t .place)) (number-one (s .selected) (t .selected)) (one _ T (o₁ .snippets) (o₂ .snippets) (s .snippets) (t .snippets)),
+        words-one (scratchWords (length ns)) scratch₁ scratch₂ (s .cleared ∙ sym (t .cleared)) (s .laterWords ∙ sym (t .laterWords)),
+        spliced (length ns) marks₁ marks₂ marks (s .asManyMarks) (t .asManyMarks) (s .laterMarks) (t .laterMarks)
+            (λ v r. mark-one same (getD marks₁ v 0) (getD marks₂ v 0) (s .marked v r) (t .marked v r)),
+      )
 
       go : ((r : Refusal) × First (Ground document rule (length scratch) (length marks)) r) ⊎ ((ns : List Node) × (T : Test) × Accepted document rule (length scratch) (length marks) ns T)
           → (o₁ ≡ o₂) × (scratch₁ ≡ scratch₂) × (marks₁ ≡ marks₂)
-      go (inl (r, f)) =
-          let s = e₁ .refused r f in let t = e₂ .refused r f in
-          (s .outcome ∙ sym (t .outcome), s .sameScratch ∙ sym (t .sameScratch), s .sameMarks ∙ sym (t .sameMarks))
+      go (inl (r, f)) = refused-one (e₁ .refused r f) (e₂ .refused r f)
       go (inr (ns, T, a)) = chosen ns T (e₁ .accepted ns T a) (e₂ .accepted ns T a)
 
 pub plain-one : (t : Tree) (T : Test) (n m : ℕ) → NoSnippets t T n → NoSnippets t T m → n ≡ m

@@ -7,7 +7,7 @@ use lib.ListN.{length}
 use native.Mathlib.Omega.{arith}
 use native.Mathlib.Decide.{decLt}
 use Rattle.limits.specs.Limits.{scratchWords}
-use Rattle.refusals.specs.Refusals.{Refusal, scratchLength, marksLength, stage, Earlier, First}
+use Rattle.refusals.specs.Refusals.{Refusal, scratchLength, marksLength, otherComparison, noSuchNode, stage, Earlier, First}
 use Rattle.refusals.proofs.Refusals.{earlier-irrefl, stage-later}
 use Rattle.xpath.specs.Syntax.{Test}
 use Rattle.document_spec.specs.Library.{Node}
@@ -22,22 +22,22 @@ use Rattle.rule_spec.proofs.Judged.{rule-judged}
 use Rattle.rule_spec.proofs.Accepted as Grammar
 use Rattle.evaluation_spec.specs.Buffers.{BufferGround, fewWords, fewMarks, Ground, Accepted}
 
--- ── The document's grounds come first, then the rule's, then those of the buffers ──
-document-stage : {s : List ℕ} {r : Refusal} → DocumentGround s r → stage r ≤ 2
+-- ── The document's grounds come first, then the rule's, then those of the buffers; what 02 adds comes between and behind ──
+pub document-stage : {s : List ℕ} {r : Refusal} → DocumentGround s r → stage r ≤ 2
 document-stage (DocumentGround.long h) = omega arith
 document-stage (DocumentGround.malformed h) = omega arith
 document-stage (DocumentGround.range h g) = omega arith
 document-stage (DocumentGround.breaks h) = omega arith
 document-stage (DocumentGround.duplicate h) = omega arith
 
-rule-stage : {s : List ℕ} {r : Refusal} → RuleGround s r → (2 < stage r) × (stage r ≤ 6)
+pub rule-stage : {s : List ℕ} {r : Refusal} → RuleGround s r → (2 < stage r) × (stage r < stage otherComparison)
 rule-stage (RuleGround.long h) = omega arith
 rule-stage (RuleGround.unread h) = omega arith
 rule-stage (RuleGround.deep h) = omega arith
 rule-stage (RuleGround.crowded h) = omega arith
 rule-stage (RuleGround.heavy h) = omega arith
 
-buffer-stage : {document : List ℕ} {words marks : ℕ} {r : Refusal} → BufferGround document words marks r → 6 < stage r
+pub buffer-stage : {document : List ℕ} {words marks : ℕ} {r : Refusal} → BufferGround document words marks r → (stage otherComparison < stage r) × (stage r < stage noSuchNode)
 buffer-stage (fewWords a h) = omega arith
 buffer-stage (fewMarks a h) = omega arith
 
@@ -66,7 +66,7 @@ module _ (document rule : List ℕ) (words marks : ℕ) where
 
     module _ (T : Test) (test : Rule.Accepts rule T) where
       -- a ground of an accepted document and rule is one of the buffers'
-      of-buffers : (A : Refusal → Type 0) → ((q : Refusal) → BufferGround document words marks q → A q) → (q : Refusal) → G q → A q
+      pub of-buffers : (A : Refusal → Type 0) → ((q : Refusal) → BufferGround document words marks q → A q) → (q : Refusal) → G q → A q
       of-buffers A f q (inl g) = absurd (Library.accepted-unrefused document ns library q g)
       of-buffers A f q (inr (inl g)) = absurd (Grammar.accepted-unrefused rule test q g)
       of-buffers A f q (inr (inr g)) = f q g
@@ -85,7 +85,7 @@ module _ (document rule : List ℕ) (words marks : ℕ) where
           late q (fewWords {ns = ms} a k) e = let i : scratchWords (length ns) ≡ scratchWords (length ms) = ap (λ (l : List Node). scratchWords (length l)) (Spelled.accepts-one document ns ms library a) in omega arith
           late q (fewMarks a k) e = earlier-irrefl marksLength e
 
-      judge-buffers : Dec (words < scratchWords (length ns)) → Dec (marks < length ns) → ((r : Refusal) × First G r) ⊎ Accepted document rule words marks ns T
+      pub judge-buffers : Dec (words < scratchWords (length ns)) → Dec (marks < length ns) → ((r : Refusal) × First G r) ⊎ Accepted document rule words marks ns T
       judge-buffers (yes h) d = inl (scratchLength, short-scratch h)
       judge-buffers (no f) (yes h) = inl (marksLength, few-marks (omega arith) h)
       judge-buffers (no f) (no g) = inr (record { library = library; test = test; room = omega arith; space = omega arith })

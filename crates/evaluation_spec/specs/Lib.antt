@@ -1,3 +1,4 @@
 pub mod Buffers
 pub mod Evaluation
 pub mod Marked
+pub mod Values

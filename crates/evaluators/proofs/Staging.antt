@@ -6,16 +6,15 @@ use mathlib.Core.Path.{_≡_, subst}
 use mathlib.Core.Logic.{inl, inr, _↔_, ⊎-elim}
 use mathlib.Core.List.{List}
 use Rattle.lists.specs.Text.{binaryDigits}
-use Rattle.xpath.specs.Syntax.{Op, XPath}
+use Rattle.xpath.specs.Syntax.{Op, eq, XPath}
 use Rattle.xpath.specs.Tree.{Tree, WellFormed}
 use Rattle.machine.specs.declared.Machine.{Machine}
-use Rattle.machine.specs.Meaning.{Drawn, RanksTell}
+use Rattle.machine.specs.Meaning.{Drawn}
 use Rattle.machine.proofs.Comparing.{ranks-small}
 use Rattle.rule_parts.specs.Kinds.{operator}
 use Rattle.rule_parts.specs.declared.kinds.Operator.the-variants.{Equal}
 use Rattle.layout.specs.Part.{Space}
 use Rattle.layout.specs.Table.{SmallRanks}
-use Rattle.loops.specs.Loops.{Stage}
 use Rattle.plain.specs.Plain.{Answered}
 use Rattle.plain.proofs.Signs.{equal-sign}
 use Rattle.evaluators.specs.Evaluators.{PartRoom, Posed}
@@ -29,16 +28,11 @@ module _ {P R : XPath} {t : Tree} {n : ℕ} {p : List ℕ} (formed : WellFormed 
 
 -- posed by =
 module _ {q : Op} {P R : XPath} {t : Tree} {m : Machine} {n : ℕ} {p : List ℕ} (posed : Posed q P R t m n p) (e : Equal ≡ operator q) where
-  pub equal-stage : Stage P R t m n p
-  equal-stage = record {
-    formed = posed .formed;
-    machine = posed .machine;
-    drawn = posed .drawn;
-    ranks = subst (λ o. RanksTell o t n p) (equal-sign q e) (posed .ranks);
-  }
+  pub equal-posed : Posed eq P R t m n p
+  equal-posed = subst (λ o. Posed o P R t m n p) (equal-sign q e) posed
 
   pub equal-small : SmallRanks n p
-  equal-small = ranks-small t p (equal-stage .ranks)
+  equal-small = ranks-small t p (equal-posed .ranks)
 
 -- the same answers to the same question
 pub answered-as : {n : ℕ} {A B : ℕ → Type 0} {p p′ : List ℕ} → ((v : ℕ) → v < n → A v ↔ B v) → Answered n A p p′ → Answered n B p p′

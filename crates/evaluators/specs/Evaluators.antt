@@ -3,12 +3,14 @@ use Prim.Native.Nat.{ℕ, _+_, _*_, _≤_}
 use mathlib.Core.Path.{_≡_}
 use mathlib.Core.List.{List}
 use lib.ListN.{length}
+use Rattle.lists.specs.Lists.{Number}
 use Rattle.lists.specs.Text.{binaryDigits}
 use Rattle.limits.specs.Limits.{wordsPerDigit, partWords}
 use Rattle.xpath.specs.Syntax.{Op, Test, XPath, empty, compare, compareTo}
 use Rattle.xpath.specs.Tree.{Tree, WellFormed}
 use Rattle.xpath.specs.Meaning.{Holds}
 use Rattle.snippets.specs.Count.{Counted}
+use Rattle.snippets.specs.Values.{SettlesBy, IsSnippetBy}
 use Rattle.rule_parts.specs.Kinds.{operator}
 use Rattle.rule_parts.specs.declared.kinds.Operator.{Operator}
 use Rattle.test_numbers.specs.Owned.{own}
@@ -52,6 +54,11 @@ Adds Snippets t T r = Counted t (own T) r
 pub record Compared (e : Evaluator) (t : Tree) (o : Op) (P R : XPath) (n : ℕ) (p p′ : List ℕ) (r : ℕ) : Type 0 where
   pub answered : Answered n (Holds t (compare o P R)) p p′
   pub adds : Adds e t (compare o P R) r
+
+-- an equality by the values in a list of nodes: what these yield is counted, and the answers are what it settles
+pub record ComparedBy (vs : List ℕ) (t : Tree) (P R : XPath) (n : ℕ) (p p′ : List ℕ) (r : ℕ) : Type 0 where
+  pub answered : Answered n (SettlesBy t vs P R) p p′
+  pub count : Number (IsSnippetBy t vs (record { first = P; second = R })) r
 
 -- the same with a constant
 abbrev pub Hit : Machine → ℕ → List ℕ → List ℕ → Type 0

@@ -1,1 +1,2 @@
 pub mod Evaluators
+pub mod Powered

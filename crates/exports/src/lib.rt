@@ -6,6 +6,7 @@ ghost use Rattle.evaluation.specs.Outcomes.{outcomeOf};
 ghost use Rattle.rule_spec.specs.Verdict as Grammar;
 ghost use Rattle.document_spec.specs.Verdict.{Checked};
 ghost use Rattle.evaluation_spec.specs.Evaluation.{PlainEvaluation, SnippetEvaluation};
+ghost use Rattle.evaluation_spec.specs.Values.{ValuesEvaluation};
 
 // Judges a document by numbers 1 to 4 and 14.
 #[no_mangle]
@@ -47,4 +48,18 @@ pub extern "C" fn yurzhoad_evaluate_snippets(
     ensures { λ r. ⌜ SnippetEvaluation (now (document .entry)) (now (rule .entry)) (now (scratch .entry)) (now (marks .entry)) (outcomeOf r) (now (scratch .exit)) (now (marks .exit)) ⌝ }
 {
     evaluation::evaluate_snippets(document, rule, scratch, marks)
+}
+
+// The same for a rule that is an equality between two paths, by the values of the nodes in a list alone; also refused by number 23, and by number 13.
+#[no_mangle]
+pub extern "C" fn yurzhoad_evaluate_values(
+    document: &[u8],
+    rule: &[u8],
+    values: &[u16],
+    scratch: &mut [u16],
+    marks: &mut [u8],
+) -> Evaluation
+    ensures { λ r. ⌜ ValuesEvaluation (now (document .entry)) (now (rule .entry)) (now (values .entry)) (now (scratch .entry)) (now (marks .entry)) (outcomeOf r) (now (scratch .exit)) (now (marks .exit)) ⌝ }
+{
+    evaluation::values::evaluate_values(document, rule, values, scratch, marks)
 }

@@ -13,7 +13,6 @@ use Rattle.snippets.specs.Direct.{Direct}
 use Rattle.snippets.proofs.Marks.{skeleton-inside}
 use Rattle.snippets.proofs.Direct.{direct-iff}
 use Rattle.layout.specs.Groups.{FIRST, NEXT, MARKED}
-use Rattle.layout.specs.Part.{STAYS}
 use Rattle.layout.specs.Table.{RANK}
 use Rattle.layout.specs.Words.{word}
 use Rattle.table.specs.Links.{Points}
@@ -65,21 +64,16 @@ group-added {m} {n} {b} {first} {r} {p} {p₁} {p₂} {p₃} g u s = record {
     up = rest-within (omega arith) (u .within)
 
 -- ── The nodes by rank ──
--- all but the buckets
-pub base-by : {m : Machine} {c n b : ℕ} {p p′ : List ℕ} → Rest c n b p p′ → STAYS < c → Buckets n p′ → Base m n b p → Base m n b p′
-base-by h l buckets s = record {
+pub base-rest : {m : Machine} {n b : ℕ} {p p′ : List ℕ} → Rest MARKED n b p p′ → Base m n b p → Base m n b p′
+base-rest h s = record {
   first = s .first;
   second = s .second;
   tree = s .tree;
-  founded = founded-rest h l (s .founded);
-  buckets = buckets;
+  founded = founded-rest h (omega arith) (s .founded);
+  buckets = buckets-kept (λ v l. same-word h RANK v (omega arith) l) (λ r l. same-word h FIRST r (omega arith) l) (λ v l. same-word h NEXT v (omega arith) l) (s .buckets);
   enough = s .enough;
   sizes = sizes-rest h (s .sizes);
 }
-
-pub base-rest : {m : Machine} {n b : ℕ} {p p′ : List ℕ} → Rest MARKED n b p p′ → Base m n b p → Base m n b p′
-base-rest h s =
-    base-by h (omega arith) (buckets-kept (λ v l. same-word h RANK v (omega arith) l) (λ r l. same-word h FIRST r (omega arith) l) (λ v l. same-word h NEXT v (omega arith) l) (s .buckets)) s
 
 module _ {n r w : ℕ} {p : List ℕ} (buckets : Buckets n p) (few : n ≤ 4096) (rank : r < n) (first : w ≡ word p n FIRST r) where
   here : Points (Least n p 0 r) w

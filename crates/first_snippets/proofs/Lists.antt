@@ -1,96 +1,89 @@
--- The values of a list, one after the other; and the list of all.
-use Prim.Native.Nat.{ℕ, _+_, _<_}
-use mathlib.Core.Path.{_≡_, sym, ap, _∙_, subst}
-use mathlib.Core.Logic.{_⊎_, inl, inr}
-use mathlib.Core.List.{List, [], _∷_}
-use native.Mathlib.Decide.{ℕ-discrete}
-use native.Mathlib.Nat.{eq-or-lt-of-le}
+-- The values of the nodes in a list, one after the other.
+use Prim.Native.Nat.{ℕ, _+_, _≤_, _<_}
+use mathlib.Core.Path.{_≡_, refl, sym, ap, _∙_, subst}
+use mathlib.Core.Logic.{_⊎_, inl, inr, _↔_}
+use mathlib.Core.List.{List, [], _∷_, _++_}
+use lib.ListN.{length, getD, take}
+use lib.Seq.{take-suc, take-all}
+use native.Mathlib.Numerals.{add-one}
 use native.Mathlib.Omega.{arith}
+use Rattle.lists.specs.Lists.{All, Occurs}
+use Rattle.lists.proofs.Lists.{all-occurs, occurs-left, occurs-right, occurs-append}
+use Rattle.lists.proofs.Indices.{at-all}
 use Rattle.xpath.specs.Syntax.{XPath}
 use Rattle.xpath.specs.Tree.{Tree}
 use Rattle.snippets.specs.Direct.{Direct}
-use Rattle.snippets.proofs.Direct.{direct-iff}
-use Rattle.layout.specs.Groups.{FIRST, NEXT, LIST}
+use Rattle.snippets.specs.Values.{DirectBy}
 use Rattle.layout.specs.Table.{RANK}
-use Rattle.layout.specs.Words.{cell, word, Wrote}
-use Rattle.layout.proofs.Frames.{within-none, within-then, within-put}
+use Rattle.layout.specs.Words.{word}
+use Rattle.layout.proofs.Rest.{same-word}
 use Rattle.machine.specs.declared.Machine.{Machine}
-use Rattle.machine.proofs.Comparing.{ranks-small}
+use Rattle.machine.proofs.Comparing.{ranks-small, ranks-same}
 use Rattle.powers.specs.Powers.{Founded}
-use Rattle.layout.specs.Blocks.{Rest}
-use Rattle.first_snippets.specs.Groups.{Base, OfRanks, AddedOf, Listed, Listing, AddedAll}
-use Rattle.first_snippets.specs.Steps.{Ranged}
-use Rattle.layout.proofs.Rest.{rest-then, rest-more, rest-within, same-word}
-use Rattle.powers.proofs.Rest.{founded-rest}
-use Rattle.edge_snippets.proofs.Gains.{gains-iff, gains-before}
-use Rattle.buckets.proofs.Least.{buckets-kept}
-use Rattle.first_snippets.proofs.Adding.{base-by, added-none, added-then}
+use Rattle.edge_snippets.proofs.Gains.{gains-iff}
+use Rattle.first_snippets.specs.Groups.{Base, OfRanks, AddedOf, RankIn, AddedBy}
+use Rattle.first_snippets.proofs.Adding.{added-none, added-then}
 
--- ── The list of all ranks ──
-pub ranged-none : (n : ℕ) (p : List ℕ) → Ranged n 0 p p
-ranged-none n p = record { inside = omega arith; within = within-none p; entries = λ i h. absurd (omega arith) }
+-- ── Nodes of the list ──
+pub node-at : {n : ℕ} (vs : List ℕ) → All (λ w. w < n) vs → (i : ℕ) → i < length vs → getD vs i 0 < n
+node-at {n} vs = at-all 0 (λ w. w < n) vs
 
-pub ranged-step : {n k : ℕ} {p₀ p p′ : List ℕ} → Ranged n k p₀ p → k < n → Wrote ((cell n LIST k, k) ∷ []) p p′ → Ranged n (k + 1) p₀ p′
-ranged-step {n} {k} {p₀} {p} {p′} f l w =
-    record { inside = omega arith; within = within-then (f .within) (within-put (omega arith) (omega arith) l w); entries = λ i h. go i h (ℕ-discrete i k) }
+pub rank-at : {m : Machine} {n b r : ℕ} {p : List ℕ} (vs : List ℕ) → Base m n b p → All (λ w. w < n) vs → (i : ℕ) → i < length vs → r ≡ word p n RANK (getD vs i 0) → r < n
+rank-at {p = p} vs o nodes i l e = let small = ranks-small (o .tree) p (o .founded .stage .ranks) (getD vs i 0) (node-at vs nodes i l) in omega arith
+
+-- the rank z is that of u, or of a node before it
+rank-more : (vs : List ℕ) (u n : ℕ) (p : List ℕ) (z : ℕ) → (RankIn vs n p z ⊎ (z ≡ word p n RANK u)) ↔ RankIn (vs ++ (u ∷ [])) n p z
+rank-more vs u n p z = (to, λ (w, o, e). from w e (occurs-append w vs (u ∷ []) o))
   where
-    go : (i : ℕ) → i < k + 1 → Dec (i ≡ k) → word p′ n LIST i ≡ i
-    go i h (yes e) = ap (λ (x : ℕ). word p′ n LIST x) e ∙ w .here .0 ∙ sym e
-    go i h (no d) = w .other (cell n LIST i) (omega arith, tt) ∙ f .entries i (omega arith)
+    to : RankIn vs n p z ⊎ (z ≡ word p n RANK u) → RankIn (vs ++ (u ∷ [])) n p z
+    to (inl (w, o, e)) = (w, occurs-left w vs (u ∷ []) o, e)
+    to (inr e) = (u, occurs-right u vs (u ∷ []) (inl refl), sym e)
 
-pub ranged-listing : {n : ℕ} {p p′ : List ℕ} → Ranged n n p p′ → Listing n n p′
-ranged-listing f = record { few = omega arith; ranks = λ i h. let e = f .entries i h in omega arith }
+    from : (w : ℕ) → word p n RANK w ≡ z → Occurs w vs ⊎ Occurs w (u ∷ []) → RankIn vs n p z ⊎ (z ≡ word p n RANK u)
+    from w e (inl o) = inl (w, o, e)
+    from w e (inr (inl o)) = inr (sym e ∙ ap (λ (x : ℕ). word p n RANK x) o)
+    from w e (inr (inr o)) = absurd o
 
-pub ranged-base : {m : Machine} {n b : ℕ} {p p′ : List ℕ} → Ranged n n p p′ → Base m n b p → Base m n b p′
-ranged-base {n = n} {b} {p} {p′} f s =
-    base-by rest (omega arith) (buckets-kept (λ v l. same-word rest RANK v (omega arith) l) (λ r l. f .within .behind (cell n FIRST r) (omega arith)) (λ v l. f .within .behind (cell n NEXT v) (omega arith)) (s .buckets)) s
+-- ── One node after the other ──
+-- the first i nodes are taken
+pub record Taking (vs : List ℕ) (i : ℕ) (m : Machine) (n b first : ℕ) (p p′ : List ℕ) : Type 0 where
+  pub inside : i ≤ length vs
+  pub added : AddedOf (RankIn (take i vs) n p) m n b first p p′
+
+module _ {vs : List ℕ} {m : Machine} {n b first : ℕ} where
+  pub taking-none : (p : List ℕ) → Taking vs 0 m n b first p p
+  taking-none p = record { inside = omega arith; added = added-none p (λ z (w, o, e). o) }
+
+  pub taking-step : {i r : ℕ} {p p₁ p₂ : List ℕ} → All (λ w. w < n) vs → i < length vs → r ≡ word p₁ n RANK (getD vs i 0)
+      → Taking vs i m n b first p p₁ → AddedOf (λ z. z ≡ r) m n b first p₁ p₂ → Taking vs (i + 1) m n b first p p₂
+  taking-step {i} {r} {p} {p₁} {p₂} nodes l e g h = record { inside = omega arith; added = subst (λ (ws : List ℕ). AddedOf (RankIn ws n p) m n b first p p₂) next (added-then (g .added) h more) }
+    where
+      u : ℕ
+      u = getD vs i 0
+
+      same : r ≡ word p n RANK u
+      same = e ∙ same-word (g .added .rest) RANK u (omega arith) (node-at vs nodes i l)
+
+      more : (z : ℕ) → (RankIn (take i vs) n p z ⊎ (z ≡ r)) ↔ RankIn (take i vs ++ (u ∷ [])) n p z
+      more z = subst (λ (x : ℕ). (RankIn (take i vs) n p z ⊎ (z ≡ x)) ↔ RankIn (take i vs ++ (u ∷ [])) n p z) (sym same) (rank-more (take i vs) u n p z)
+
+      next : take i vs ++ (u ∷ []) ≡ take (i + 1) vs
+      next = rw add-one (sym (take-suc vs i 0 l))
+
+-- ── The whole list ──
+-- nodes of equal rank have the same value
+ranks-direct : (vs : List ℕ) {P R : XPath} {t : Tree} {m : Machine} {n b : ℕ} {p : List ℕ} → All (λ w. w < n) vs → Founded P R t m n b p
+    → (k x y i j : ℕ) → OfRanks (RankIn vs n p) P R t n p k x y i j ↔ DirectBy t vs P R k x y i j
+ranks-direct vs {P} {R} {t} {n = n} {p = p} nodes f k x y i j = (
+  λ (w, node, (u, o, e), g). (t .value w, (u, o, ranks-same t p (f .stage .ranks) u w (inside u o) node .0 e), g),
+  λ (d, (u, o, e), g). (u, inside u o, (u, o, refl), subst (λ (d : List ℕ). Direct t P R d k x y i j) (sym e) g),
+)
   where
-    rest : Rest LIST n b p p′
-    rest = rest-within (omega arith) (f .within)
+    inside : (u : ℕ) → Occurs u vs → u < n
+    inside = all-occurs (λ w. w < n) vs .0 nodes
 
--- ── One entry after the other ──
-module _ {m : Machine} {n b first : ℕ} where
-  pub listed-none : (p : List ℕ) → AddedOf (Listed n 0 p) m n b first p p
-  listed-none p = added-none p (λ z (i, h, e). let f : ⊥ = omega arith in f)
-
-  pub listed-step : {i r : ℕ} {p p₁ p₂ : List ℕ} → i < n → r ≡ word p₁ n LIST i → AddedOf (Listed n i p) m n b first p p₁ → AddedOf (λ z. z ≡ r) m n b first p₁ p₂ → AddedOf (Listed n (i + 1) p) m n b first p p₂
-  listed-step {i} {r} {p} l e g h = added-then g h (λ z. (to z, from z))
-    where
-      same : r ≡ word p n LIST i
-      same = e ∙ same-word (g .rest) LIST i (omega arith) l
-
-      to : (z : ℕ) → Listed n i p z ⊎ (z ≡ r) → Listed n (i + 1) p z
-      to z (inl (j, a, q)) = (j, omega arith, q)
-      to z (inr q) = (i, omega arith, sym same ∙ sym q)
-
-      from : (z : ℕ) → Listed n (i + 1) p z → Listed n i p z ⊎ (z ≡ r)
-      from z (j, a, q) = go (eq-or-lt-of-le (omega arith))
-        where
-          go : (j ≡ i) ⊎ (j < i) → Listed n i p z ⊎ (z ≡ r)
-          go (inl o) = inr (sym q ∙ ap (λ (x : ℕ). word p n LIST x) o ∙ sym same)
-          go (inr o) = inl (j, o, q)
-
-  -- ── The whole list ──
-  -- each value that yields anything is that of a node
-  pub ranged-all : {p p₁ p₂ : List ℕ} → Ranged n n p p₁ → AddedOf (Listed n n p₁) m n b first p₁ p₂ → AddedAll m n b first p p₂
-  ranged-all {p} {p₁} {p₂} f h = record {
-    rest = rest-then rest (rest-more (omega arith) (h .rest));
-    found = λ P R t founded split.
-        let founded₁ = founded-rest rest (omega arith) founded in
-        gains-before (λ l q. f .within .behind l (omega arith))
-        (gains-iff (λ k x y i j _ _ _ _ _. ((λ (w, node, e, g). (t .value w, g)), from P R t founded₁ k x y i j)) (h .found P R t founded₁ split));
-  }
-    where
-      rest : Rest LIST n b p p₁
-      rest = rest-within (omega arith) (f .within)
-
-      from : (P R : XPath) (t : Tree) → Founded P R t m n b p₁ → (k x y i j : ℕ) → (d : List ℕ) × Direct t P R d k x y i j → OfRanks (Listed n n p₁) P R t n p₁ k x y i j
-      from P R t founded k x y i j (d, g) =
-          let (a, z, q, edge, lo, hi, s) = direct-iff t P R d k x y i j .0 g in
-          let has = edge .top .hasU in
-          let u = edge .top .u in
-          let low = has .inside in
-          let e = founded .stage .drawn .size in
-          let node : u < n = omega arith in
-          let small = ranks-small t p₁ (founded .stage .ranks) u node in
-          (u, node, (word p₁ n RANK u, small, f .entries (word p₁ n RANK u) small), subst (λ (d : List ℕ). Direct t P R d k x y i j) (sym (has .value)) g)
+pub taking-all : {vs : List ℕ} {i : ℕ} {m : Machine} {n b first : ℕ} {p p′ : List ℕ} → All (λ w. w < n) vs → length vs ≤ i → Taking vs i m n b first p p′ → AddedBy vs m n b first p p′
+taking-all {vs} {i} {m} {n} {b} {first} {p} {p′} nodes l g = record { rest = h .rest; found = λ P R t f split. gains-iff (λ k x y i j _ _ _ _ _. ranks-direct vs nodes f k x y i j) (h .found P R t f split) }
+  where
+    h : AddedOf (RankIn vs n p) m n b first p p′
+    h = subst (λ (ws : List ℕ). AddedOf (RankIn ws n p) m n b first p p′) (take-all i vs l) (g .added)

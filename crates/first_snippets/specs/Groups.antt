@@ -1,13 +1,15 @@
 -- What the first snippets of one value yield directly, in the columns and the rows of a comparison's part.
-use Prim.Native.Nat.{ℕ, _≤_, _<_}
+use Prim.Native.Nat.{ℕ, _<_}
 use mathlib.Core.Path.{_≡_}
 use mathlib.Core.List.{List}
+use Rattle.lists.specs.Lists.{Occurs}
 use Rattle.xpath.specs.Syntax.{XPath}
 use Rattle.xpath.specs.Tree.{Tree}
 use Rattle.snippets.specs.Snippets.{Skeleton, Edge}
 use Rattle.snippets.specs.Ways.{Above}
 use Rattle.snippets.specs.Direct.{Direct}
-use Rattle.layout.specs.Groups.{MARKED, LIST, ABOVE}
+use Rattle.snippets.specs.Values.{DirectBy}
+use Rattle.layout.specs.Groups.{MARKED, ABOVE}
 use Rattle.layout.specs.Table.{RANK}
 use Rattle.layout.specs.Words.{word}
 use Rattle.machine.specs.declared.Machine.{Machine}
@@ -65,20 +67,14 @@ pub record AddedOf (S : ℕ → Type 0) (m : Machine) (n b first : ℕ) (p p′ 
   pub found : (P R : XPath) (t : Tree) → Founded P R t m n b p → OfFirst P first → Gains t n b (OfRanks S P R t n p) p p′
 
 -- ── A list of values ──
--- the rank z is among the first c entries of the list
-abbrev pub Listed : ℕ → ℕ → List ℕ → ℕ → Type 0
-Listed n c p z = (i : ℕ) × (i < c) × (word p n LIST i ≡ z)
+-- the rank z is that of a node in the list
+abbrev pub RankIn : List ℕ → ℕ → List ℕ → ℕ → Type 0
+RankIn vs n p z = (w : ℕ) × Occurs w vs × (word p n RANK w ≡ z)
 
--- the first c entries are ranks
-pub record Listing (n c : ℕ) (p : List ℕ) : Type 0 where
-  pub few : c ≤ n
-  pub ranks : (i : ℕ) → i < c → word p n LIST i < n
-
--- the rows have what the first snippets of all values yield; the columns before that of the list stay
-pub record AddedAll (m : Machine) (n b first : ℕ) (p p′ : List ℕ) : Type 0 where
-  pub rest : Rest LIST n b p p′
-  pub found : (P R : XPath) (t : Tree) → Founded P R t m n b p → OfFirst P first
-      → Gains t n b (λ k x y i j. (d : List ℕ) × Direct t P R d k x y i j) p p′
+-- the rows have what the first snippets of the values in the list yield
+pub record AddedBy (vs : List ℕ) (m : Machine) (n b first : ℕ) (p p′ : List ℕ) : Type 0 where
+  pub rest : Rest MARKED n b p p′
+  pub found : (P R : XPath) (t : Tree) → Founded P R t m n b p → OfFirst P first → Gains t n b (DirectBy t vs P R) p p′
 
 -- some node has the rank r
 abbrev pub Somewhere : ℕ → ℕ → List ℕ → Type 0

@@ -1,24 +1,15 @@
--- What the single steps write: the list of the values, and a node's positions from above with the rows of the edge above it.
-use Prim.Native.Nat.{ℕ, suc, _≤_, _<_}
-use mathlib.Core.Path.{_≡_}
+-- What the single steps write: a node's positions from above, with the rows of the edge above it.
+use Prim.Native.Nat.{ℕ, suc, _<_}
 use mathlib.Core.List.{List}
 use Rattle.xpath.specs.Syntax.{XPath}
 use Rattle.xpath.specs.Tree.{Tree}
 use Rattle.snippets.specs.Snippets.{Skeleton}
-use Rattle.layout.specs.Groups.{LIST, ABOVE}
-use Rattle.layout.specs.Words.{word, Within}
+use Rattle.layout.specs.Groups.{ABOVE}
 use Rattle.machine.specs.declared.Machine.{Machine}
 use Rattle.group_ends.specs.Ends.{Setting, Risen}
 use Rattle.layout.specs.Blocks.{Rest}
 use Rattle.edge_snippets.specs.Edges.{OfFirst, Gains}
 use Rattle.first_snippets.specs.Groups.{Yields, Sunk}
-
--- ── The list ──
--- its first k entries are the ranks below k
-pub record Ranged (n k : ℕ) (p p′ : List ℕ) : Type 0 where
-  pub inside : k ≤ n
-  pub within : Within n LIST (suc LIST) p p′
-  pub entries : (i : ℕ) → i < k → word p′ n LIST i ≡ i
 
 -- ── From above ──
 -- node v has its positions from above, and the edge above it is in the rows

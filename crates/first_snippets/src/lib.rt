@@ -1,21 +1,21 @@
 // The snippets that the first snippets of one value yield directly: added to the snippets' rows of a comparison's part, for one group of nodes of equal value after the other.
-mod listing;
 mod sinking;
 
 use group_ends::rising::rise;
 use group_marks::marks::mark_group;
 use layout::Groups;
+use layout::Table;
 use layout::words::get;
-use listing::list_ranks;
 use machine::Machine;
 use sinking::sink;
 ghost use mathlib.Core.Path.{_≡_};
 ghost use mathlib.Core.Bool.{true, false};
 ghost use Prim.Native.Nat.{_≤_, _<_};
+ghost use Rattle.lists.specs.Lists.{All};
 ghost use Rattle.limits.specs.Limits.{documentNodes};
 ghost use Rattle.layout.specs.Table.{Room};
 ghost use Rattle.buckets.specs.Buckets.{Buckets};
-ghost use Rattle.first_snippets.specs.Groups.{Base, Grounds, Added, Listed, Listing, AddedOf, AddedAll, Somewhere, Alone};
+ghost use Rattle.first_snippets.specs.Groups.{Base, Grounds, Added, AddedOf, AddedBy, Somewhere, Alone};
 
 // What the first snippets of the value of rank `r` yield. The members of `first` are the positions of the first path.
 pub fn add_group(p: &mut [u16], n: usize, b: usize, m: Machine, first: u16, r: usize)
@@ -49,24 +49,15 @@ fn add_rank(p: &mut [u16], n: usize, b: usize, m: Machine, first: u16, r: usize)
     }
 }
 
-// What the first snippets of the values yield whose ranks are the first `count` entries of the list, in any order. What two of them yield is in the rows once.
-pub fn add_list(p: &mut [u16], n: usize, b: usize, m: Machine, first: u16, count: usize)
-    requires { ⌜ Base m n b (now p) × Listing n count (now p) ⌝ }
-    ensures { λ _. ⌜ AddedOf (Listed n count (now (p .entry))) m n b first (now (p .entry)) (now (p .exit)) ⌝ }
+// What the first snippets of the values of the nodes in the list yield, in any order. What two of them yield is in the rows once.
+pub fn add_values(p: &mut [u16], n: usize, b: usize, m: Machine, first: u16, values: &[u16])
+    requires { ⌜ Base m n b (now p) × All (λ w. w < n) (now values) ⌝ }
+    ensures { λ _. ⌜ AddedBy (now (values .entry)) m n b first (now (p .entry)) (now (p .exit)) ⌝ }
 {
-    let mut i = 0;
-    while i < count {
-        let r = get(p, n, Groups::LIST, i);
+    let mut i: usize = 0;
+    while i < values.len() {
+        let r = get(p, n, Table::RANK, values[i] as usize);
         add_rank(p, n, b, m, first, r);
         i += 1;
     }
-}
-
-// What the first snippets of all values yield.
-pub fn add_groups(p: &mut [u16], n: usize, b: usize, m: Machine, first: u16)
-    requires { ⌜ Base m n b (now p) ⌝ }
-    ensures { λ _. ⌜ AddedAll m n b first (now (p .entry)) (now (p .exit)) ⌝ }
-{
-    list_ranks(p, n);
-    add_list(p, n, b, m, first, n);
 }

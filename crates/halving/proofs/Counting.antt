@@ -13,11 +13,12 @@ use Rattle.lists.proofs.Lists.{number-none, number-single, number-iff, number-s
 use Rattle.bits.specs.Sets.{bit, one, size}
 use Rattle.xpath.specs.Tree.{Tree, WellFormed, Down}
 use Rattle.snippets.specs.Count.{Snippet}
+use Rattle.snippets.specs.Halves.{Family}
 use Rattle.matrices.specs.Matrices.{Related, pairs}
 use Rattle.matrices.proofs.Pairs.{pairs-le}
 use Rattle.layout.specs.Blocks.{BLOCKS, snippetAt}
 use Rattle.powers.proofs.Ancestors.{one-above}
-use Rattle.halving.specs.Halving.{Family, Within, Sets, Marked, Topped, Belongs, Counts}
+use Rattle.halving.specs.Halving.{Within, Sets, Marked, Topped, Belongs, Counts}
 use Rattle.halving.proofs.Families.{dec-above, sets-topped, sets-marked}
 
 -- the ones in the snippets of the first m blocks

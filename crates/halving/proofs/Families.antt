@@ -1,5 +1,5 @@
 -- Sets of snippets and their words, and what halving makes of a set.
-use Prim.Native.Nat.{ℕ, zero, suc, _+_, _^_, _≤_, _<_}
+use Prim.Native.Nat.{ℕ, zero, suc, _+_, _^_, _<_}
 use mathlib.Core.Path.{_≡_, sym, ap, _∙_, subst}
 use mathlib.Core.Bool.{false≢true}
 use mathlib.Core.Logic.{_↔_}
@@ -9,15 +9,14 @@ use native.Mathlib.Decide.{decLt}
 use lib.ListN.{getD}
 use Rattle.bits.specs.Sets.{bit}
 use Rattle.bits.proofs.SetLaws.{bit-none}
-use Rattle.xpath.specs.Syntax.{XPath, size}
+use Rattle.xpath.specs.Syntax.{XPath}
 use Rattle.xpath.specs.Tree.{Tree, WellFormed, Down, here, deeper}
 use Rattle.xpath.proofs.Trees.{parent-of}
-use Rattle.positions.specs.Positions.{Comes}
-use Rattle.snippets.specs.Snippets.{First, Yielded}
+use Rattle.snippets.specs.Halves.{Family, Halved, direct, upperHalf, lowerHalf}
 use Rattle.matrices.specs.Matrices.{Related}
 use Rattle.layout.specs.Blocks.{snippetAt}
 use Rattle.powers.proofs.Ancestors.{one-above}
-use Rattle.halving.specs.Halving.{Family, Inside, Within, Sets, Marked, Topped, Halved, direct, upperHalf, lowerHalf}
+use Rattle.halving.specs.Halving.{Inside, Within, Sets, Marked, Topped}
 
 -- ── Whether a node lies so far above another ──
 step-up : {t : Tree} {x y m : ℕ} → Down t x y (suc m) → (0 < y) × (y < t .size) × Down t x (t .parent y) m
@@ -80,18 +79,3 @@ module _ {P R : XPath} {t : Tree} where
   halved-below f (direct d) = f _ _ _ _ _ d
   halved-below f (upperHalf h a c e) = let r = halved-below f h in omega arith
   halved-below f (lowerHalf h a c e) = let r = halved-below f h in omega arith
-
--- if D has just what the first snippets yield, D and its halves are all that is yielded
-module _ {P R : XPath} {t : Tree} {D : Family} where
-  pub halved-yielded : ((k x y p q : ℕ) → D k x y p q → Yielded t P R k x y p q) → {k x y p q : ℕ} → Halved P R t D k x y p q → Yielded t P R k x y p q
-  halved-yielded f (direct d) = f _ _ _ _ _ d
-  halved-yielded f (upperHalf h a c e) = Yielded.upperHalf (halved-yielded f h) a c e
-  halved-yielded f (lowerHalf h a c e) = Yielded.lowerHalf (halved-yielded f h) a c e
-
-  pub yielded-halved : ((k n l x u y p q′ q : ℕ) → First t P R x y p q n → 2 ^ k ≤ n → n < 2 ^ suc k → Down t x u (2 ^ k) → Down t u y l → Comes P R t q′ u q y → D k x u p q′)
-      → ((k n l x w y p p′ q : ℕ) → First t P R x y p q n → 2 ^ k ≤ n → n < 2 ^ suc k → Down t x w l → Down t w y (2 ^ k) → Comes P R t p′ w p x → D k w y p′ q)
-      → {k x y p q : ℕ} → Yielded t P R k x y p q → Halved P R t D k x y p q
-  yielded-halved u l (Yielded.upper f a c d e g) = direct (u _ _ _ _ _ _ _ _ _ f a c d e g)
-  yielded-halved u l (Yielded.lower f a c d e g) = direct (l _ _ _ _ _ _ _ _ _ f a c d e g)
-  yielded-halved u l (Yielded.upperHalf h a c e) = upperHalf (yielded-halved u l h) a c e
-  yielded-halved u l (Yielded.lowerHalf h a c e) = lowerHalf (yielded-halved u l h) a c e

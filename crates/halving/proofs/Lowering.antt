@@ -12,6 +12,7 @@ use Rattle.bits.specs.Sets.{bit}
 use Rattle.xpath.specs.Syntax.{XPath, size}
 use Rattle.xpath.specs.Tree.{Tree, WellFormed, Down}
 use Rattle.xpath.proofs.Trees.{down-le}
+use Rattle.snippets.specs.Halves.{Family, Halved, direct, upperHalf, lowerHalf}
 use Rattle.snippets.proofs.Counting.{down-inside}
 use Rattle.snippets.proofs.Edges.{comes-few}
 use Rattle.table.specs.Links.{Points}
@@ -23,7 +24,7 @@ use Rattle.powers.specs.Powers.{Power, Powers}
 use Rattle.powers.proofs.Kept.{power-kept}
 use Rattle.powers.proofs.Ancestors.{one-above, power-join, power-over}
 use Rattle.powers.proofs.Doubling.{upper-near}
-use Rattle.halving.specs.Halving.{Family, Marked, Halved, direct, upperHalf, lowerHalf, Prepared, Halving}
+use Rattle.halving.specs.Halving.{Marked, Prepared, Halving}
 use Rattle.halving.specs.Passes.{middle, Hands, upper, lower, Grown, Handed}
 use Rattle.halving.proofs.Blocks.{upper-apart, power-apart}
 use Rattle.halving.proofs.Families.{topped-sets, halved-below}

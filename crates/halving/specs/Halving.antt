@@ -1,5 +1,5 @@
 -- A set of snippets of all powers, as it stands in the blocks: what it grows to by halving, and how many snippets it has.
-use Prim.Native.Nat.{ℕ, suc, _+_, _^_, _≤_, _<_}
+use Prim.Native.Nat.{ℕ, _+_, _^_, _≤_, _<_}
 use mathlib.Core.Path.{_≡_}
 use mathlib.Core.Logic.{_↔_}
 use mathlib.Core.List.{List}
@@ -7,16 +7,12 @@ use Rattle.lists.specs.Lists.{Number}
 use Rattle.limits.specs.Limits.{positions, comparisonSteps}
 use Rattle.xpath.specs.Syntax.{XPath, size}
 use Rattle.xpath.specs.Tree.{Tree, WellFormed, Down}
-use Rattle.positions.specs.Positions.{Comes}
 use Rattle.snippets.specs.Count.{Snippet}
+use Rattle.snippets.specs.Halves.{Family, Halved}
 use Rattle.matrices.specs.Matrices.{Related}
 use Rattle.layout.specs.Blocks.{snippetAt, Aside}
 use Rattle.layout.specs.Words.{Same}
 use Rattle.powers.specs.Powers.{Powers}
-
--- S k x y i j: the snippet (x, y, i, j) of power k is in S
-abbrev pub Family : Type 1
-Family = ℕ → ℕ → ℕ → ℕ → ℕ → Type 0
 
 -- ── A set and its words ──
 module _ (t : Tree) (n b : ℕ) where
@@ -48,14 +44,6 @@ module _ (t : Tree) (n b : ℕ) where
       pub top : (k y i j : ℕ) → k < b → y < n → i < positions → j < positions → Related p (snippetAt n k y) i j → (x : ℕ) × Down t x y (2 ^ k)
 
 -- ── Halving ──
--- D, and all that is yielded by halving: the last two rules of `Yielded`
-pub data Halved (P R : XPath) (t : Tree) (D : Family) : ℕ → ℕ → ℕ → ℕ → ℕ → Type 0 where
-  direct : {k x y p q : ℕ} → D k x y p q → Halved P R t D k x y p q
-  upperHalf : {k x h y p q′ q : ℕ} → Halved P R t D (suc k) x y p q
-      → Down t x h (2 ^ k) → Down t h y (2 ^ k) → Comes P R t q′ h q y → Halved P R t D k x h p q′
-  lowerHalf : {k x h y p p′ q : ℕ} → Halved P R t D (suc k) x y p q
-      → Down t x h (2 ^ k) → Down t h y (2 ^ k) → Comes P R t p′ h p x → Halved P R t D k h y p′ q
-
 -- p holds the powers of a tree of n nodes for two paths, and snippets of it
 pub record Prepared (P R : XPath) (t : Tree) (n b : ℕ) (p : List ℕ) : Type 0 where
   pub formed : WellFormed t

@@ -5,10 +5,6 @@ use Prim.Native.Nat.{ℕ}
 abbrev pub LEVEL : ℕ
 LEVEL = 8
 
--- the ranks of the values to be taken, one behind the other
-abbrev pub LIST : ℕ
-LIST = 8
-
 -- by rank: the first node that has it, or none
 abbrev pub FIRST : ℕ
 FIRST = 9

@@ -4,5 +4,6 @@ pub mod Values
 pub mod Ranking
 pub mod Part
 pub mod Groups
+pub mod Sizes
 pub mod Sweeps
 pub mod Blocks

@@ -118,9 +118,6 @@ impl Groups {
     // Before the groups: a node's level, 1 for the root, and else one more than that of the parent.
     pub const LEVEL: usize = 8;
 
-    // The ranks of the values to be taken, one behind the other.
-    pub const LIST: usize = 8;
-
     // By rank: the first node that has it.
     pub const FIRST: usize = 9;
 
@@ -143,6 +140,23 @@ impl Groups {
 
     // The positions that end at a node of the group that is neither at nor below it.
     pub const ABOVE: usize = 15;
+}
+
+// The columns of the part that order the groups of equal values by their sizes, before one of them is worked on.
+pub struct Sizes;
+
+impl Sizes {
+    // By rank: how many nodes have it.
+    pub const SIZE: usize = 12;
+
+    // At the first node of a group: n less the group's size, so that larger groups have smaller keys. None at any other node.
+    pub const KEY: usize = 13;
+
+    // By key: the first node that has it.
+    pub const FIRST: usize = 14;
+
+    // The next node of equal key.
+    pub const NEXT: usize = 15;
 }
 
 // The columns of the part that hold the range of the ranks where a path ends.

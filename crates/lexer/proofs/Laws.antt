@@ -1,5 +1,5 @@
 -- Bytes that stand at an offset, and what is behind them.
-use Prim.Native.Nat.{ℕ, zero, suc, _+_, _-_, _*_, _^_, _≤_, _<_}
+use Prim.Native.Nat.{ℕ, suc, _+_, _-_, _*_, _^_, _≤_, _<_}
 use mathlib.Core.Path.{_≡_, refl, sym, ap, ap₂, _∙_, subst}
 use mathlib.Core.Bool.{false}
 use mathlib.Core.List.{List, [], _∷_, _++_, map, append-assoc}
@@ -11,21 +11,11 @@ use native.Mathlib.Numerals.{add-one}
 use native.Mathlib.Nat.{pow-le-pow-right}
 use Rattle.lists.specs.Numerals.{valueFrom}
 use native.Mathlib.Decide.{decLt}
-use Rattle.lists.specs.Lists.{All}
+use Rattle.lists.proofs.Indices.{all-at, at-all}
 use Rattle.lexer.specs.declared.Ending.the-variants.{Next, Bad}
 use Rattle.lexer.specs.declared.Class.{Class}
 use Rattle.lexer.specs.Reading.{Ended, inClass, AllIn, Run}
 use Rattle.lexer.proofs.Classes.{lf-out}
-
--- what holds at each index holds of all of a list
-pub all-at : (B : ℕ → Type 0) (l : List ℕ) → ((j : ℕ) → j < length l → B (getD l j 0)) → All B l
-all-at B [] h = tt
-all-at B (x ∷ l) h = (h 0 (omega arith), all-at B l (λ j r. h (suc j) (omega arith)))
-
-pub at-all : (B : ℕ → Type 0) (l : List ℕ) → All B l → (j : ℕ) → j < length l → B (getD l j 0)
-at-all B [] a j r = absurd (omega arith)
-at-all B (x ∷ l) a zero r = a .0
-at-all B (x ∷ l) a (suc j) r = at-all B l (a .1) j (omega arith)
 
 module _ (s : List ℕ) (at i : ℕ) (k : Class) (most : ℕ) (from : at ≤ i) (passed : AllIn k s at i) where
   -- the LF at i ends the run
@@ -39,7 +29,7 @@ module _ (s : List ℕ) (at i : ℕ) (k : Class) (most : ℕ) (from : at ≤ i) 
         l ++ 10 ∷ [],
         record {
           field = l;
-          all = all-at (λ b. T (inClass k b)) l (λ j p. subst (λ b. T (inClass k b)) (sym (getD-take (i - at) (drop at s) j 0 (omega arith) ∙ getD-drop at s j 0)) (passed (at + j) (omega arith) (omega arith)));
+          all = all-at 0 (λ b. T (inClass k b)) l (λ j p. subst (λ b. T (inClass k b)) (sym (getD-take (i - at) (drop at s) j 0 (omega arith) ∙ getD-drop at s j 0)) (passed (at + j) (omega arith) (omega arith)));
           short = omega arith;
           line = refl;
         },
@@ -67,7 +57,7 @@ module _ (s : List ℕ) (at i : ℕ) (k : Class) (most : ℕ) (from : at ≤ i) 
       long = omega (arith, length-drop at s, ap length spelled, length-append x (10 ∷ r))
 
       before : (j : ℕ) → j < length x → T (inClass k (getD s (at + j) 0))
-      before j q = subst (λ b. T (inClass k b)) (sym (byte j ∙ List·getD-append x (10 ∷ r) 0 j q)) (at-all (λ b. T (inClass k b)) x (f .all) j q)
+      before j q = subst (λ b. T (inClass k b)) (sym (byte j ∙ List·getD-append x (10 ∷ r) 0 j q)) (at-all 0 (λ b. T (inClass k b)) x (f .all) j q)
 
       go : Dec (at + length x < i) → ⊥
       go (yes q) = subst T (lf-out k) (subst (λ b. T (inClass k b)) here (passed (at + length x) (omega arith) q))

@@ -22,7 +22,8 @@ use Rattle.lexer.specs.declared.Class.{Class}
 use Rattle.lexer.specs.declared.Class.the-variants as Classes
 use Rattle.lexer.specs.Reading.{Ended, inClass, Run, Digits, zeroLed, numeralLine, Numbered}
 use Rattle.lexer.proofs.Classes.{between-is, lf-out}
-use Rattle.lexer.proofs.Laws.{slice-of, at-all}
+use Rattle.lists.proofs.Indices.{at-all}
+use Rattle.lexer.proofs.Laws.{slice-of}
 
 -- ── A run that was read ──
 pub record Found (k : Class) (most : ℕ) (s : List ℕ) (at j : ℕ) : Type 0 where
@@ -162,5 +163,5 @@ digits-of {most} {s} {at} {j} f h = record {
   few = let n = f .next in let l = f .short in omega arith;
   digits = λ m p q. let n = f .next in let w : at + (m - at) ≡ m = omega arith in
       subst (λ i. T (inClass Classes.Digit (getD s i 0))) w
-      (subst (λ b. T (inClass Classes.Digit b)) (byte-at f (m - at) (omega arith)) (at-all (λ b. T (inClass Classes.Digit b)) (f .field) (f .all) (m - at) (omega arith)));
+      (subst (λ b. T (inClass Classes.Digit b)) (byte-at f (m - at) (omega arith)) (at-all 0 (λ b. T (inClass Classes.Digit b)) (f .field) (f .all) (m - at) (omega arith)));
 }

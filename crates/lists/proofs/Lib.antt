@@ -3,3 +3,5 @@ pub mod Lists
 pub mod Blanks
 pub mod Numerals
 pub mod Search
+pub mod Indices
+pub mod Members

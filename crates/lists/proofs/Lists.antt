@@ -122,6 +122,19 @@ module _ {A : Type 0} where
     long = length-append (h .list) (g .list) ∙ ap₂ (λ x y. x + y) (h .long) (g .long);
   }
 
+  -- of two kinds that have something in common: less than the sum
+  pub number-shared : {B C : A → Type 0} {n m l : ℕ} → Number B n → Number C m → Number (λ (a : A). B a ⊎ C a) l → (a : A) → B a → C a → l < n + m
+  number-shared {B} {C} h g k a b c =
+      let (zs, e, f) = remove a (g .list) (g .all a c) in
+      let r = pigeon (λ (x : A). x) (k .list) (h .list ++ zs) (k .distinct) (λ x o. either zs f x (k .only x o)) (λ x y o p e. e) in
+      let i = length-append (h .list) zs in
+      let n = h .long in let m = g .long in let l = k .long in
+      omega arith
+    where
+      either : (zs : List A) → ((z : A) → Occurs z (g .list) → (z ≡ a) ⊎ Occurs z zs) → (x : A) → B x ⊎ C x → Occurs x (h .list ++ zs)
+      either zs f x (inl d) = occurs-left x (h .list) zs (h .all x d)
+      either zs f x (inr d) = ⊎-elim (λ e. occurs-left x (h .list) zs (h .all x (subst B (sym e) b))) (occurs-right x (h .list) zs) (f x (g .all x d))
+
   -- of n kinds, no two of which have anything in common, with f i of kind i: the sum, which g gives
   pub number-sum : (B : ℕ → A → Type 0) (f g : ℕ → ℕ) → g 0 ≡ 0 → ((i : ℕ) → g (suc i) ≡ g i + f i) → ((i j : ℕ) (a : A) → B i a → B j a → i ≡ j)
       → (n : ℕ) → ((i : ℕ) → i < n → Number (B i) (f i)) → Number (λ (a : A). (i : ℕ) × (i < n) × B i a) (g n)
@@ -196,6 +209,17 @@ occurs-range i lo (suc n) h g = go (ℕ-discrete i lo) (λ (q : suc lo ≤ i). o
     go : Dec (i ≡ lo) → (suc lo ≤ i → Occurs i (range (suc lo) n)) → (i ≡ lo) ⊎ Occurs i (range (suc lo) n)
     go (yes e) ih = inl e
     go (no f) ih = inr (ih (omega arith))
+
+pub range-occurs : (i lo n : ℕ) → Occurs i (range lo n) → (lo ≤ i) × (i < lo + n)
+unfolding range
+range-occurs i lo zero h = absurd h
+range-occurs i lo (suc n) (inl e) = (omega arith, omega arith)
+range-occurs i lo (suc n) (inr h) = let (a, b) = range-occurs i (suc lo) n h in (omega arith, omega arith)
+
+pub range-distinct : (lo n : ℕ) → Distinct (range lo n)
+unfolding range
+range-distinct lo zero = tt
+range-distinct lo (suc n) = ((λ h. let (a, b) = range-occurs lo (suc lo) n h in omega arith), range-distinct (suc lo) n)
 
 -- of the numbers below m there are m at most
 pub at-least-below : {B : ℕ → Type 0} {n m : ℕ} → ((a : ℕ) → B a → a < m) → AtLeast n B → n ≤ m

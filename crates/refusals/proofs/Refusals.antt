@@ -8,14 +8,14 @@ use lib.Arith.{digits-div, digits-mod, digits-lt}
 use lib.Dec.{lit<}
 use native.Mathlib.Omega.{arith}
 use native.Mathlib.Decide.{decLt, ℕ-discrete}
-use Rattle.refusals.specs.Refusals.{Refusal, documentLength, lineForm, nodeCount, treeRule, ruleLength, unreadable, nesting, tests, steps, scratchLength, marksLength, duplicateAttribute, number, place, stage, Earlier, First}
+use Rattle.refusals.specs.Refusals.{Refusal, documentLength, lineForm, nodeCount, treeRule, ruleLength, unreadable, nesting, tests, steps, scratchLength, marksLength, duplicateAttribute, otherComparison, noSuchNode, number, place, stage, Earlier, First}
 
 -- ── Number and place ──
 -- every refusal's number is below this
 abbrev numbers : ℕ
-numbers = 15
+numbers = 24
 
--- stands where a number is no refusal's: at 0, 12 and 13
+-- stands where a number is no refusal's: at 0, 12, and from 15 to 22
 none : ℕ → Refusal
 none p = documentLength
 
@@ -25,7 +25,8 @@ back n =
     getD
     (
     none ∷ (λ p. documentLength) ∷ lineForm ∷ (λ p. nodeCount) ∷ treeRule ∷ (λ p. ruleLength) ∷ unreadable ∷ nesting ∷ tests ∷ steps
-    ∷ (λ p. scratchLength) ∷ (λ p. marksLength) ∷ none ∷ none ∷ duplicateAttribute ∷ []
+    ∷ (λ p. scratchLength) ∷ (λ p. marksLength) ∷ none ∷ (λ p. noSuchNode) ∷ duplicateAttribute
+    ∷ none ∷ none ∷ none ∷ none ∷ none ∷ none ∷ none ∷ none ∷ (λ p. otherComparison) ∷ []
     )
     n none
 
@@ -43,6 +44,8 @@ tabled (steps offset) = (refl, lit< tt)
 tabled scratchLength = (refl, lit< tt)
 tabled marksLength = (refl, lit< tt)
 tabled (duplicateAttribute line) = (refl, lit< tt)
+tabled otherComparison = (refl, lit< tt)
+tabled noSuchNode = (refl, lit< tt)
 
 pub refusal-of : (r q : Refusal) → number r ≡ number q → place r ≡ place q → r ≡ q
 refusal-of r q e f = sym (tabled r .0) ∙ ap₂ back e f ∙ tabled q .0
@@ -100,6 +103,14 @@ duplicate-before-later-lines i j h = (inr (refl, inl h), inr (refl, inl h))
 
 pub duplicate-after-earlier-lines : (i j : ℕ) → j < i → Earlier (lineForm j) (duplicateAttribute i) × Earlier (treeRule j) (duplicateAttribute i)
 duplicate-after-earlier-lines i j h = (inr (refl, inl h), inr (refl, inl h))
+
+-- 02, (m): number 23 is taken after 9 and before 10
+pub other-between : (offset : ℕ) → Earlier (steps offset) otherComparison × Earlier otherComparison scratchLength
+other-between offset = (inl (lit< tt), inl (lit< tt))
+
+-- 02, (c): number 13 is taken after 10 and 11
+pub node-last : Earlier scratchLength noSuchNode × Earlier marksLength noSuchNode
+node-last = (inl (lit< tt), inl (lit< tt))
 
 -- ── Verdicts ──
 -- a list of all refusals, by place and then by number

@@ -17,11 +17,13 @@ pub data Refusal : Type 0 where
   scratchLength : Refusal
   marksLength : Refusal
   duplicateAttribute : ℕ → Refusal
+  otherComparison : Refusal
+  noSuchNode : Refusal
 
 pub record Row : Type 0 where
   pub number : ℕ
   pub place : ℕ
-  -- 01, order: 1; then 2 to 4, and with them 14 (02, d); 5; then 6 or 7; 8; 9; 10; 11
+  -- 01, order: 1; then 2 to 4, and with them 14 (02, d); 5; then 6 or 7; 8; 9; 23 (02, m); 10; 11; 13 (02, c)
   pub stage : ℕ
 
 abbrev row : ℕ → ℕ → ℕ → Row
@@ -38,10 +40,14 @@ table (unreadable offset) = row 6 offset 4
 table (nesting offset) = row 7 offset 4
 table (tests offset) = row 8 offset 5
 table (steps offset) = row 9 offset 6
-table scratchLength = row 10 0 7
-table marksLength = row 11 0 8
+table scratchLength = row 10 0 8
+table marksLength = row 11 0 9
 -- 02, (d): at the label line, taken in line order with 2 to 4
 table (duplicateAttribute line) = row 14 line 2
+-- 02, (m): the rule is not the comparison that the call is for, after 9
+table otherComparison = row 23 0 7
+-- 02, (c): a given node is not below N, after 10, and after 11 where marks are lent
+table noSuchNode = row 13 0 10
 
 abbrev pub number : Refusal → ℕ
 number r = table r .number

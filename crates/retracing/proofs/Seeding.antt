@@ -119,7 +119,7 @@ pub record Seeding (m : Machine) (n r c x len w end : ℕ) (p₀ p : List ℕ) :
 module _ {n : ℕ} {p : List ℕ} {v r w : ℕ} (few : n ≤ 4096) where
   between : Points (Least n p v r) w → (u : ℕ) → v ≤ u → u < w → u < n → ¬ (word p n RANK u ≡ r)
   between (inl l) u a b i e = let z = l .least u a i e in absurd (omega arith)
-  between (inr (e, none)) u a b i f = let (x, l) = least-some n p v r u a i f in none x l
+  between (inr (e, none)) u a b i f = let (x, l) = least-some RANK n p v r u a i f in none x l
 
   node-ranked : Points (Least n p v r) w → w < n → word p n RANK w ≡ r
   node-ranked (inl l) i = l .ranked

@@ -5,4 +5,5 @@ pub mod Told
 pub mod Alone
 pub mod Tallying
 pub mod Sides
+pub mod Operands
 pub mod Counts

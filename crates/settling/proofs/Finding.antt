@@ -7,10 +7,9 @@ use mathlib.Core.List.{List}
 use native.Mathlib.Omega.{arith}
 use lib.ListN.{length, getD}
 use Rattle.bits.specs.Sets.{bit, one}
-use Rattle.xpath.specs.Syntax.{XPath, compare, eq}
+use Rattle.xpath.specs.Syntax.{XPath}
 use Rattle.xpath.specs.Tree.{Tree}
-use Rattle.xpath.specs.Meaning.{Holds}
-use Rattle.snippets.specs.Snippets.{Yielded}
+use Rattle.snippets.specs.Snippets.{Different, SettledBy}
 use Rattle.layout.specs.Part.{ANSWER, pairAt}
 use Rattle.layout.specs.Words.{word}
 use Rattle.layout.proofs.Frames.{within-frame, within-then, same-then, frame-same}
@@ -23,7 +22,7 @@ use Rattle.settling.specs.Pairs.{Settles}
 use Rattle.pairs.specs.Growing.{Ready, Framed, Started, Grown, Met, Everywhere}
 use Rattle.pair_rounds.specs.Rounds.{Still}
 use Rattle.settling.specs.Settled.{Answering, Marked, Settled}
-use Rattle.settling.proofs.Settling.{settles-holds}
+use Rattle.settling.proofs.Settling.{settles-by}
 use Rattle.pairs.proofs.Framing.{ready-kept}
 use Rattle.pairs.proofs.Grows.{grown-then, ended-kept}
 use Rattle.pairs.proofs.Seeding.{met-kept}
@@ -67,14 +66,14 @@ settled {m} {n} {p} {p₁} {p₂} {q} {q′} ready s (g, met) (h, still) a = rec
         let same : word q′ n ANSWER v ≡ one (bit (getD q (pairAt n v + 0) 0) (m .second)) = a .done v inside ∙ ap (λ (x : ℕ). one (bit (getD q x 0) (m .second))) (omega arith) in
         (λ e. found .0 (told .0 (sym same ∙ e)), λ z. same ∙ told .1 (found .1 z))
 
--- where the words have the snippets of power 0, the answers tell where the comparison holds
-pub answers-hold : {P R : XPath} {t : Tree} {m : Machine} {n : ℕ} {p p′ : List ℕ} → Founded P R t m n 1 p
-    → ((x y i j : ℕ) → Marked t n p x y i j ↔ Yielded t P R 0 x y i j) → Settled m n p p′
-    → (v : ℕ) → v < n → (word p′ n ANSWER v ≡ 1) ↔ Holds t (compare eq P R) v
-answers-hold {P} {R} {t} {m} {n} {p} f snippets s v h =
-    let stage = f .stage in
+-- where the words have the snippets of power 0 of a set, the answers tell where these settle the comparison
+pub answers-settle : {P R : XPath} {t : Tree} {m : Machine} {n : ℕ} {p p′ : List ℕ} {S : ℕ → ℕ → ℕ → ℕ → Type 0} → Founded P R t m n 1 p
+    → ((x y i j : ℕ) → Marked t n p x y i j ↔ S x y i j) → ((x y i j : ℕ) → S x y i j → Different P R i j) → Settled m n p p′
+    → (v : ℕ) → v < n → (word p′ n ANSWER v ≡ 1) ↔ SettledBy t P R S v
+answers-settle {P} {R} {t} {m} {n} {p} f snippets apart s v h =
+    let start = f .stage .machine .start in
     let told = s .answers P R t f v h in
-    let holds = settles-holds {S = Marked t n p} (stage .formed) snippets v (let e = stage .drawn .size in omega arith) in (
-      λ e. holds .0 (subst (λ (b : ℕ). Settles P R t (Marked t n p) v 0 b) (stage .machine .start) (told .0 e)),
-      λ e. told .1 (subst (λ (b : ℕ). Settles P R t (Marked t n p) v 0 b) (sym (stage .machine .start)) (holds .1 e)),
+    let rule = settles-by {S = Marked t n p} snippets apart v in (
+      λ e. rule .0 (subst (λ (b : ℕ). Settles P R t (Marked t n p) v 0 b) start (told .0 e)),
+      λ e. told .1 (subst (λ (b : ℕ). Settles P R t (Marked t n p) v 0 b) (sym start) (rule .1 e)),
     )

@@ -4,13 +4,12 @@ use mathlib.Core.Path.{_≡_, refl, sym, subst}
 use mathlib.Core.Logic.{inl, inr, _↔_}
 use mathlib.Core.Bool.{Bool}
 use native.Mathlib.Omega.{arith}
-use Rattle.xpath.specs.Syntax.{XPath, compare, eq, size}
+use Rattle.xpath.specs.Syntax.{XPath, size}
 use Rattle.xpath.specs.Tree.{Tree, Child, WellFormed, Down, Under}
-use Rattle.xpath.specs.Meaning.{Holds}
 use Rattle.xpath.proofs.Trees.{child-after, down-zero, towards, under-refl, root, dec-under}
 use Rattle.positions.specs.Positions.{Comes, Ends, second, StartOf}
-use Rattle.snippets.specs.Snippets.{Different, Yielded, SettledBy}
-use Rattle.snippets.proofs.Settles.{comes-join, comes-ends, comes-first, comes-second, comes-inside, sound, leave-top, settles}
+use Rattle.snippets.specs.Snippets.{Different, SettledBy}
+use Rattle.snippets.proofs.Settles.{comes-join, comes-ends, comes-first, comes-second, comes-inside, leave-top}
 use Rattle.snippets.proofs.Edges.{stepUp, moves-up, stepDown, moves-down, not-under, enters, leaves, pass-down}
 use Rattle.settling.specs.Pairs.{Meets, Settles, Closed}
 
@@ -156,12 +155,11 @@ settles-map : {P R : XPath} {t : Tree} {S S′ : ℕ → ℕ → ℕ → ℕ →
 settles-map f (inl h) = inl h
 settles-map f (inr (x, y, p, q, s, m)) = inr (x, y, p, q, f x y p q s, m)
 
--- the snippets of power 0 settle the two starts where the comparison holds
-pub settles-holds : {P R : XPath} {t : Tree} {S : ℕ → ℕ → ℕ → ℕ → Type 0} → WellFormed t → ((x y p q : ℕ) → S x y p q ↔ Yielded t P R 0 x y p q)
-    → (v : ℕ) → v < t .size → Settles P R t S v 0 (second P R) ↔ Holds t (compare eq P R) v
-settles-holds {P} {R} {t} {S} wf same v r =
-    let start = settles-start P R t (Yielded t P R 0) (λ x y p q s. sound t P R s .0) v in
-    let holds = settles t wf P R v r in (
-      λ s. holds .0 (start .0 (settles-map {S = S} {S′ = Yielded t P R 0} (λ x y p q. same x y p q .0) s)),
-      λ h. settles-map {S = Yielded t P R 0} {S′ = S} (λ x y p q. same x y p q .1) (start .1 (holds .1 h)),
+-- a set of pairs, one position of each path, settles the two starts by the settling rule
+pub settles-by : {P R : XPath} {t : Tree} {S S′ : ℕ → ℕ → ℕ → ℕ → Type 0} → ((x y p q : ℕ) → S x y p q ↔ S′ x y p q) → ((x y p q : ℕ) → S′ x y p q → Different P R p q)
+    → (v : ℕ) → Settles P R t S v 0 (second P R) ↔ SettledBy t P R S′ v
+settles-by {P} {R} {t} {S} {S′} same apart v =
+    let start = settles-start P R t S′ apart v in (
+      λ s. start .0 (settles-map {S = S} {S′ = S′} (λ x y p q. same x y p q .0) s),
+      λ h. settles-map {S = S′} {S′ = S} (λ x y p q. same x y p q .1) (start .1 h),
     )

@@ -30,7 +30,7 @@ counted-one t (c ∷ cs) n m (a, b, e, h, k) (a′, b′, e′, h′, k′) =
 
 -- ── The settling rule, read on the snippets counted ──
 -- it depends on the set alone
-settled-on : (t : Tree) (P R : XPath) (S S′ : ℕ → ℕ → ℕ → ℕ → Type 0) → ((x y p q : ℕ) → S x y p q → S′ x y p q) → (v : ℕ) → SettledBy t P R S v → SettledBy t P R S′ v
+pub settled-on : (t : Tree) (P R : XPath) (S S′ : ℕ → ℕ → ℕ → ℕ → Type 0) → ((x y p q : ℕ) → S x y p q → S′ x y p q) → (v : ℕ) → SettledBy t P R S v → SettledBy t P R S′ v
 settled-on t P R S S′ f v (inl h) = inl h
 settled-on t P R S S′ f v (inr (x, y, p, q, a, b, z, h, g, c, e)) = inr (x, y, p, q, a, b, f x y p q z, h, g, c, e)
 
@@ -160,11 +160,16 @@ module _ (t : Tree) (wf : WellFormed t) (c : Pair) (B : ℕ) (few : size (c .fir
       let x : s .x ≡ s′ .x = same-top t wf (s .x) (s′ .x) (s .y) (2 ^ s .power) d d″ in
       λ i. record { power = k i; x = x i; y = y i; p = p i; q = q i }
 
-  pub count-bound : (n : ℕ) → Number (IsSnippet t c) n → n ≤ 128 * (t .size * B)
-  count-bound n h =
-      let r = pigeon code (h .list) candidates (h .distinct) (λ a o. candidate a (h .only a o)) (λ a b o p e. code-one a b (h .only a o) (h .only b p) e) in
+  -- of any set of them
+  pub some-bound : (S : Snippet → Type 0) → ((s : Snippet) → S s → IsSnippet t c s) → (n : ℕ) → Number S n → n ≤ 128 * (t .size * B)
+  some-bound S is n h =
+      let r = pigeon code (h .list) candidates (h .distinct) (λ a o. candidate a (is a (h .only a o))) (λ a b o p e. code-one a b (is a (h .only a o)) (is b (h .only b p)) e) in
       let l = candidates-length in let i = h .long in
       omega arith
+
+  -- and of all
+  pub count-bound : (n : ℕ) → Number (IsSnippet t c) n → n ≤ 128 * (t .size * B)
+  count-bound n h = some-bound (IsSnippet t c) (λ s z. z) n h
 
 -- 01: the count is at most 128 × N × B × E
 pub counted-bound : (t : Tree) → WellFormed t → (cs : List Pair)

@@ -6,3 +6,6 @@ pub mod Marks
 pub mod Nearest
 pub mod Ways
 pub mod Direct
+pub mod Halves
+pub mod Values
+pub mod ValueExamples

@@ -3,3 +3,6 @@ pub mod Count
 pub mod Marks
 pub mod Ways
 pub mod Direct
+pub mod Halves
+pub mod Values
+pub mod LargestFirst

@@ -1,14 +1,15 @@
--- The snippets of a rule, counted test by test from the last number to the first: each equality between two paths adds its own.
-use Prim.Native.Nat.{ℕ, suc, _+_, _*_, _≤_, _<_}
+-- The snippets of a rule, counted test by test in any order: each equality between two paths adds its own.
+use Prim.Native.Nat.{ℕ, zero, suc, _+_, _-_, _*_, _≤_, _<_}
 use native.Mathlib.Omega.{arith}
 use native.Mathlib.Nat.{mul-le-mul}
 use mathlib.Core.Path.{_≡_, refl, sym, ap, ap₂, _∙_, subst}
-use mathlib.Core.Logic.{_⊎_, inl, inr, ⊎-elim, _≢_}
-use mathlib.Core.List.{List, [], _∷_, _++_, append-assoc}
-use lib.ListN.{length, take, drop, length-append, length-drop, take-append-drop}
-use lib.Seq.{drop-cons, drop-length}
-use Rattle.lists.specs.Lists.{All, Occurs}
-use Rattle.lists.proofs.Lists.{occurs-right, occurs-append}
+use mathlib.Core.Logic.{_⊎_, inl, inr, ⊎-elim, _↔_, _≢_}
+use mathlib.Core.List.{List, [], _∷_, _++_, map, append-assoc, append-nil, map-append}
+use lib.ListN.{length, drop, length-append, length-map, drop-of-length-le}
+use lib.Seq.{drop-cons}
+use Rattle.lists.specs.Lists.{All, Occurs, Distinct}
+use Rattle.lists.proofs.Lists.{all-map, occurs-append, range, occurs-range, range-occurs, range-distinct}
+use Rattle.lists.proofs.Members.{around, distinct-between, same-between}
 use Rattle.lists.proofs.Numerals.{binary-short}
 use Rattle.xpath.specs.Syntax.{Op, eq, ne, lt, le, gt, ge, Test, named, not, and, or, compare, compareTo, atLeast, XPath, empty, one, seq, union, star, Step, toLeft, toRight, fromLeft, fromRight, stay, size}
 use Rattle.xpath.specs.Tree.{Tree, WellFormed}
@@ -17,8 +18,7 @@ use Rattle.snippets.proofs.Counting.{counted-bound, snippet-count}
 use Rattle.rule_spec.specs.Verdict.{Accepts}
 use Rattle.test_numbers.specs.Tests.{testsOf, pathTests, stepTests, test, Light}
 use Rattle.test_numbers.specs.Owned.{own, owned}
-use Rattle.test_numbers.proofs.Counts.{tests-few}
-use Rattle.test_numbers.proofs.Lights.{all-light}
+use Rattle.test_numbers.proofs.Lights.{all-light, tests-light}
 
 -- ── The comparisons of a rule are those of its numbered tests ──
 owned-append : (Ts Us : List Test) → owned (Ts ++ Us) ≡ owned Ts ++ owned Us
@@ -64,19 +64,9 @@ mutual
   step-owned fromRight = refl
   step-owned (stay T) = comparisons-owned T
 
--- ── From a number on ──
-pub owned-from : (Ts : List Test) (k : ℕ) → k < length Ts → owned (drop k Ts) ≡ own (test Ts k) ++ owned (drop (suc k) Ts)
-unfolding owned
-owned-from Ts k l = ap owned (drop-cons Ts k (named []) l)
-
-pub owned-end : (Ts : List Test) → owned (drop (length Ts) Ts) ≡ []
-unfolding owned
-owned-end Ts = ap owned (drop-length Ts)
-
--- a pair of the later tests is one of all tests
-owned-later : (Ts : List Test) (k : ℕ) (c : Pair) → Occurs c (owned (drop k Ts)) → Occurs c (owned Ts)
-owned-later Ts k c o =
-    subst (Occurs c) (sym (owned-append (take k Ts) (drop k Ts)) ∙ ap owned (take-append-drop k Ts)) (occurs-right c (owned (take k Ts)) (owned (drop k Ts)) o)
+-- the tests in two paths
+pub paths-owned : (P R : XPath) → inPath P ++ inPath R ≡ owned (pathTests P ++ pathTests R)
+paths-owned P R = both-owned (pathTests P) (pathTests R) (path-owned P) (path-owned R)
 
 -- ── Adding ──
 pub counted-none : (t : Tree) → Counted t [] 0
@@ -114,28 +104,62 @@ counted-no-pair t U e = subst (λ cs. Counted t cs 0) (sym e) (counted-none t)
 pub counted-pair : (t : Tree) (U : Test) (P R : XPath) (a : ℕ) → U ≡ compare eq P R → Sized t (record { first = P; second = R }) a → Counted t (own U) a
 counted-pair t U P R a e h = subst (λ W. Counted t (own W) a) (sym e) (a, 0, omega arith, h, counted-none t)
 
-module _ (t : Tree) (T : Test) where
-  -- behind the last test
-  pub counted-end : Counted t (owned (drop (length (testsOf T)) (testsOf T))) 0
-  counted-end = subst (λ cs. Counted t cs 0) (sym (owned-end (testsOf T))) (counted-none t)
+-- ── In any order ──
+range-tests : (Ts : List Test) (m n : ℕ) → m + n ≡ length Ts → map (test Ts) (range m n) ≡ drop m Ts
+unfolding range
+range-tests Ts m zero e = sym (drop-of-length-le Ts {i = m} (omega arith))
+range-tests Ts m (suc n) e = ap (λ Us. test Ts m ∷ Us) (range-tests Ts (suc m) n (omega arith)) ∙ sym (drop-cons Ts m (named []) (omega arith))
 
-  module _ (k : ℕ) (number : k < length (testsOf T)) where
-    -- the snippets of test k are added to those of the tests behind it
-    pub counted-own : (a b : ℕ) → Counted t (own (test (testsOf T) k)) a → Counted t (owned (drop (suc k) (testsOf T))) b → Counted t (owned (drop k (testsOf T))) (a + b)
-    counted-own a b h g =
-        subst (λ cs. Counted t cs (a + b)) (sym (owned-from (testsOf T) k number)) (counted-append t (own (test (testsOf T) k)) (owned (drop (suc k) (testsOf T))) a b h g)
+module _ (t : Tree) where
+  counted-split : (cs ds : List Pair) (n : ℕ) → Counted t (cs ++ ds) n → (a b : ℕ) × (n ≡ a + b) × Counted t cs a × Counted t ds b
+  counted-split [] ds n h = (0, n, omega arith, refl, h)
+  counted-split (c ∷ cs) ds n (x, y, e, s, g) = let (a, b, f, h, k) = counted-split cs ds y g in (x + a, b, omega arith, (x, a, refl, s, h), k)
 
-    -- test k is no equality between two paths: there are no more
-    pub counted-other : (b : ℕ) → own (test (testsOf T) k) ≡ [] → Counted t (owned (drop (suc k) (testsOf T))) b → Counted t (owned (drop k (testsOf T))) b
-    counted-other b e g = subst (Counted t (owned (drop k (testsOf T)))) (omega arith) (counted-own 0 b (counted-no-pair t (test (testsOf T) k) e) g)
+  -- some more in between
+  counted-between : (cs xs ys : List Pair) (a b : ℕ) → Counted t cs a → Counted t (xs ++ ys) b → Counted t (xs ++ (cs ++ ys)) (a + b)
+  counted-between cs xs ys a b h g =
+      let (x, y, e, k, l) = counted-split xs ys b g in
+      subst (Counted t (xs ++ (cs ++ ys))) (omega arith) (counted-append t xs (cs ++ ys) x (a + y) k (counted-append t cs ys a y h l))
 
-    -- test k is the equality of P and R: there are as many more as it has
-    pub counted-equality : (P R : XPath) (a b : ℕ) → test (testsOf T) k ≡ compare eq P R → Sized t (record { first = P; second = R }) a
-        → Counted t (owned (drop (suc k) (testsOf T))) b → Counted t (owned (drop k (testsOf T))) (a + b)
-    counted-equality P R a b e h g = counted-own a b (counted-pair t (test (testsOf T) k) P R a e h) g
+  module _ {A : Type 0} (f : A → Test) where
+    owned-map : (xs ys : List A) → owned (map f (xs ++ ys)) ≡ owned (map f xs) ++ owned (map f ys)
+    owned-map xs ys = ap owned (map-append f xs ys) ∙ owned-append (map f xs) (map f ys)
 
-  pub counted-all : (n : ℕ) → Counted t (owned (drop 0 (testsOf T))) n → Counted t (comparisons T) n
-  counted-all n h = subst (λ cs. Counted t cs n) (sym (comparisons-owned T)) h
+    -- one more at the end
+    pub counted-last : (xs : List A) (x : A) (a b : ℕ) → Counted t (owned (map f xs)) a → Counted t (own (f x)) b → Counted t (owned (map f (xs ++ x ∷ []))) (a + b)
+    unfolding owned
+    counted-last xs x a b h g =
+        subst (λ cs. Counted t cs (a + b)) (sym (owned-map xs (x ∷ []) ∙ ap (λ cs. owned (map f xs) ++ cs) (append-nil (own (f x)))))
+        (counted-append t (owned (map f xs)) (own (f x)) a b h g)
+
+    -- two lists without repetition and with the same members have the same number
+    pub counted-order : (xs ys : List A) → Distinct xs → Distinct ys → ((x : A) → Occurs x xs ↔ Occurs x ys)
+        → (n : ℕ) → Counted t (owned (map f xs)) n → Counted t (owned (map f ys)) n
+    unfolding owned
+    counted-order [] [] d c same n h = h
+    counted-order [] (y ∷ ys) d c same n h = absurd (same y .1 (inl refl))
+    counted-order (x ∷ xs) ys d c same n h =
+        let s = around x ys (same x .0 (inl refl)) in
+        let once = subst Distinct (s .whole) c in
+        let others = same-between x xs (s .front) (s .rear) d once (subst (λ zs. (z : A) → Occurs z (x ∷ xs) ↔ Occurs z zs) (s .whole) same) in
+        let (a, b, e, k, l) = counted-split (own (f x)) (owned (map f xs)) n h in
+        let g = subst (λ cs. Counted t cs b) (owned-map (s .front) (s .rear)) (counted-order xs (s .front ++ s .rear) (d .1) (distinct-between x (s .front) (s .rear) once .1) others b l) in
+        subst (Counted t (owned (map f ys))) (sym e)
+        (subst (λ cs. Counted t cs (a + b)) (sym (ap (λ zs. owned (map f zs)) (s .whole) ∙ owned-map (s .front) (x ∷ s .rear)))
+        (counted-between (own (f x)) (owned (map f (s .front))) (owned (map f (s .rear))) a b k g))
+
+  -- those from m on
+  pub counted-from : (Ts : List Test) (m : ℕ) (ks : List ℕ) → m ≤ length Ts → Distinct ks → ((k : ℕ) → Occurs k ks ↔ ((m ≤ k) × (k < length Ts)))
+      → (n : ℕ) → Counted t (owned (map (test Ts) ks)) n → Counted t (owned (drop m Ts)) n
+  counted-from Ts m ks h d same n g =
+      let z : m + (length Ts - m) ≡ length Ts = omega arith in
+      subst (λ Us. Counted t (owned Us) n) (range-tests Ts m (length Ts - m) z)
+      (counted-order (test Ts) ks (range m (length Ts - m)) d (range-distinct m (length Ts - m))
+      (λ k. (
+        (λ o. let (l, r) = same k .0 o in occurs-range k m (length Ts - m) l (omega arith)),
+        λ o. let (l, r) = range-occurs k m (length Ts - m) o in same k .1 (l, omega arith),
+      ))
+      n g)
 
 -- ── How many ──
 own-few : (T : Test) → length (own T) ≤ 1
@@ -175,16 +199,16 @@ counted-fits t wf nodes cs few short n h =
 
 -- ── In an accepted rule ──
 module _ {s : List ℕ} {T : Test} (accepts : Accepts s T) (t : Tree) (wf : WellFormed t) where
-  few-steps : (k : ℕ) (c : Pair) → Occurs c (owned (drop k (testsOf T))) → size (c .first) + size (c .second) ≤ 14
-  few-steps k c o = owned-light (testsOf T) (all-light accepts) c (owned-later (testsOf T) k c o)
-
-  -- the sum on the way, of the tests from k on
-  pub counted-small : t .size ≤ 4096 → (k n : ℕ) → Counted t (owned (drop k (testsOf T))) n → n ≤ 128 * 4096 * 13 * 64
-  counted-small nodes k n h =
-      let l = length-drop k (testsOf T) in let f = owned-few (drop k (testsOf T)) in let g = tests-few accepts in
-      counted-fits t wf nodes (owned (drop k (testsOf T))) (few-steps k) (omega arith) n h
+  -- the sum on the way, of at most 64 tests
+  pub counted-small : t .size ≤ 4096 → (ks : List ℕ) → All (λ k. k < length (testsOf T)) ks → length ks ≤ 64
+      → (n : ℕ) → Counted t (owned (map (test (testsOf T)) ks)) n → n ≤ 128 * 4096 * 13 * 64
+  counted-small nodes ks numbers short n h =
+      let l = length-map ks (test (testsOf T)) in let f = owned-few (map (test (testsOf T)) ks) in
+      let light = all-map (λ k. k < length (testsOf T)) Light (test (testsOf T)) (tests-light accepts) ks numbers in
+      counted-fits t wf nodes (owned (map (test (testsOf T)) ks)) (owned-light (map (test (testsOf T)) ks) light) (omega arith) n h
 
   -- the sum of all
-  pub counted-rule : (n : ℕ) → Counted t (owned (drop 0 (testsOf T))) n → SnippetCount t T n
+  pub counted-rule : (n : ℕ) → Counted t (owned (testsOf T)) n → SnippetCount t T n
   counted-rule n h =
-      snippet-count t wf T (λ c o. few-steps 0 c (subst (Occurs c) (comparisons-owned T) o)) n (counted-all t T n h)
+      snippet-count t wf T (λ c o. owned-light (testsOf T) (all-light accepts) c (subst (Occurs c) (comparisons-owned T) o)) n
+      (subst (λ cs. Counted t cs n) (sym (comparisons-owned T)) h)

@@ -2,34 +2,19 @@
 use Prim.Native.Nat.{ℕ, _+_, _≤_, _<_}
 use native.Mathlib.Omega.{arith}
 use mathlib.Core.Path.{_≡_, refl, sym, ap, subst, _∙_}
-use mathlib.Core.Logic.{inl, inr, _≢_}
+use mathlib.Core.Logic.{inl, inr}
 use mathlib.Core.List.{List, [], _∷_, _++_}
 use lib.ListN.{length, getD}
 use types.Run.{OneOf}
 use denote.Enum.Declared.{tagOf}
 use Rattle.xpath.specs.Syntax.{Test, XPath, empty, one, seq, union, star, Step, toLeft, toRight, fromLeft, fromRight, stay, steps}
-use Rattle.rule_spec.specs.Spelling.{spellPath, spellStep}
-use Rattle.rule_spec.proofs.Reading.{test-head}
+use Rattle.rule_spec.proofs.Reading.{test-head, path-head}
 use Rattle.rule_parts.specs.Standing.{TestAt, PathAt}
 use Rattle.rule_parts.specs.Kinds.{pathKind}
 use Rattle.rule_parts.specs.declared.kinds.PathKind.{PathKind}
 use Rattle.rule_parts.proofs.kinds.PathKind as path-kinds
 use Rattle.rule_parts.proofs.Inner.{star-inner, seq-inner, union-inner, bracket-inner}
 use Rattle.test_numbers.specs.Tests.{testsOf, pathTests, stepTests}
-
--- ── How a path begins ──
--- no path is spelled by nothing, or begins with a quote
-pub path-head : (P : XPath) → (b : ℕ) × (u : List ℕ) × (spellPath P ≡ b ∷ u) × (b ≢ 34)
-unfolding spellPath spellStep
-path-head empty = (101, _, refl, λ e. omega arith)
-path-head (one toLeft) = (108, _, refl, λ e. omega arith)
-path-head (one toRight) = (114, _, refl, λ e. omega arith)
-path-head (one fromLeft) = (76, _, refl, λ e. omega arith)
-path-head (one fromRight) = (82, _, refl, λ e. omega arith)
-path-head (one (stay T)) = (91, _, refl, λ e. omega arith)
-path-head (seq A B) = (46, _, refl, λ e. omega arith)
-path-head (union A B) = (43, _, refl, λ e. omega arith)
-path-head (star A) = (42, _, refl, λ e. omega arith)
 
 -- ── What the kind tells ──
 -- a kind by its number

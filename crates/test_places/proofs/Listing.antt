@@ -20,9 +20,10 @@ use Rattle.rule_parts.specs.declared.kinds.TestKind.the-variants.{Named, Not, C
 use Rattle.rule_parts.specs.declared.kinds.PathKind.{PathKind}
 use Rattle.rule_parts.specs.declared.kinds.PathKind.the-variants.{Stay, Star}
 use Rattle.rule_parts.proofs.Inner.{rule-at}
+use Rattle.rule_parts.proofs.Operands.{unquoted, quote-stands}
 use Rattle.test_numbers.specs.Tests.{testsOf, pathTests, test, inside}
 use Rattle.test_numbers.proofs.Counts.{tests-first, tests-few}
-use Rattle.test_numbers.proofs.Shapes.{path-head, test-long, path-long, pathTag, path-of, testless-of, pair-of}
+use Rattle.test_numbers.proofs.Shapes.{test-long, path-long, pathTag, path-of, testless-of, pair-of}
 use Rattle.test_places.specs.Places.{Listed, Written, Room, Lists}
 use Rattle.test_places.proofs.Shapes.{testTag, Second, path, constant, test-of, two-of}
 
@@ -109,13 +110,6 @@ module _ (s : List ℕ) where
   pub path-room-long : (at k : ℕ) → Room (PathAt s) pathTests at k → at < length s
   path-room-long at k (P, j, a, l) = let h = path-long s a in omega arith
 
-  -- no path begins with a quote
-  unquoted : {P : XPath} {i j : ℕ} → PathAt s P i j → Lacks 34 (drop i s)
-  unquoted {P} {i} {j} a = let (b, u, e, h) = path-head P in subst (Lacks 34) (sym (a .spans .spelled ∙ ap (λ w. w ++ drop j s) e)) h
-
-  quote-stands : {i : ℕ} → Stands s i 34 → ¬ Lacks 34 (drop i s)
-  quote-stands h k = subst (Lacks 34) (h .here) k refl
-
   -- ── A test, and the tests inside it ──
   module _ (at k : ℕ) where
     pub inside-room : Room (TestAt s) testsOf at k → Room (TestAt s) inside at (k + 1)
@@ -174,7 +168,7 @@ module _ (s : List ℕ) where
       constant-lists {f} {g} {r} q w T j a l = let (P, b, e, h, o) = sides T j a in go P b o
         where
           go : (P : XPath) → PathAt s P (at + 1) (m .sign) → Second s T at j P (m .second) → Written s (inside T) k f g r
-          go P b (path R i c e) = absurd (quote-stands q (unquoted c))
+          go P b (path R i c e) = absurd (quote-stands s q (unquoted s c))
           go P b (constant c e) = subst (λ Ts. Written s Ts k f g r) (sym e) (w P (m .sign) b (subst (λ Ts. k + length Ts ≤ 64) e l))
 
       module _ (no-quote : Lacks 34 (drop (m .second) s)) where
@@ -185,7 +179,7 @@ module _ (s : List ℕ) where
             go P b e (path R i c h) =
                 let z = path-long s b in
                 record { first = P; second = R; first-end = m .sign; second-end = i; first-at = b; second-at = c; after = omega arith; both = h; room = l }
-            go P b e (constant c h) = absurd (quote-stands c no-quote)
+            go P b e (constant c h) = absurd (quote-stands s c no-quote)
 
         pub sides-two : Room (TestAt s) inside at k → (Ts : List Test) × Halves (PathAt s) pathTests (at + 1) (m .second) k Ts
         sides-two (T, j, a, l) = (inside T, side-halves T j a l)

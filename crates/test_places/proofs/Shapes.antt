@@ -1,24 +1,23 @@
 -- The kind of a test at an offset tells the tests inside it, and where its parts stand.
 use Prim.Native.Nat.{ℕ, _+_, _≤_, _<_}
 use native.Mathlib.Omega.{arith}
-use native.Mathlib.Numerals.{add-one}
 use mathlib.Core.Path.{_≡_, refl, sym, ap, subst, _∙_}
 use mathlib.Core.Logic.{inl, inr}
 use mathlib.Core.List.{List, [], _∷_, _++_}
-use lib.ListN.{length, getD, drop, length-append}
+use lib.ListN.{length, getD}
 use types.Run.{OneOf}
 use denote.Enum.Declared.{tagOf}
-use Rattle.lists.specs.Text.{bytes}
 use Rattle.xpath.specs.Syntax.{Test, named, not, and, or, compare, compareTo, atLeast, XPath}
 use Rattle.tokens.specs.Readers.{Stands}
-use Rattle.rule_parts.specs.Standing.{Spans, TestAt, PathAt}
+use Rattle.rule_parts.specs.Standing.{TestAt, PathAt}
 use Rattle.rule_parts.specs.Middles.{Parted, Counted}
 use Rattle.rule_parts.specs.Kinds.{testKind}
 use Rattle.rule_parts.specs.declared.Middle.{Middle}
 use Rattle.rule_parts.specs.declared.Count.{Count}
 use Rattle.rule_parts.specs.declared.kinds.TestKind.{TestKind}
 use Rattle.rule_parts.proofs.kinds.TestKind as test-kinds
-use Rattle.rule_parts.proofs.Inner.{spans-next, not-inner, and-inner, or-inner, count-inner}
+use Rattle.rule_parts.proofs.Inner.{not-inner, and-inner, or-inner, count-inner}
+use Rattle.rule_parts.proofs.Operands.{quoted}
 use Rattle.test_numbers.specs.Tests.{testsOf, pathTests, inside}
 
 -- a kind by its number
@@ -50,20 +49,13 @@ module _ (s : List ℕ) where
     abbrev pub TestShape : ℕ → Type 0
     TestShape n = getD ((inside T ≡ []) ∷ IsNot ∷ IsTwo ∷ IsTwo ∷ IsComparison ∷ IsCount ∷ []) n ⊥
 
-  -- a constant begins with its quote
-  quoted : (c : List ℕ) {i j : ℕ} → Spans s (bytes "\"" ++ (c ++ bytes "\")")) i j → Stands s i 34
-  quoted c {i} {j} h =
-      let e = h .ends in let l = h .inside in let n = length-append c (bytes "\")") in
-      let rest : drop (i + 1) s ≡ (c ++ bytes "\")") ++ drop j s = spans-next s 34 h .spelled in
-      record { inside = omega arith; here = h .spelled ∙ ap (λ w. 34 ∷ w) (sym rest) ∙ ap (λ m. 34 ∷ drop m s) (add-one i) }
-
   test-shape : (T : Test) {i j : ℕ} → TestAt s T i j → TestShape T i j (testTag (testKind T))
   test-shape (named a) h = refl
   test-shape (not T) h = (T, not-inner s h, refl)
   test-shape (and T U) h = let (m, a, b) = and-inner s h in (T, U, m, a, b, refl)
   test-shape (or T U) h = let (m, a, b) = or-inner s h in (T, U, m, a, b, refl)
   test-shape (compare o P R) h = λ m (f, (k, q, c)). let g = f .sign .spans in let e = g .ends in (P, f .first, omega arith, g .inside, path R k q refl)
-  test-shape (compareTo o P c) h = λ m (f, q). let g = f .sign .spans in let e = g .ends in (P, f .first, omega arith, g .inside, constant (quoted c q) refl)
+  test-shape (compareTo o P c) h = λ m (f, q). let g = f .sign .spans in let e = g .ends in (P, f .first, omega arith, g .inside, constant (quoted s c q) refl)
   test-shape (atLeast n P) {j = j} h = λ c told.
       let a = told n P j h .path in let (l, m, d, p) = count-inner s h in let e = a .spans .ends in let f = p .spans .ends in
       (P, a, omega arith, refl)

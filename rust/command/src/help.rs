@@ -11,6 +11,10 @@ pub enum Topic {
     Explain,
 }
 
+/// The one option that takes an argument, and how that is called.
+pub const VALUES: &str = "--values";
+pub const NODES: &str = "NODES";
+
 /// Stands below the usage where the command is used wrongly.
 pub const HINT: &str = "`yurzhoad --help` says more";
 
@@ -38,7 +42,7 @@ impl Topic {
         match self {
             Topic::All | Topic::Explain => &[],
             Topic::Check => &["--rule", "--json"],
-            Topic::Select => &["--plain", "--both", "--count", "--json"],
+            Topic::Select => &["--plain", "--both", VALUES, "--count", "--json"],
         }
     }
 
@@ -48,7 +52,8 @@ impl Topic {
             Topic::All => "usage: yurzhoad check | select | explain [OPTION]... OPERAND...",
             Topic::Check => "usage: yurzhoad check [--json] LIBRARY | --rule RULE",
             Topic::Select => {
-                "usage: yurzhoad select [--plain | --both] [--count] [--json] RULE LIBRARY"
+                "usage: yurzhoad select [--plain | --both | --values NODES] [--count] [--json] \
+                 RULE LIBRARY"
             }
             Topic::Explain => "usage: yurzhoad explain RULE",
         }

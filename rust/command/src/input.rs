@@ -5,7 +5,7 @@ use std::fs::File;
 use std::io::{self, Read};
 
 use yurzhoad::limits::{MAX_DOCUMENT_BYTES, MAX_RULE_BYTES};
-use yurzhoad::{Library, Refusal, Rule};
+use yurzhoad::{Ground, Library, Refusal, Rule};
 
 use crate::failure::{Failure, Refused};
 use crate::output::shown;
@@ -51,6 +51,19 @@ impl Input {
     /// The rule, if it is accepted.
     pub fn checked_rule(&self) -> Result<Rule<'_>, Failure> {
         Rule::check(&self.bytes).map_err(|refusal| self.refused(refusal))
+    }
+
+    /// The refusal of a call with this rule, which was accepted by itself: a list
+    /// of values is none of it.
+    pub fn refused_with(&self, refusal: Refusal) -> Failure {
+        match refusal.ground() {
+            Ground::NoSuchNode => Failure::Refused(Refused {
+                name: None,
+                refusal,
+                cut: false,
+            }),
+            _ => self.refused(refusal),
+        }
     }
 
     fn refused(&self, refusal: Refusal) -> Failure {

@@ -10,18 +10,20 @@ use crate::json;
 use crate::output::counted;
 
 /// Which evaluations are made.
-#[derive(Clone, Copy, Debug, PartialEq, Eq)]
+#[derive(Clone, Debug, PartialEq, Eq)]
 pub enum Evaluations {
     Snippets,
     Plain,
     Both,
+    /// By snippets, with the values of these nodes alone.
+    Values(Vec<u16>),
 }
 
 impl Evaluations {
     /// The one whose nodes are written, and the one that it is compared with.
-    fn methods(self) -> (Method, Option<Method>) {
+    fn methods(&self) -> (Method, Option<Method>) {
         match self {
-            Evaluations::Snippets => (Method::Snippets, None),
+            Evaluations::Snippets | Evaluations::Values(_) => (Method::Snippets, None),
             Evaluations::Plain => (Method::Plain, None),
             Evaluations::Both => (Method::Snippets, Some(Method::Plain)),
         }
@@ -29,7 +31,7 @@ impl Evaluations {
 }
 
 /// How nodes are selected and written.
-#[derive(Clone, Copy, Debug, PartialEq, Eq)]
+#[derive(Clone, Debug, PartialEq, Eq)]
 pub struct Options {
     pub evaluations: Evaluations,
     /// Only how many nodes are selected, and not which.
@@ -47,16 +49,21 @@ pub fn select(
     err: &mut dyn Write,
 ) -> Result<(), Failure> {
     let library = library.checked_library()?;
-    let rule = rule.checked_rule()?;
+    let checked = rule.checked_rule()?;
     let (method, other) = options.evaluations.methods();
     let mut selector = Selector::new(method);
-    let selection = selector.select(&library, &rule);
+    let selection = match &options.evaluations {
+        Evaluations::Values(nodes) => selector
+            .select_values(&library, &checked, nodes)
+            .map_err(|refusal| rule.refused_with(refusal))?,
+        _ => selector.select(&library, &checked),
+    };
     if let Some(other) = other {
-        let agreed = compare(&library, &rule, &selection, other)?;
+        let agreed = compare(&library, &checked, &selection, other)?;
         // If standard error is gone, the status says it too.
         let _ = writeln!(err, "yurzhoad: {agreed}");
     }
-    Ok(write(&library, &selection, options, out)?)
+    Ok(write(&library, &selection, &options, out)?)
 }
 
 /// Makes the other evaluation too, the plain one, and says that it agrees.
@@ -111,7 +118,7 @@ fn difference(snippets: (usize, &[u8]), plain: (usize, &[u8])) -> Option<String>
 fn write(
     library: &Library<'_>,
     selection: &Selection<'_>,
-    options: Options,
+    options: &Options,
     out: &mut dyn Write,
 ) -> io::Result<()> {
     match (options.json, options.count) {
@@ -178,6 +185,8 @@ mod tests {
         assert_eq!(Evaluations::Both.methods(), both);
         assert_eq!(Evaluations::Plain.methods(), (Method::Plain, None));
         assert_eq!(Evaluations::Snippets.methods(), (Method::Snippets, None));
+        let by_values = Evaluations::Values(vec![0]);
+        assert_eq!(by_values.methods(), (Method::Snippets, None));
     }
 
     #[test]

@@ -3,7 +3,7 @@
 use std::ffi::{OsStr, OsString};
 
 use crate::failure::Failure;
-use crate::help::Topic;
+use crate::help::{Topic, NODES, VALUES};
 use crate::input::Source;
 use crate::output::shown;
 use crate::select::{Evaluations, Options};
@@ -95,14 +95,8 @@ fn read_check(mut arguments: Arguments) -> Result<Request, Failure> {
 
 fn read_select(mut arguments: Arguments) -> Result<Request, Failure> {
     let topic = arguments.topic;
-    let evaluations = match (arguments.has("--plain"), arguments.has("--both")) {
-        (true, true) => return Err(misused(topic, "--plain and --both exclude each other")),
-        (true, false) => Evaluations::Plain,
-        (false, true) => Evaluations::Both,
-        (false, false) => Evaluations::Snippets,
-    };
     let options = Options {
-        evaluations,
+        evaluations: read_evaluations(&arguments)?,
         count: arguments.has("--count"),
         json: arguments.has("--json"),
     };
@@ -118,6 +112,47 @@ fn read_select(mut arguments: Arguments) -> Result<Request, Failure> {
     })
 }
 
+fn read_evaluations(arguments: &Arguments) -> Result<Evaluations, Failure> {
+    let topic = arguments.topic;
+    match (arguments.has("--plain"), arguments.has("--both")) {
+        (true, true) => Err(misused(topic, "--plain and --both exclude each other")),
+        (plain, both) if (plain || both) && !arguments.lists.is_empty() => {
+            let other = if plain { "--plain" } else { "--both" };
+            let words = format!("{other} and {VALUES} exclude each other");
+            Err(misused(topic, &words))
+        }
+        (true, false) => Ok(Evaluations::Plain),
+        (false, true) => Ok(Evaluations::Both),
+        (false, false) => match &arguments.lists[..] {
+            [] => Ok(Evaluations::Snippets),
+            lists => {
+                let nodes = lists.iter().map(|list| read_nodes(topic, list));
+                let nodes: Vec<Vec<u16>> = nodes.collect::<Result<_, _>>()?;
+                Ok(Evaluations::Values(nodes.concat()))
+            }
+        },
+    }
+}
+
+/// Numbers of nodes with commas between them, or nothing. One that does not fit is
+/// the number of no node, as the largest that fits is.
+fn read_nodes(topic: Topic, list: &OsStr) -> Result<Vec<u16>, Failure> {
+    let text = list.to_string_lossy();
+    let is_number = |item: &str| !item.is_empty() && item.bytes().all(|b| b.is_ascii_digit());
+    if text.is_empty() {
+        return Ok(Vec::new());
+    }
+    if !text.split(',').all(is_number) {
+        let words = format!(
+            "{VALUES} takes numbers of nodes with commas between them, and not {}",
+            shown(list)
+        );
+        return Err(misused(topic, &words));
+    }
+    let number = |item: &str| item.parse().unwrap_or(u16::MAX);
+    Ok(text.split(',').map(number).collect())
+}
+
 fn read_explain(mut arguments: Arguments) -> Result<Request, Failure> {
     let [rule] = arguments.operands(["RULE"])?;
     Ok(Request::Explain { rule })
@@ -127,6 +162,8 @@ fn read_explain(mut arguments: Arguments) -> Result<Request, Failure> {
 struct Arguments {
     topic: Topic,
     options: Vec<&'static str>,
+    /// What stands behind each `--values`.
+    lists: Vec<OsString>,
     operands: Vec<OsString>,
 }
 
@@ -134,30 +171,49 @@ impl Arguments {
     /// Options may stand before and behind operands; `--` ends them, and `-`
     /// alone is an operand.
     fn read(topic: Topic, arguments: &[OsString]) -> Result<Arguments, Failure> {
-        let (mut options, mut operands) = (Vec::new(), Vec::new());
-        let mut ended = false;
-        for argument in arguments {
+        let mut read = Arguments {
+            topic,
+            options: Vec::new(),
+            lists: Vec::new(),
+            operands: Vec::new(),
+        };
+        let mut rest = arguments.iter();
+        while let Some(argument) = rest.next() {
             let dashed = argument.as_encoded_bytes().starts_with(b"-");
-            if ended || !dashed || *argument == *"-" {
-                operands.push(argument.clone());
+            if !dashed || *argument == *"-" {
+                read.operands.push(argument.clone());
             } else if *argument == *"--" {
-                ended = true;
+                read.operands.extend(rest.by_ref().cloned());
             } else {
-                let mut known = topic.options().iter();
-                match known.find(|option| *argument == ***option) {
-                    Some(option) => options.push(*option),
-                    None => {
-                        let words = format!("there is no option {}", shown(argument));
-                        return Err(misused(topic, &words));
-                    }
-                }
+                read.option(argument, &mut rest)?;
             }
         }
-        Ok(Arguments {
-            topic,
-            options,
-            operands,
-        })
+        Ok(read)
+    }
+
+    /// Reads an option, with its argument if it takes one.
+    fn option<'a>(
+        &mut self,
+        argument: &OsStr,
+        rest: &mut impl Iterator<Item = &'a OsString>,
+    ) -> Result<(), Failure> {
+        let mut known = self.topic.options().iter();
+        let Some(option) = known.find(|option| *argument == ***option) else {
+            let words = format!("there is no option {}", shown(argument));
+            return Err(misused(self.topic, &words));
+        };
+        if *option != VALUES {
+            self.options.push(option);
+            return Ok(());
+        }
+        match rest.next() {
+            Some(list) => self.lists.push(list.clone()),
+            None => {
+                let words = format!("{NODES} is missing behind {VALUES}");
+                return Err(misused(self.topic, &words));
+            }
+        }
+        Ok(())
     }
 
     fn has(&self, option: &str) -> bool {

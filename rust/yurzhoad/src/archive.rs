@@ -1,4 +1,4 @@
-//! The four proved functions as the archive has them, callable from safe Rust.
+//! The five proved functions as the archive has them, callable from safe Rust.
 //!
 //! This is the floor below [`Library`](crate::Library), [`Rule`](crate::Rule)
 //! and [`Selector`](crate::Selector). Any bytes and buffers of any length may
@@ -42,7 +42,8 @@ pub struct RuleAnswer {
 #[repr(C)]
 #[derive(Clone, Copy, Debug, PartialEq, Eq)]
 pub struct Evaluation {
-    /// 0 if the call is accepted, or the number of the refusal, 1 to 11 or 14.
+    /// 0 if the call is accepted, or the number of the refusal: 1 to 11 or 14, and
+    /// 13 or 23 where a list of values is lent.
     pub number: u16,
     /// 0 if the call is accepted, or the place of the refusal.
     pub place: usize,
@@ -90,6 +91,18 @@ extern "C" {
         document_length: usize,
         rule: *const u8,
         rule_length: usize,
+        scratch: *mut u16,
+        scratch_length: usize,
+        marks: *mut u8,
+        marks_length: usize,
+    ) -> Evaluation;
+    fn yurzhoad_evaluate_values(
+        document: *const u8,
+        document_length: usize,
+        rule: *const u8,
+        rule_length: usize,
+        values: *const u16,
+        values_length: usize,
         scratch: *mut u16,
         scratch_length: usize,
         marks: *mut u8,
@@ -181,7 +194,72 @@ pub fn evaluate_snippets(
     unsafe { lend(yurzhoad_evaluate_snippets, document, rule, scratch, marks) }
 }
 
-/// An exported evaluation: a pointer and a length for each slice.
+/// Evaluates a rule that is one equality between two paths by some of its values:
+/// those of the nodes in a list, in any order and each any number of times.
+///
+/// The count is that of the distinct snippets which these values yield, with all
+/// snippets of the equalities in the rule's brackets. A node is marked if these
+/// snippets settle it, or if both paths lead from it to one and the same node. By
+/// a list that has every value, record, marks and scratch are those of
+/// [`evaluate_snippets`].
+///
+/// It leaves the buffers as the other evaluations do, and refuses what they
+/// refuse. Behind 9 it refuses by 23 a rule that is no such equality, and behind 11
+/// by 13 a list with a node that the document does not have.
+///
+/// Of three equal values and two others, beside each other:
+///
+/// ```
+/// use yurzhoad::archive::{evaluate_snippets, evaluate_values};
+/// use yurzhoad::limits::needed_words;
+///
+/// let values = ["a", "a", "b", "a", "b"];
+/// let texts = values.map(|value| format!("depth=1\nkind=t\nlabel=text\nvalue={value}\n"));
+/// let document = ["nodes=6\ndepth=0\nkind=e\nlabel=lib\nvalue=\n", &texts.concat()].concat();
+/// let (mut scratch, mut marks) = (vec![0; needed_words(6)], [0; 6]);
+///
+/// // Where the value of the next node but one is the same.
+/// let mut evaluate = |values: &[u16]| {
+///     let (document, rule) = (document.as_bytes(), b"(e=.rr)");
+///     evaluate_values(document, rule, values, &mut scratch, &mut marks)
+/// };
+/// assert_eq!(evaluate(&[1]).selected, 1); // the values `a`: node 2
+/// assert_eq!(evaluate(&[5]).selected, 1); // the values `b`: node 3
+/// assert_eq!(evaluate(&[3, 1, 4]).selected, 2);
+/// assert_eq!(evaluate(&[]).selected, 0);
+/// assert_eq!(evaluate(&[6]).number, 13);
+///
+/// let all = evaluate(&[0, 1, 2, 3, 4, 5]);
+/// let (document, rule) = (document.as_bytes(), b"(e=.rr)");
+/// assert_eq!(evaluate_snippets(document, rule, &mut scratch, &mut marks), all);
+/// ```
+pub fn evaluate_values(
+    document: &[u8],
+    rule: &[u8],
+    values: &[u16],
+    scratch: &mut [u16],
+    marks: &mut [u8],
+) -> Evaluation {
+    // SAFETY: each pointer and length are those of one slice that outlives the
+    // call; the function reads inside all of them, writes to the two that are
+    // borrowed mutably and so overlap nothing, and keeps no reference to any.
+    unsafe {
+        yurzhoad_evaluate_values(
+            document.as_ptr(),
+            document.len(),
+            rule.as_ptr(),
+            rule.len(),
+            values.as_ptr(),
+            values.len(),
+            scratch.as_mut_ptr(),
+            scratch.len(),
+            marks.as_mut_ptr(),
+            marks.len(),
+        )
+    }
+}
+
+/// An exported evaluation of a whole rule: a pointer and a length for each slice.
 type Exported = unsafe extern "C" fn(
     *const u8,
     usize,

@@ -23,7 +23,9 @@ pub fn of(ground: Ground, place: usize, document: &[u8], rule: &[u8]) -> Option<
         Ground::DocumentLength
         | Ground::RuleLength
         | Ground::ScratchLength
-        | Ground::MarksLength => None,
+        | Ground::MarksLength
+        | Ground::NoSuchNode
+        | Ground::OtherComparison => None,
     }
 }
 

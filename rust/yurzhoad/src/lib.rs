@@ -10,9 +10,10 @@
 //! - [`Rule`] is a rule that was checked.
 //! - [`Selector`] evaluates rules on libraries. It owns the buffers that an
 //!   evaluation needs, and uses them again. [`Method`] picks the evaluation.
+//!   [`Selector::select_values`] takes an equality by some of its values alone.
 //! - [`Selection`] says which nodes are selected.
-//! - [`Refusal`] says why a document or a rule is not accepted: a number, a
-//!   place and words.
+//! - [`Refusal`] says why a document, a rule or a call is not accepted: a number,
+//!   a place and words.
 //!
 //! What documents and rules look like, and what they mean, is written in the
 //! repository's `docs/FORMAT.md`. `=` and `!=` compare values as text, and the
@@ -115,7 +116,7 @@
 //!
 //! # What a call hands back
 //!
-//! Below all this is the module [`archive`], with the four functions as the
+//! Below all this is the module [`archive`], with the five functions as the
 //! archive has them. Each hands back a record. Its `number` is 0 if the call is
 //! accepted; else it is the number of the [`Ground`], and `place` says where:
 //! a line of the document from 1, or an offset of the rule from 0. If the call

@@ -34,13 +34,18 @@ pub enum Ground {
     ScratchLength = 10,
     /// There are fewer marks than nodes.
     MarksLength = 11,
+    /// A node of the list is none of the document.
+    NoSuchNode = 13,
     /// The attribute has the label of another one of its element.
     DuplicateAttribute = 14,
+    /// The rule is not the comparison that the call is for: one equality between
+    /// two paths.
+    OtherComparison = 23,
 }
 
 impl Ground {
-    /// All grounds, by rising numbers. No call hands back 12 or 13 yet.
-    pub const ALL: [Ground; 12] = [
+    /// All grounds, by rising numbers. No call hands back 12, or 15 to 22.
+    pub const ALL: [Ground; 14] = [
         Ground::DocumentLength,
         Ground::LineForm,
         Ground::NodeCount,
@@ -52,7 +57,9 @@ impl Ground {
         Ground::Steps,
         Ground::ScratchLength,
         Ground::MarksLength,
+        Ground::NoSuchNode,
         Ground::DuplicateAttribute,
+        Ground::OtherComparison,
     ];
 
     /// The ground of this number, if there is one.
@@ -62,7 +69,7 @@ impl Ground {
             .find(|ground| ground.number() == number)
     }
 
-    /// The number, 1 to 11 or 14.
+    /// The number: 1 to 11, 13, 14 or 23.
     pub fn number(self) -> u16 {
         self as u16
     }
@@ -121,7 +128,7 @@ impl Refusal {
         self.ground
     }
 
-    /// The number of the ground, 1 to 11 or 14.
+    /// The number of the ground: 1 to 11, 13, 14 or 23.
     pub fn number(&self) -> u16 {
         self.ground.number()
     }
@@ -154,11 +161,11 @@ impl Display for Refusal {
             | Ground::NodeCount
             | Ground::TreeRule
             | Ground::DuplicateAttribute => ("document", "line"),
-            Ground::RuleLength => ("rule", "place"),
+            Ground::RuleLength | Ground::OtherComparison => ("rule", "place"),
             Ground::Unreadable | Ground::Nesting | Ground::Tests | Ground::Steps => {
                 ("rule", "offset")
             }
-            Ground::ScratchLength | Ground::MarksLength => ("call", "place"),
+            Ground::ScratchLength | Ground::MarksLength | Ground::NoSuchNode => ("call", "place"),
         };
         let words = &self.words;
         write!(

@@ -5,6 +5,7 @@ use std::fmt;
 use crate::archive::{self, Evaluation};
 use crate::library::Library;
 use crate::limits::needed_words;
+use crate::refusal::{Ground, Refusal};
 use crate::rule::Rule;
 
 /// Which of the two evaluations is made. Both select the same nodes.
@@ -127,28 +128,105 @@ impl Selector {
     /// checked library and rule with these buffers, so this can happen only
     /// with another archive.
     pub fn select(&mut self, library: &Library<'_>, rule: &Rule<'_>) -> Selection<'_> {
-        let nodes = library.nodes();
-        self.reserve(nodes);
-        let evaluate = match self.method {
+        let method = self.method;
+        let evaluate = match method {
             Method::Plain => archive::evaluate_plain,
             Method::Snippets => archive::evaluate_snippets,
         };
-        // Just as long as the library needs: what a call does to its buffers
-        // does not depend on the calls before.
-        let scratch = &mut self.scratch[..needed_words(nodes)];
-        let marks = &mut self.marks[..nodes];
+        let (scratch, marks) = self.lend(library.nodes());
         let evaluation = evaluate(library.bytes(), rule.bytes(), scratch, marks);
-        assert_eq!(
-            evaluation.number, 0,
-            "the archive refuses a library and a rule that it accepted: it is not the proved one"
-        );
+        assert_eq!(evaluation.number, 0, "{NOT_PROVED}");
         Selection {
-            method: self.method,
+            method,
             evaluation,
             marks,
         }
     }
+
+    /// Selects by some of the values that a rule compares, for a rule that is one
+    /// equality between two paths. A node of the list stands for its value; order
+    /// and repeats do not matter.
+    ///
+    /// A node is selected if both paths lead from it to one and the same node, or
+    /// if the snippets of these values settle it. These are counted, and with them
+    /// all snippets of the equalities in the rule's brackets. It goes by snippets,
+    /// whatever the selector's method. By a list of all values it is what
+    /// [`select`](Selector::select) does with [`Method::Snippets`].
+    ///
+    /// ```
+    /// use yurzhoad::{Ground, Library, Method, Rule, Selector};
+    ///
+    /// // The nodes 1 and 3 have the value `a`, and 2 and 4 have `b`.
+    /// let texts = ["a", "b", "a", "b"].map(|value| {
+    ///     format!("depth=1\nkind=t\nlabel=text\nvalue={value}\n")
+    /// });
+    /// let document = ["nodes=5\ndepth=0\nkind=e\nlabel=lib\nvalue=\n", &texts.concat()].concat();
+    /// let library = Library::check(&document)?;
+    /// let rule = Rule::check("(e=.rr)")?;
+    /// let mut selector = Selector::new(Method::Snippets);
+    /// for (values, selected, snippets) in [
+    ///     (&[][..], &[][..], 0),
+    ///     (&[3], &[1], 3),
+    ///     (&[2], &[2], 3),
+    ///     (&[4, 1, 1], &[1, 2], 6),
+    /// ] {
+    ///     let selection = selector.select_values(&library, &rule, values)?;
+    ///     assert_eq!(selection.nodes().collect::<Vec<_>>(), selected);
+    ///     assert_eq!(selection.snippets(), Some(snippets));
+    /// }
+    ///
+    /// let refusal = selector.select_values(&library, &rule, &[5]).unwrap_err();
+    /// assert_eq!(refusal.ground(), Ground::NoSuchNode);
+    /// let rule = Rule::check("!(e=.rr)")?;
+    /// let refusal = selector.select_values(&library, &rule, &[1]).unwrap_err();
+    /// assert_eq!(refusal.ground(), Ground::OtherComparison);
+    /// # Ok::<(), yurzhoad::Refusal>(())
+    /// ```
+    ///
+    /// # Errors
+    ///
+    /// The refusal, by 23 if the rule is no such equality, else by 13 if the
+    /// library has not all nodes of the list.
+    ///
+    /// # Panics
+    ///
+    /// If the archive refuses the call on another ground, as with `select`.
+    pub fn select_values(
+        &mut self,
+        library: &Library<'_>,
+        rule: &Rule<'_>,
+        values: &[u16],
+    ) -> Result<Selection<'_>, Refusal> {
+        let (document, rule) = (library.bytes(), rule.bytes());
+        let (scratch, marks) = self.lend(library.nodes());
+        let evaluation = archive::evaluate_values(document, rule, values, scratch, marks);
+        if let Some(refusal) = Refusal::explain(evaluation.number, evaluation.place, document, rule)
+        {
+            let of_list = [Ground::OtherComparison, Ground::NoSuchNode];
+            assert!(of_list.contains(&refusal.ground()), "{NOT_PROVED}");
+            return Err(refusal);
+        }
+        Ok(Selection {
+            method: Method::Snippets,
+            evaluation,
+            marks,
+        })
+    }
+
+    /// Scratch and marks just as long as so many nodes need: what a call does to
+    /// its buffers does not depend on the calls before.
+    fn lend(&mut self, nodes: usize) -> (&mut [u16], &mut [u8]) {
+        self.reserve(nodes);
+        (
+            &mut self.scratch[..needed_words(nodes)],
+            &mut self.marks[..nodes],
+        )
+    }
 }
+
+/// What is wrong if checked things are refused.
+const NOT_PROVED: &str =
+    "the archive refuses a library and a rule that it accepted: it is not the proved one";
 
 /// Short: the buffers may have millions of words.
 impl fmt::Debug for Selector {

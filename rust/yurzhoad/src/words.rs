@@ -37,7 +37,12 @@ pub fn of(ground: Ground, place: usize, document: &[u8], rule: &[u8]) -> String 
             let nodes = counted(count(document).unwrap_or(0));
             format!("there are too few marks: the document has {nodes}")
         }
+        Ground::NoSuchNode => {
+            let nodes = counted(count(document).unwrap_or(0));
+            format!("a node of the list is not in the document, which has {nodes}")
+        }
         Ground::DuplicateAttribute => duplicate(place, document),
+        Ground::OtherComparison => "it is not one equality between two paths".to_string(),
     }
 }
 

@@ -8,8 +8,8 @@
 //! cargo run --release --offline -p bench
 //! ```
 //!
-//! With `documents`, `rules`, `evaluations`, `counts`, `values` or `wrapper` behind
-//! `--` only these are timed.
+//! With `documents`, `rules`, `evaluations`, `counts`, `values`, `groups`, `lists` or
+//! `wrapper` behind `--` only these are timed.
 //!
 //! The workspace's release profile has overflow checks and debug assertions;
 //! it switches them off for this package, whose scans and whose evaluation are
@@ -23,6 +23,7 @@ mod attributes;
 mod counts;
 mod documents;
 mod evaluations;
+mod groups;
 mod libraries;
 mod rule_shapes;
 mod rules;
@@ -36,12 +37,14 @@ mod wrapper;
 mod xpath;
 
 /// What can be timed, by name.
-const PARTS: [(&str, fn()); 6] = [
+const PARTS: [(&str, fn()); 8] = [
     ("documents", documents::print),
     ("rules", rules::print),
     ("evaluations", evaluations::print),
     ("counts", counts::print),
     ("values", values::print),
+    ("groups", groups::print),
+    ("lists", groups::print_lists),
     ("wrapper", wrapper::print),
 ];
 

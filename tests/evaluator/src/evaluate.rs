@@ -1,6 +1,6 @@
 //! The two evaluations: the order of checks, the record, the marks.
 
-use crate::rule::{equalities, Operand, Sign, Test};
+use crate::rule::{equalities, Operand, Path, Sign, Test};
 use crate::snippets::settle;
 use crate::tree::Tree;
 use crate::{document, meaning, refuse, rule_check, Refusal};
@@ -22,7 +22,7 @@ pub struct Outcome {
 
 impl Outcome {
     /// "Refused: every count and N 0".
-    fn refused(Refusal { number, place }: Refusal) -> Outcome {
+    pub(crate) fn refused(Refusal { number, place }: Refusal) -> Outcome {
         Outcome {
             number,
             place,
@@ -114,9 +114,7 @@ pub fn evaluate_snippets(
     })
 }
 
-/// "After an accepted evaluation those first words are 0 and later ones
-/// unchanged; marks are bytes, the first N of them 0 or 1 and later ones
-/// unchanged."
+/// The call that was accepted with these, or its refusal.
 fn call(
     document: &[u8],
     rule: &[u8],
@@ -124,13 +122,22 @@ fn call(
     marks: &mut [u8],
     evaluated: impl Fn(&Tree, &Test) -> (Vec<bool>, usize),
 ) -> Outcome {
-    let (tree, test) = match accept(document, rule, scratch.len(), marks.len()) {
-        Ok(accepted) => accepted,
+    match accept(document, rule, scratch.len(), marks.len()) {
+        Ok((tree, test)) => write(scratch, marks, evaluated(&tree, &test)),
         // "all buffers unchanged"
-        Err(refusal) => return Outcome::refused(refusal),
-    };
-    let (holds, snippets) = evaluated(&tree, &test);
-    scratch[..needed_words(tree.size())].fill(0);
+        Err(refusal) => Outcome::refused(refusal),
+    }
+}
+
+/// "After an accepted evaluation those first words are 0 and later ones
+/// unchanged; marks are bytes, the first N of them 0 or 1 and later ones
+/// unchanged."
+pub(crate) fn write(
+    scratch: &mut [u16],
+    marks: &mut [u8],
+    (holds, snippets): (Vec<bool>, usize),
+) -> Outcome {
+    scratch[..needed_words(holds.len())].fill(0);
     for (mark, holds) in marks.iter_mut().zip(&holds) {
         *mark = u8::from(*holds);
     }
@@ -146,20 +153,30 @@ fn accept(
 ) -> Result<(Tree, Test), Refusal> {
     let library = document::read(document)?;
     let test = rule_check::read(rule)?;
-    let nodes = library.nodes.len();
+    check_lengths(library.nodes.len(), words, marks)?;
+    Ok((Tree::of(&library), test))
+}
+
+/// 10, then 11.
+pub(crate) fn check_lengths(nodes: usize, words: usize, marks: usize) -> Result<(), Refusal> {
     if words < needed_words(nodes) {
         return refuse(10, 0);
     }
     if marks < nodes {
         return refuse(11, 0);
     }
-    Ok((Tree::of(&library), test))
+    Ok(())
 }
 
 /// "The count is at most 128 × N × B × E, where E is the number of these
 /// comparisons, each place in the rule counted."
 pub fn most_snippets(nodes: usize, test: &Test) -> usize {
-    128 * nodes * binary_digits(nodes) * equalities(test).len()
+    most_snippets_of_one(nodes) * equalities(test).len()
+}
+
+/// The same of one comparison.
+fn most_snippets_of_one(nodes: usize) -> usize {
+    128 * nodes * binary_digits(nodes)
 }
 
 /// "The count that an evaluation reports is the size of these sets, added over
@@ -170,21 +187,23 @@ pub fn most_snippets(nodes: usize, test: &Test) -> usize {
 /// the definition agree, and the counts keep their bound. `evaluate` counts for
 /// the plain evaluation too; `evaluate_plain` does not.
 fn count_snippets(tree: &Tree, test: &Test) -> usize {
-    let mut total = 0;
-    for (p, r) in equalities(test) {
-        let settlement = settle(tree, p, r);
-        let equality = Test::Compare(p.clone(), Sign::Equal, Operand::Path(r.clone()));
-        let bound = 128 * tree.size() * binary_digits(tree.size());
-        assert_eq!(
-            settlement.holds,
-            meaning::holds(tree, &equality),
-            "the settling rule and the definition differ on {}",
-            String::from_utf8_lossy(&equality.spell())
-        );
-        let count = settlement.snippets.len();
-        assert!(count <= bound, "{count} snippets, at most {bound} promised");
-        total += count;
-    }
+    let count = |(p, r)| count_equality(tree, p, r);
+    let total = equalities(test).into_iter().map(count).sum();
     assert!(total <= most_snippets(tree.size(), test));
     total
+}
+
+/// The snippets of one equality between two paths, with the same assertions.
+pub(crate) fn count_equality(tree: &Tree, p: &Path, r: &Path) -> usize {
+    let settlement = settle(tree, p, r);
+    let equality = Test::Compare(p.clone(), Sign::Equal, Operand::Path(r.clone()));
+    assert_eq!(
+        settlement.holds,
+        meaning::holds(tree, &equality),
+        "the settling rule and the definition differ on {}",
+        String::from_utf8_lossy(&equality.spell())
+    );
+    let (count, bound) = (settlement.snippets.len(), most_snippets_of_one(tree.size()));
+    assert!(count <= bound, "{count} snippets, at most {bound} promised");
+    count
 }

@@ -1,4 +1,4 @@
-//! An evaluator of document 01 with the requests (b), (d), (f) and (h) of
+//! An evaluator of document 01 with the requests (b), (d), (f), (h) and (k) of
 //! document 02, written from their sentences and not from the proved code. No
 //! code is shared. The archive is compared with it. Request (n) asks for no other
 //! evaluation: what it supposes of two documents and a rule is said by `masking`,
@@ -10,7 +10,12 @@
 //!   joins (`relation`), and a count asks how many nodes one is related to;
 //! - the snippets: `positions`, `chains` and `snippets`, where each skeleton is
 //!   made from every two nodes of a value, and all first snippets and halves
-//!   are written out and kept in one set.
+//!   are written out and kept in one set;
+//! - an equality by some of its values: `by_values`, where this set is made from
+//!   the first snippets of these values alone, each value looked at once, and the
+//!   marks are what the settling rule says of this very set. In `value_lists` they
+//!   are also compared with where the two paths lead. The grounds 13 and 23 are
+//!   tested here too, and the order by size is the sorted list of the groups.
 //!
 //! What is compared is cut by `tree::trimmed` and nowhere else, values by
 //! `Tree::compared` and constants where they stand. What is a numeral, and its
@@ -40,6 +45,7 @@
 
 pub mod amount;
 pub mod backward;
+pub mod by_values;
 pub mod chains;
 pub mod document;
 pub mod evaluate;

@@ -14,7 +14,7 @@ pub fn shrink<T: Clone>(items: &[T], still_fails: impl Fn(&[T]) -> bool) -> Vec<
 }
 
 /// The same, but with what is left once there is no more going on.
-fn shrink_while<T: Clone>(
+pub fn shrink_while<T: Clone>(
     items: &[T],
     still_fails: impl Fn(&[T]) -> bool,
     go_on: impl Fn() -> bool,
@@ -64,21 +64,47 @@ pub fn shrink_nodes(
     still_fails: impl Fn(&[u8]) -> bool,
     go_on: impl Fn() -> bool,
 ) -> Vec<u8> {
+    shrink_listed(document, &[], |bytes, _| still_fails(bytes), go_on).0
+}
+
+/// The same with a list of nodes, which stay the nodes that they are: what is left
+/// out of the document is left out of the list too. A number that is none of a
+/// node stays as far behind the last one.
+pub fn shrink_listed(
+    document: &[u8],
+    list: &[u16],
+    still_fails: impl Fn(&[u8], &[u16]) -> bool,
+    go_on: impl Fn() -> bool,
+) -> (Vec<u8>, Vec<u16>) {
     let lines: Vec<&[u8]> = document.split_inclusive(|byte| *byte == b'\n').collect();
     let Some((first, rest)) = lines.split_first() else {
-        return Vec::new();
+        return (Vec::new(), list.to_vec());
     };
-    let nodes: Vec<&[&[u8]]> = rest.chunks(4).collect();
-    let spell = |kept: &[&[&[u8]]]| {
+    let nodes: Vec<Numbered> = rest.chunks(4).enumerate().collect();
+    let spell = |kept: &[Numbered]| {
         let mut bytes = lowered(first, nodes.len() - kept.len());
-        bytes.extend(kept.concat().concat());
-        bytes
+        bytes.extend(kept.iter().flat_map(|(_, lines)| lines.concat()));
+        (bytes, renumbered(list, nodes.len(), kept))
     };
-    spell(&shrink_while(
-        &nodes,
-        |kept| still_fails(&spell(kept)),
-        go_on,
-    ))
+    let fails = |kept: &[Numbered]| {
+        let (bytes, list) = spell(kept);
+        still_fails(&bytes, &list)
+    };
+    spell(&shrink_while(&nodes, fails, go_on))
+}
+
+/// A node's number with its lines.
+type Numbered<'a> = (usize, &'a [&'a [u8]]);
+
+/// The list with the numbers that its nodes get when of so many only the kept
+/// ones, rising, are left.
+fn renumbered(list: &[u16], nodes: usize, kept: &[Numbered]) -> Vec<u16> {
+    let renumber = |node: usize| match node < nodes {
+        true => kept.binary_search_by_key(&node, |(number, _)| *number).ok(),
+        false => Some(node - (nodes - kept.len())),
+    };
+    let left = list.iter().filter_map(|node| renumber(usize::from(*node)));
+    left.map(|node| node as u16).collect()
 }
 
 /// Makes a failing rule small. A part is replaced by one inside it, a path by

@@ -29,18 +29,30 @@ struct First {
 
 /// What the snippets of one comparison say.
 pub struct Settlement {
-    /// The distinct snippets yielded, over all values at once.
+    /// The distinct snippets yielded, over all the values at once.
     pub snippets: BTreeSet<Snippet>,
     /// For each node whether the comparison holds there by the settling rule.
     pub holds: Vec<bool>,
 }
 
+/// By all values.
 pub fn settle(tree: &Tree, p: &Path, r: &Path) -> Settlement {
+    settle_by(tree, p, r, 0..tree.size())
+}
+
+/// By the values of these nodes alone: "Given only some of one comparison's
+/// values, it counts for it just the distinct snippets that these yield." (02, k)
+pub fn settle_by(
+    tree: &Tree,
+    p: &Path,
+    r: &Path,
+    nodes: impl IntoIterator<Item = usize>,
+) -> Settlement {
     let chains = Chains::of(tree, Positions::of(p, r));
     let stretches = Stretches { tree, chains };
     let mut snippets = BTreeSet::new();
     // "Skeletons group by the shortened value" (02, b).
-    let values: BTreeSet<&[u8]> = (0..tree.size()).map(|v| tree.compared(v)).collect();
+    let values: BTreeSet<&[u8]> = nodes.into_iter().map(|v| tree.compared(v)).collect();
     for value in values {
         for first in stretches.first_snippets(value) {
             for snippet in stretches.yielded_by_first(first) {

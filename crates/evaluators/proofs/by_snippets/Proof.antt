@@ -1,12 +1,12 @@
 -- `evaluators::by_snippets` meets its contract.
-use mathlib.Core.Path.{sym, _∙_}
-use native.Mathlib.Omega.{arith}
-use Rattle.retracing.proofs.Linked.{linked-drawn}
-use Rattle.machine.proofs.Shape.{drawn-shape}
-use Rattle.plain.proofs.Signs.{other-sign}
-use Rattle.evaluators.proofs.Staging.{drawn-space, equal-stage}
-use Rattle.evaluators.proofs.Snippeting.{stage-levelled, digits-asked, equal-compared, other-compared}
+use mathlib.Core.Path.{sym, _∙_, subst}
 use Rattle.machine.proofs.Comparing.{second-few}
+use Rattle.plain.proofs.Signs.{equal-sign, other-sign}
+use Rattle.retracing.proofs.Linked.{linked-drawn}
+use Rattle.evaluators.specs.Evaluators.{Compared}
+use Rattle.evaluators.specs.declared.Evaluator.the-variants.{Snippets}
+use Rattle.evaluators.proofs.Staging.{drawn-space, equal-posed}
+use Rattle.evaluators.proofs.Snippeting.{other-compared}
 use borrow.Author.Needs.{needs}
 use Rattle.evaluators.proofs.by_snippets.Statement.{statement}
 use Rattle.evaluators.proofs.by_snippets.Tie as tie
@@ -14,18 +14,10 @@ use Rattle.evaluators.proofs.by_snippets.Tie as tie
 enum-told : tie.Need-enum-told
 enum-told c = search needs
 
-levels-requires : tie.Need-levels-requires
-levels-requires c κs = let x = c .before .before .before .before .pre in let h = x .0 .5 in let s = drawn-space (h .formed) (h .drawn) (x .1) .room in ((x .0 .2, drawn-shape (h .formed) (h .drawn)), omega arith)
-
-digits-requires : tie.Need-digits-requires
-digits-requires c κs = search needs
-
-compare-equal-requires : tie.Need-compare-equal-requires
-compare-equal-requires c κs =
-    let x = c .before .before .before .before .before .before .before .before .before .pre in let l = c .before .before .before .before .levels .ensures in
-    let stage = equal-stage (x .0 .5) (sym (c .before .before .before .before .before .before .enum-told .given .1) ∙ x .0 .4) in
-    let d = digits-asked stage l (c .before .digits .ensures) (x .1) in
-    ((x .0 .0, x .0 .1, x .0 .2, stage-levelled stage l), d .0, d .1, d .3, record { few = d .2; low = d .4; room = d .5 })
+by-groups-requires : tie.Need-by-groups-requires
+by-groups-requires c κs =
+    let x = c .before .before .before .before .pre in
+    ((x .0 .0, x .0 .1, x .0 .2, equal-posed (x .0 .5) (sym (c .before .enum-told .given .1) ∙ x .0 .4)), x .1)
 
 compare-order-requires : tie.Need-compare-order-requires
 compare-order-requires c κs = let x = c .before .before .before .pre in let h = x .0 .5 in (drawn-space (h .formed) (h .drawn) (x .1), second-few (h .machine), linked-drawn (h .drawn))
@@ -35,8 +27,8 @@ same-length c = search needs
 
 returns : tie.Need-returns
 returns c P R t q posed e =
-    let f = sym (c .before .before .before .before .before .before .before .before .before .enum-told .given .1) ∙ e in
-    equal-compared (equal-stage posed f) (c .before .before .before .before .before .before .before .levels .ensures) q f (c .before .before .compare-equal .ensures)
+    let x = c .before .before .before .before .before .before .before .args in let r = c .before .before .by-groups in let f = sym (c .before .before .before .before .enum-told .given .1) ∙ e in
+    subst (λ o. Compared Snippets t o P R (x .n) (x .p .now) (r .last .0) (r .result)) (sym (equal-sign q f)) (r .ensures P R t (equal-posed posed f))
 
 same-length-2 : tie.Need-same-length-2
 same-length-2 c = search needs
@@ -49,9 +41,7 @@ by-snippets-spec =
     tie.close
     (tie.spec
     enum-told
-    levels-requires
-    digits-requires
-    compare-equal-requires
+    by-groups-requires
     compare-order-requires
     same-length
     returns

@@ -1,48 +1,20 @@
 -- `verdicts::judge` meets its contract.
-use Rattle.verdicts.proofs.Judging.{needed-told, by-first, by-second, by-third, by-fourth, by-none}
+use Rattle.verdicts.proofs.Judging.{needed-told, by-texts, by-buffers}
 use borrow.Author.Needs.{needs}
 use Rattle.verdicts.proofs.judge.Statement.{statement}
 use Rattle.verdicts.proofs.judge.Tie as tie
 
-check-document-requires : tie.Need-check-document-requires
-check-document-requires c κs = search needs
+judge-texts-requires : tie.Need-judge-texts-requires
+judge-texts-requires c κs = search needs
 
 returns : tie.Need-returns
-returns c = by-first (c .before .before .check-document .ensures) (c .if1 .taken)
+returns c = by-texts (c .before .before .judge-texts .ensures) (c .if1 .taken)
 
-check-rule-requires : tie.Need-check-rule-requires
-check-rule-requires c κs = search needs
+judge-buffers-requires : tie.Need-judge-buffers-requires
+judge-buffers-requires c κs = needed-told (c .before .before .judge-texts .ensures) (c .if1 .left)
 
 returns-2 : tie.Need-returns-2
-returns-2 c = by-second (c .before .before .before .before .before .check-document .ensures) (c .before .before .before .if1 .left) (c .before .before .check-rule .ensures) (c .if2 .taken)
-
-needed-requires : tie.Need-needed-requires
-needed-requires c κs = needed-told (c .before .before .before .before .before .check-document .ensures) (c .before .before .before .if1 .left)
-
-returns-3 : tie.Need-returns-3
-returns-3 c =
-    by-third (c .before .before .before .before .before .before .before .check-document .ensures) (c .before .before .before .before .before .if1 .left)
-    (c .before .before .before .before .check-rule .ensures) (c .before .before .if2 .left) (c .before .needed .ensures) (c .if3 .taken)
-
-returns-4 : tie.Need-returns-4
-returns-4 c =
-    by-fourth (c .before .before .before .before .before .before .before .before .check-document .ensures) (c .before .before .before .before .before .before .if1 .left) (c .before .before .before .before .before .check-rule .ensures) (c .before .before .before .if2 .left)
-    (c .before .before .needed .ensures) (c .before .if3 .left) (c .if4 .taken)
-
-returns-5 : tie.Need-returns-5
-returns-5 c =
-    by-none (c .before .before .before .before .before .before .before .before .check-document .ensures) (c .before .before .before .before .before .before .if1 .left) (c .before .before .before .before .before .check-rule .ensures) (c .before .before .before .if2 .left)
-    (c .before .before .needed .ensures) (c .before .if3 .left) (c .if4 .left)
+returns-2 c = by-buffers (c .before .before .before .judge-texts .ensures) (c .before .if1 .left) (c .judge-buffers .ensures)
 
 pub judge-spec : {M : Type 1} → statement M
-judge-spec =
-    tie.close
-    (tie.spec
-    check-document-requires
-    returns
-    check-rule-requires
-    returns-2
-    needed-requires
-    returns-3
-    returns-4
-    returns-5)
+judge-spec = tie.close (tie.spec judge-texts-requires returns judge-buffers-requires returns-2)

@@ -45,7 +45,10 @@ fn help_is_given_however_it_is_asked_for() {
 fn every_option_is_in_the_help_of_its_command() {
     let options: [(&str, &[&str]); 3] = [
         ("check", &["--rule", "--json"]),
-        ("select", &["--plain", "--both", "--count", "--json"]),
+        (
+            "select",
+            &["--plain", "--both", "--values", "--count", "--json"],
+        ),
         ("explain", &[]),
     ];
     for (command, options) in options {

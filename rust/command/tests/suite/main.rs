@@ -16,3 +16,4 @@ mod select;
 mod select_random;
 mod streams;
 mod usage;
+mod values;

@@ -6,7 +6,8 @@ use crate::desk::{accepted, failed, Desk, Ran};
 
 const ALL: &str = "usage: yurzhoad check | select | explain [OPTION]... OPERAND...";
 const CHECK: &str = "usage: yurzhoad check [--json] LIBRARY | --rule RULE";
-const SELECT: &str = "usage: yurzhoad select [--plain | --both] [--count] [--json] RULE LIBRARY";
+const SELECT: &str =
+    "usage: yurzhoad select [--plain | --both | --values NODES] [--count] [--json] RULE LIBRARY";
 const EXPLAIN: &str = "usage: yurzhoad explain RULE";
 
 fn misused(words: &str, usage: &str) -> Ran {
@@ -82,9 +83,36 @@ fn what_excludes_each_other() {
         words,
         SELECT,
     );
+    for other in ["--plain", "--both"] {
+        let words = format!("select: {other} and --values exclude each other");
+        let before = ["select", other, "--values", "1", "(e=e)", "x.txt"];
+        assert_misused(&before, &words, SELECT);
+        let behind = ["select", "--values", "", "(e=e)", "x.txt", other];
+        assert_misused(&behind, &words, SELECT);
+    }
     let words = "select: RULE and LIBRARY cannot both be read from standard input";
     assert_misused(&["select", "-", "-"], words, SELECT);
     assert_misused(&["select", "--json", "--", "-", "-"], words, SELECT);
+}
+
+#[test]
+fn lists_of_nodes_that_are_none() {
+    // The last one is the rule that was meant.
+    for list in [
+        "a", "1,", ",1", "1,,2", "1, 2", "-1", "+1", "1.0", "--", "(e=e)",
+    ] {
+        let words = format!(
+            "select: --values takes numbers of nodes with commas between them, and not {list}"
+        );
+        let arguments = ["select", "--values", list, "(e=e)", "x.txt"];
+        assert_misused(&arguments, &words, SELECT);
+    }
+    let missing = "select: NODES is missing behind --values";
+    assert_misused(&["select", "(e=e)", "x.txt", "--values"], missing, SELECT);
+    let words = "select: LIBRARY is missing";
+    assert_misused(&["select", "--values", "1", "(e=e)"], words, SELECT);
+    let words = "check: there is no option --values";
+    assert_misused(&["check", "--values", "1", "x.txt"], words, CHECK);
 }
 
 #[test]

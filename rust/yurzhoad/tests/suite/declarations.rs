@@ -35,6 +35,7 @@ fn passed(kind: &str) -> Vec<String> {
     let by_pointer = |pointer: &str| vec![pointer.to_string(), "usize".to_string()];
     match kind {
         "&[u8]" => by_pointer("*const u8"),
+        "&[u16]" => by_pointer("*const u16"),
         "&mut [u16]" => by_pointer("*mut u16"),
         "&mut [u8]" => by_pointer("*mut u8"),
         other => vec![other.to_string()],
@@ -68,7 +69,7 @@ fn functions_have_the_signatures_of_the_proved_ones() {
         .skip(1)
         .map(|behind| behind.split_once('(').expect("parameters").0)
         .collect();
-    assert_eq!(names.len(), 4);
+    assert_eq!(names.len(), 5);
     assert_eq!(block.matches("fn ").count(), names.len());
     for name in names {
         let ours = types(between(block, &format!("fn {name}("), ";"));

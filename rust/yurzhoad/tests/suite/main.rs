@@ -14,6 +14,7 @@ mod limits;
 mod paths;
 mod selections;
 mod selector_reuse;
+mod value_lists;
 mod wordings;
 
 use std::fs;

@@ -211,6 +211,34 @@ fn number_11() {
     );
 }
 
+/// The refusal of an evaluation of X by values, with buffers long enough.
+fn by_values(rule: &str, values: &[u16]) -> Refusal {
+    let (document, rule) = (X.as_bytes(), rule.as_bytes());
+    let (mut scratch, mut marks) = (vec![0; 1_600], vec![0; 5]);
+    let answer = archive::evaluate_values(document, rule, values, &mut scratch, &mut marks);
+    Refusal::explain(answer.number, answer.place, document, rule).expect("a refused call")
+}
+
+#[test]
+fn number_13() {
+    assert_printed(
+        by_values("(e=e)", &[0, 5]),
+        "the call is refused: number 13 at place 0: a node of the list is not in the document, which has 5 nodes",
+        "",
+    );
+}
+
+#[test]
+fn number_23() {
+    for rule in [":drug", "(e!=e)", "(e=\"a\")", "!(e=e)"] {
+        assert_printed(
+            by_values(rule, &[0, 5]),
+            "the rule is refused: number 23 at place 0: it is not one equality between two paths",
+            "",
+        );
+    }
+}
+
 #[test]
 fn number_14() {
     assert_printed(

@@ -17,7 +17,7 @@ const CASES: u64 = 20_000;
 
 /// Half of the documents are whole, but seldom one has an attribute twice;
 /// seldom one is too long.
-fn draw_document(random: &mut Random, nodes: usize) -> Vec<u8> {
+pub fn draw_document(random: &mut Random, nodes: usize) -> Vec<u8> {
     let whole = spell(&match random.below(20) {
         0..=11 => library(random, nodes),
         12..=18 => any_library(random, nodes),
@@ -36,7 +36,7 @@ fn draw_document(random: &mut Random, nodes: usize) -> Vec<u8> {
 }
 
 /// Half of the rules are whole; some are too long, too deep or too large.
-fn draw_rule(random: &mut Random) -> Vec<u8> {
+pub fn draw_rule(random: &mut Random) -> Vec<u8> {
     let size = 2 + random.below(20);
     let whole = rule(random, size).spell();
     match random.below(20) {
@@ -62,7 +62,7 @@ fn draw_rule(random: &mut Random) -> Vec<u8> {
 
 /// Lengths by what the document needed when it was whole. It may need less or
 /// more now, or be refused.
-fn draw_buffers(random: &mut Random, nodes: usize) -> Buffers {
+pub fn draw_buffers(random: &mut Random, nodes: usize) -> Buffers {
     let mut length = |needed: usize| match random.below(8) {
         0 => Length::Just(random.below(needed)),
         1 => Length::Just(needed - 1),

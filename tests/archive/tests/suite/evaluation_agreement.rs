@@ -1,92 +1,67 @@
 //! Makes the same call of each evaluation to the archive and to the evaluator,
-//! and reports a difference with a small input.
+//! and reports a difference with a small input. Calls by all values of an equality
+//! are held against the archive's own snippet evaluation.
 
 use std::fmt::{self, Display, Formatter};
 use std::panic::catch_unwind;
 use std::thread::panicking;
 use std::time::{Duration, Instant};
 
+use evaluator::by_values::{evaluate_values, has_every_value, is_equality};
 use evaluator::evaluate::{evaluate_plain, evaluate_snippets, most_snippets};
 use evaluator::evaluate::{Evaluation, Outcome};
-use evaluator::random::Random;
-use evaluator::shrink::{shrink_nodes, shrink_rule};
-use evaluator::{backward, document, meaning, reader};
+use evaluator::shrink::{shrink_listed, shrink_rule, shrink_while};
+use evaluator::tree::Tree;
+use evaluator::{backward, document, meaning, reader, rule_check};
 use yurzhoad::archive;
 use yurzhoad::limits::needed_words;
+
+pub use crate::lent_memory::{needed, Buffers, Length};
+use crate::lent_memory::{Memory, AROUND};
 
 /// Every call is made to both.
 pub const EVALUATIONS: [Evaluation; 2] = [Evaluation::Plain, Evaluation::Snippets];
 
-/// How long a lent buffer is, given what the document needs.
+/// What is asked, and what it is held against.
 #[derive(Clone, Copy, Debug, PartialEq, Eq)]
-pub enum Length {
-    Needed,
-    Longer(usize),
-    /// By so much, or empty if it would need no more.
-    Shorter(usize),
-    /// Whatever the document needs; of a refused one that is nothing.
-    Just(usize),
+enum Asked<'a> {
+    /// The whole rule, against the evaluator.
+    Rule(Evaluation),
+    /// An equality by some of its values, against the evaluator. What is accepted
+    /// has at most `BY_DEFINITION` nodes.
+    Part(&'a [u16]),
+    /// An equality by all of its values, against the archive's snippet evaluation.
+    Every(&'a [u16]),
 }
 
-impl Length {
-    fn given(self, needed: usize) -> usize {
+impl Asked<'_> {
+    /// The nodes that stand for their values.
+    fn list(&self) -> &[u16] {
         match self {
-            Length::Needed => needed,
-            Length::Longer(more) => needed + more,
-            Length::Shorter(less) => needed.saturating_sub(less),
-            Length::Just(length) => length,
-        }
-    }
-}
-
-/// How the buffers of a call are made.
-#[derive(Clone, Copy, Debug)]
-pub struct Buffers {
-    pub words: Length,
-    pub marks: Length,
-    /// Seed of what they hold before the call.
-    pub seed: u64,
-}
-
-/// Buffers just large enough, filled from this seed.
-pub fn needed(seed: u64) -> Buffers {
-    Buffers {
-        words: Length::Needed,
-        marks: Length::Needed,
-        seed,
-    }
-}
-
-/// So many words lie before and behind the lent ones in the same memory, and
-/// as many bytes around the marks. Nothing may be written there.
-const AROUND: usize = 5;
-
-/// What a call may change: the lent buffers and what lies around them.
-#[derive(Clone, PartialEq, Eq)]
-struct Memory {
-    scratch: Vec<u16>,
-    marks: Vec<u8>,
-}
-
-impl Memory {
-    fn before(document: &[u8], buffers: Buffers) -> Memory {
-        let nodes = document::check(document).nodes;
-        let words = buffers.words.given(needed_words(nodes));
-        let marks = buffers.marks.given(nodes);
-        let random = &mut Random::new(buffers.seed);
-        Memory {
-            scratch: random.words(words + 2 * AROUND),
-            marks: random.bytes(marks + 2 * AROUND),
+            Asked::Rule(_) => &[],
+            Asked::Part(list) | Asked::Every(list) => list,
         }
     }
 
-    /// The lent buffers alone.
-    fn lent(&mut self) -> (&mut [u16], &mut [u8]) {
-        let (words, marks) = (self.scratch.len(), self.marks.len());
-        (
-            &mut self.scratch[AROUND..words - AROUND],
-            &mut self.marks[AROUND..marks - AROUND],
-        )
+    /// The same with another list.
+    fn by<'a>(&self, list: &'a [u16]) -> Asked<'a> {
+        match self {
+            Asked::Rule(evaluation) => Asked::Rule(*evaluation),
+            Asked::Part(_) => Asked::Part(list),
+            Asked::Every(_) => Asked::Every(list),
+        }
+    }
+
+    /// Whether it is asked what it says: only a list that has every value of an
+    /// accepted document is held against the snippet evaluation.
+    fn is_meant(&self, document: &[u8], rule: &[u8]) -> bool {
+        let Asked::Every(list) = self else {
+            return true;
+        };
+        let accepted = document::read(document).ok();
+        let complete = |library| has_every_value(&Tree::of(&library), list);
+        accepted.is_some_and(complete)
+            && rule_check::read(rule).is_ok_and(|rule| is_equality(&rule))
     }
 }
 
@@ -105,10 +80,26 @@ pub fn called(
     scratch: &mut [u16],
     marks: &mut [u8],
 ) -> Outcome {
-    let answer = match evaluation {
+    outcome(match evaluation {
         Evaluation::Plain => archive::evaluate_plain(document, rule, scratch, marks),
         Evaluation::Snippets => archive::evaluate_snippets(document, rule, scratch, marks),
-    };
+    })
+}
+
+/// The same of an equality by a list of its values.
+pub fn called_by_values(
+    document: &[u8],
+    rule: &[u8],
+    values: &[u16],
+    scratch: &mut [u16],
+    marks: &mut [u8],
+) -> Outcome {
+    outcome(archive::evaluate_values(
+        document, rule, values, scratch, marks,
+    ))
+}
+
+fn outcome(answer: archive::Evaluation) -> Outcome {
     Outcome {
         number: u32::from(answer.number),
         place: answer.place,
@@ -117,11 +108,37 @@ pub fn called(
     }
 }
 
-fn archive_after(evaluation: Evaluation, document: &[u8], rule: &[u8], before: &Memory) -> After {
+fn archive_after(asked: Asked, document: &[u8], rule: &[u8], before: &Memory) -> After {
     let mut memory = before.clone();
     let (scratch, marks) = memory.lent();
-    let outcome = called(evaluation, document, rule, scratch, marks);
+    let outcome = match asked {
+        Asked::Rule(evaluation) => called(evaluation, document, rule, scratch, marks),
+        Asked::Part(list) | Asked::Every(list) => {
+            called_by_values(document, rule, list, scratch, marks)
+        }
+    };
     After { outcome, memory }
+}
+
+/// What is due. Where the evaluator does not count snippets, the archive may
+/// report what it does.
+fn due_after(
+    asked: Asked,
+    document: &[u8],
+    rule: &[u8],
+    before: &Memory,
+    reported: usize,
+) -> After {
+    match asked {
+        Asked::Rule(evaluation) => evaluator_after(evaluation, document, rule, before, reported),
+        Asked::Part(list) => {
+            let mut memory = before.clone();
+            let (scratch, marks) = memory.lent();
+            let outcome = evaluate_values(document, rule, list, scratch, marks);
+            After { outcome, memory }
+        }
+        Asked::Every(_) => archive_after(Asked::Rule(Evaluation::Snippets), document, rule, before),
+    }
 }
 
 /// Up to so many nodes the evaluator counts snippets and marks nodes by the
@@ -129,8 +146,8 @@ fn archive_after(evaluation: Evaluation, document: &[u8], rule: &[u8], before: &
 /// following paths backwards, and does not count.
 pub const BY_DEFINITION: usize = 130;
 
-/// What is due. Where snippets are not counted, the archive may report what it
-/// does, up to the bound.
+/// What the evaluator does. Where it does not count snippets, it takes over what
+/// was reported, up to the bound.
 fn evaluator_after(
     evaluation: Evaluation,
     document: &[u8],
@@ -159,36 +176,31 @@ fn evaluator_after(
 
 /// One call, and what both made of it.
 struct Trial<'a> {
-    evaluation: Evaluation,
+    asked: Asked<'a>,
     document: &'a [u8],
     rule: &'a [u8],
     before: Memory,
     archive: After,
-    evaluator: After,
+    due: After,
 }
 
 impl Trial<'_> {
-    fn of<'a>(
-        evaluation: Evaluation,
-        document: &'a [u8],
-        rule: &'a [u8],
-        buffers: Buffers,
-    ) -> Trial<'a> {
+    fn of<'a>(asked: Asked<'a>, document: &'a [u8], rule: &'a [u8], buffers: Buffers) -> Trial<'a> {
         let before = Memory::before(document, buffers);
-        let archive = archive_after(evaluation, document, rule, &before);
+        let archive = archive_after(asked, document, rule, &before);
         let reported = archive.outcome.snippets;
         Trial {
-            evaluation,
+            asked,
             document,
             rule,
-            evaluator: evaluator_after(evaluation, document, rule, &before, reported),
+            due: due_after(asked, document, rule, &before, reported),
             archive,
             before,
         }
     }
 
     fn differs(&self) -> bool {
-        self.archive != self.evaluator
+        self.archive != self.due
     }
 
     /// The numbers of the nodes that an accepted call marked.
@@ -211,22 +223,65 @@ impl Drop for Origin<'_> {
     }
 }
 
-/// Makes the call to each evaluation, and asserts that archive and evaluator do
-/// the same, with every word of scratch and every mark.
+/// Makes a call, and asserts that the archive does what is due, with every word
+/// of scratch and every mark.
 fn agreed<'a>(
+    origin: &dyn Display,
+    asked: Asked<'a>,
+    document: &'a [u8],
+    rule: &'a [u8],
+    buffers: Buffers,
+) -> Trial<'a> {
+    let _origin = Origin(origin);
+    let trial = Trial::of(asked, document, rule, buffers);
+    if trial.differs() {
+        report(origin, &trial, buffers);
+    }
+    trial
+}
+
+/// The same of both evaluations of the whole rule.
+fn both_agreed<'a>(
     origin: &dyn Display,
     document: &'a [u8],
     rule: &'a [u8],
     buffers: Buffers,
 ) -> [Trial<'a>; 2] {
-    let _origin = Origin(origin);
-    EVALUATIONS.map(|evaluation| {
-        let trial = Trial::of(evaluation, document, rule, buffers);
-        if trial.differs() {
-            report(origin, &trial, buffers);
-        }
-        trial
-    })
+    EVALUATIONS.map(|evaluation| agreed(origin, Asked::Rule(evaluation), document, rule, buffers))
+}
+
+/// Asserts that archive and evaluator do the same by a list of values, and returns
+/// what they hand back, with the marked nodes of an accepted call.
+pub fn assert_by_values(
+    origin: impl Display,
+    document: &[u8],
+    rule: &[u8],
+    values: &[u16],
+    buffers: Buffers,
+) -> (Outcome, Vec<usize>) {
+    let trial = agreed(&origin, Asked::Part(values), document, rule, buffers);
+    let outcome = trial.archive.outcome;
+    match outcome.number {
+        0 => (outcome, trial.marked()),
+        _ => (outcome, Vec::new()),
+    }
+}
+
+/// Asserts that by a list of all values the archive does what its snippet
+/// evaluation does, and returns what both hand back. The list may have any order
+/// and repeats; it is looked at whether it has every value.
+pub fn assert_by_every_value(
+    origin: impl Display,
+    document: &[u8],
+    rule: &[u8],
+    values: &[u16],
+    buffers: Buffers,
+) -> Outcome {
+    let asked = Asked::Every(values);
+    assert!(asked.is_meant(document, rule), "{origin}: {values:?}");
+    agreed(&origin, asked, document, rule, buffers)
+        .archive
+        .outcome
 }
 
 /// Asserts that both do the same on a call, and returns what the snippet
@@ -238,7 +293,7 @@ pub fn assert_agreement(
     rule: &[u8],
     buffers: Buffers,
 ) -> Outcome {
-    let [_, snippets] = agreed(&origin, document, rule, buffers);
+    let [_, snippets] = both_agreed(&origin, document, rule, buffers);
     snippets.archive.outcome
 }
 
@@ -250,7 +305,7 @@ pub fn assert_marked(
     buffers: Buffers,
     due: &[usize],
 ) {
-    for trial in agreed(&origin, document, rule, buffers) {
+    for trial in both_agreed(&origin, document, rule, buffers) {
         let shown = rule.escape_ascii();
         let outcome = trial.archive.outcome;
         assert_eq!((outcome.number, outcome.place), (0, 0), "{origin}: {shown}");
@@ -265,16 +320,20 @@ pub fn assert_refused(
     document: &[u8],
     rule: &[u8],
     buffers: Buffers,
-    (number, place): (u32, usize),
+    due: (u32, usize),
 ) {
     let outcome = assert_agreement(&origin, document, rule, buffers);
-    let refused = Outcome {
+    assert_eq!(outcome, refused(due), "{origin}: {}", rule.escape_ascii());
+}
+
+/// What a call hands back that is refused with this number and place.
+pub fn refused((number, place): (u32, usize)) -> Outcome {
+    Outcome {
         number,
         place,
         selected: 0,
         snippets: 0,
-    };
-    assert_eq!(outcome, refused, "{origin}: {}", rule.escape_ascii());
+    }
 }
 
 /// Asserts that both evaluations of the archive mark just the nodes that are
@@ -300,24 +359,29 @@ pub fn assert_due(document: &[u8], rule: &str, due: impl Fn(usize) -> bool) -> u
 const PATIENCE: Duration = Duration::from_secs(20);
 
 /// Nodes are left out first, since calls on small documents are quick, then
-/// the rule is made small, then both again.
+/// the list and the rule are made small, then all again.
 fn report(origin: &dyn Display, trial: &Trial, buffers: Buffers) -> ! {
     let begun = Instant::now();
     let go_on = || begun.elapsed() < PATIENCE;
+    let asked = trial.asked;
     // A call on which an assertion of the evaluator fails is another failure.
-    let again = |document: &[u8], rule: &[u8]| {
-        let differs = || Trial::of(trial.evaluation, document, rule, buffers).differs();
-        catch_unwind(differs).unwrap_or(false)
+    let again = |document: &[u8], rule: &[u8], list: &[u16]| {
+        let asked = asked.by(list);
+        let differs = || Trial::of(asked, document, rule, buffers).differs();
+        asked.is_meant(document, rule) && catch_unwind(differs).unwrap_or(false)
     };
     let (mut document, mut rule) = (trial.document.to_vec(), trial.rule.to_vec());
+    let mut list = asked.list().to_vec();
     for _ in 0..2 {
-        document = shrink_nodes(&document, |bytes| again(bytes, &rule), go_on);
-        rule = shrink_rule(&rule, |bytes| again(&document, bytes), go_on);
+        let fails = |bytes: &[u8], list: &[u16]| again(bytes, &rule, list);
+        (document, list) = shrink_listed(&document, &list, fails, go_on);
+        list = shrink_while(&list, |list| again(&document, &rule, list), go_on);
+        rule = shrink_rule(&rule, |bytes| again(&document, bytes, &list), go_on);
     }
     panic!(
         "{origin}, {buffers:?}\n{}\nShrunk to:\n{}",
         trial,
-        Trial::of(trial.evaluation, &document, &rule, buffers)
+        Trial::of(asked.by(&list), &document, &rule, buffers)
     );
 }
 
@@ -329,19 +393,14 @@ const SHOWN: usize = 2_000;
 impl Display for Trial<'_> {
     fn fmt(&self, out: &mut Formatter) -> fmt::Result {
         let shown = &self.document[..self.document.len().min(SHOWN)];
-        writeln!(
-            out,
-            "{:?}, rule: {}",
-            self.evaluation,
-            self.rule.escape_ascii()
-        )?;
+        writeln!(out, "{:?}, rule: {}", self.asked, self.rule.escape_ascii())?;
         writeln!(out, "document of {} bytes:", self.document.len())?;
         for line in shown.split_inclusive(|byte| *byte == b'\n') {
             writeln!(out, "{}", line.escape_ascii())?;
         }
         writeln!(out, "archive: {:?}", self.archive.outcome)?;
-        writeln!(out, "evaluator: {:?}", self.evaluator.outcome)?;
-        let memories = [&self.before, &self.archive.memory, &self.evaluator.memory];
+        writeln!(out, "due: {:?}", self.due.outcome)?;
+        let memories = [&self.before, &self.archive.memory, &self.due.memory];
         write_first(
             out,
             "word of scratch",
@@ -352,22 +411,22 @@ impl Display for Trial<'_> {
 }
 
 /// The first place where two memories differ, with what is there before the
-/// call, after the archive's and after the evaluator's.
+/// call, after the archive's and as is due.
 fn write_first<T: PartialEq + Display>(
     out: &mut Formatter,
     name: &str,
-    [before, archive, evaluator]: [&[T]; 3],
+    [before, archive, due]: [&[T]; 3],
 ) -> fmt::Result {
     let mut places = 0..before.len();
-    match places.find(|at| archive[*at] != evaluator[*at]) {
+    match places.find(|at| archive[*at] != due[*at]) {
         None => writeln!(out, "every {name} agrees"),
         Some(at) => writeln!(
             out,
-            "{name} {}: before {}, archive {}, evaluator {}",
+            "{name} {}: before {}, archive {}, due {}",
             at as isize - AROUND as isize,
             before[at],
             archive[at],
-            evaluator[at],
+            due[at],
         ),
     }
 }

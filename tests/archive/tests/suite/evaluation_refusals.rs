@@ -14,13 +14,13 @@ use evaluator::samples::{balanced, flat, steps, X};
 
 /// Something lent to a call, with the numbers that apply to it and with what
 /// it is refused on its own account; 0 and 0 if with nothing.
-struct Lent<T> {
-    thing: T,
-    numbers: &'static [u32],
-    due: (u32, usize),
+pub struct Lent<T> {
+    pub thing: T,
+    pub numbers: &'static [u32],
+    pub due: (u32, usize),
 }
 
-fn lent<T>(thing: T, numbers: &'static [u32], due: (u32, usize)) -> Lent<T> {
+pub fn lent<T>(thing: T, numbers: &'static [u32], due: (u32, usize)) -> Lent<T> {
     Lent {
         thing,
         numbers,
@@ -46,7 +46,7 @@ fn too_long() -> Library {
     Library { nodes }
 }
 
-fn lent_documents() -> Vec<Lent<Vec<u8>>> {
+pub fn lent_documents() -> Vec<Lent<Vec<u8>>> {
     let filled = |begin: &str| {
         let mut bytes = begin.as_bytes().to_vec();
         bytes.resize(BYTE_LIMIT + 1, b'x');
@@ -100,7 +100,7 @@ fn lent_documents() -> Vec<Lent<Vec<u8>>> {
     ]
 }
 
-fn lent_rules() -> Vec<Lent<String>> {
+pub fn lent_rules() -> Vec<Lent<String>> {
     let deep = "!".repeat(32) + ":a";
     let many = balanced(33);
     let long = format!("({}=e)", steps(15));
@@ -136,7 +136,7 @@ fn lent_rules() -> Vec<Lent<String>> {
 
 /// Of a document that is refused nothing is known to be needed; then some
 /// words are lent, or none.
-fn lent_buffers() -> Vec<Lent<(Length, Length)>> {
+pub fn lent_buffers() -> Vec<Lent<(Length, Length)>> {
     use Length::{Longer, Needed, Shorter};
     vec![
         lent((Needed, Needed), &[], (0, 0)),

@@ -1,6 +1,6 @@
 //! The proved functions in the archive against the evaluator, which is written
-//! from document 01 and the requests (b), (d), (f) and (h) of document 02 and not
-//! from their code; and, for request (n), the archive on one document against the
+//! from document 01 and the requests (b), (d), (f), (h) and (k) of document 02 and
+//! not from their code; and, for request (n), the archive on one document against the
 //! archive on the same document with names masked.
 //!
 //! The proof holds of the source; these tests run what was compiled from it,
@@ -12,6 +12,7 @@ mod at_least;
 mod branching_counts;
 mod broken_names;
 mod damaged_evaluations;
+mod damaged_value_calls;
 mod drug_names;
 mod evaluation_agreement;
 mod evaluation_limits;
@@ -24,6 +25,8 @@ mod fixed_evaluations;
 mod fixed_rules;
 mod large_documents;
 mod large_evaluations;
+mod large_value_lists;
+mod lent_memory;
 mod many_attributes;
 mod masked_agreement;
 mod masked_names;
@@ -39,3 +42,7 @@ mod rule_agreement;
 mod rule_limits;
 mod rules_seen;
 mod snippet_counts;
+mod value_calls;
+mod value_orders;
+mod value_parts;
+mod value_refusals;

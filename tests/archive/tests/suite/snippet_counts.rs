@@ -40,20 +40,23 @@ fn every_fixed_count_is_due() {
     }
 }
 
-/// So many stretches are yielded by two nodes so many edges apart: of the
-/// largest power one from each end, of each smaller power both halves.
-fn stretches_between(length: usize) -> usize {
-    let power = length.ilog2();
-    let mut begins = BTreeSet::from([0, length - (1 << power)]);
-    let mut count = begins.len();
-    for half in (0..power).map(|k| 1 << k).rev() {
+/// A stretch of a row: its power and the node where it begins.
+pub type Stretch = (u32, usize);
+
+/// The stretches that are yielded by two nodes of a row: of the largest power one
+/// from each end, of each smaller power both halves.
+pub fn stretches(from: usize, to: usize) -> BTreeSet<Stretch> {
+    let power = (to - from).ilog2();
+    let mut begins = BTreeSet::from([from, to - (1 << power)]);
+    let mut all: BTreeSet<Stretch> = begins.iter().map(|begin| (power, *begin)).collect();
+    for power in (0..power).rev() {
         begins = begins
             .iter()
-            .flat_map(|begin| [*begin, begin + half])
+            .flat_map(|begin| [*begin, begin + (1 << power)])
             .collect();
-        count += begins.len();
+        all.extend(begins.iter().map(|begin| (power, *begin)));
     }
-    count
+    all
 }
 
 #[test]
@@ -63,7 +66,7 @@ fn two_equal_values_at_the_ends_of_a_row() {
         let mut values: Vec<String> = (0..=length).map(|number| format!("v{number}")).collect();
         values[length] = values[0].clone();
         let origin = format!("{length} edges");
-        let due = PAIRS * stretches_between(length);
+        let due = PAIRS * stretches(1, 1 + length).len();
         assert_eq!(count(&origin, &row(&values), EVERYWHERE), due, "{origin}");
     }
 }

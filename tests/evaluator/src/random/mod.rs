@@ -4,6 +4,7 @@ mod blanks;
 mod damage;
 mod library;
 mod line_damage;
+mod lists;
 mod numerals;
 mod renaming;
 mod rule;
@@ -12,9 +13,10 @@ pub use blanks::{padded, padded_ends};
 pub use damage::{damage_document, damage_rule};
 pub use library::{any_library, branching_library, library, repeating_library};
 pub use line_damage::damage_one_line;
+pub use lists::{every_value, repeated, shuffle, some_values};
 pub use numerals::{nearly_numeral, numeral, numeral_or_nearly};
 pub use renaming::{one_value_changed, renamed, Renamed};
-pub use rule::{any_rule, deep_rule, large_rule, rule, rule_about, wandering_rule};
+pub use rule::{any_rule, deep_rule, equality, large_rule, rule, rule_about, wandering_rule};
 
 use crate::document::NODE_LIMIT;
 

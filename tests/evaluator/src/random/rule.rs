@@ -36,6 +36,21 @@ pub fn wandering_rule(random: &mut Random, size: usize, values: &[Vec<u8>]) -> T
     })
 }
 
+/// A legal equality between two paths of any kind, about a library that has
+/// these values, with at most about so many parts.
+pub fn equality(random: &mut Random, size: usize, values: &[Vec<u8>]) -> Test {
+    draw_legal(|| {
+        let mut drawing = Drawing::new(random, Words::About(values), size);
+        let mut steps = STEP_LIMIT;
+        let first = match drawing.is_long(1) {
+            true => drawing.long_path(2, steps, &mut steps),
+            false => drawing.path(2, &mut steps),
+        };
+        let second = drawing.path(2, &mut steps);
+        Test::Compare(first, Sign::Equal, Operand::Path(second))
+    })
+}
+
 /// A legal rule for the rule check alone: any names and constants up to the
 /// longest, every sign as often as the others, and up to the most steps.
 pub fn any_rule(random: &mut Random, size: usize) -> Test {

@@ -11,6 +11,7 @@ pub mod libraries;
 pub mod masks;
 pub mod rules;
 pub mod selections;
+pub mod value_lists;
 
 use crate::document::{spell, Kind, Library, Node};
 

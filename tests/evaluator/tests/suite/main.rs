@@ -1,4 +1,4 @@
-//! What document 01 and the requests (b), (d), (f), (h) and (n) of document 02 say,
+//! What document 01 and the requests (b), (d), (f), (h), (k) and (n) of document 02 say,
 //! tried on this evaluator: the examples, every row of the table of refusals, and
 //! the promises on random documents and rules.
 
@@ -22,4 +22,5 @@ mod rule_refusals;
 mod samples;
 mod shrinking;
 mod snippet_counts;
+mod value_lists;
 mod word_positions;

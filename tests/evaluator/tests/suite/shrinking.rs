@@ -5,7 +5,7 @@ use evaluator::masking::masked;
 use evaluator::random::{any_library, library, renamed, Random};
 use evaluator::rule::{counts, Test};
 use evaluator::samples::document;
-use evaluator::shrink::{shrink, shrink_alike, shrink_document, shrink_rule};
+use evaluator::shrink::{shrink, shrink_alike, shrink_document, shrink_listed, shrink_rule};
 use evaluator::{reader, rule_check};
 
 #[test]
@@ -115,4 +115,39 @@ fn two_documents_lose_the_same_nodes_and_stay_masked() {
     // Nothing is tried once there is no going on.
     let same = shrink_alike(&one, &other, &rule, fails, || false);
     assert_eq!(same, (one, other, rule));
+}
+
+#[test]
+fn a_list_of_nodes_follows_the_nodes_that_are_left() {
+    // Node v has the value v.
+    let values: Vec<String> = (0..90).map(|number| number.to_string()).collect();
+    let mut rows = vec![('e', 0, "lib", "")];
+    rows.extend(
+        values[1..]
+            .iter()
+            .map(|value| ('t', 1, "text", value.as_str())),
+    );
+    let document = document(&rows);
+    let fails = |bytes: &[u8], list: &[u16]| {
+        let nodes = read(bytes).map_or(Vec::new(), |library| library.nodes);
+        let of = |node: &u16| nodes.get(usize::from(*node));
+        let listed = list
+            .iter()
+            .any(|node| of(node).is_some_and(|n| n.value == b"70"));
+        let none = list.iter().any(|node| of(node).is_none());
+        listed && none && nodes.iter().any(|node| node.value == b"30")
+    };
+    let list = [5, 70, 3, 70, 92];
+    let (small, left) = shrink_listed(&document, &list, fails, || true);
+    assert_eq!(check(&small).nodes, 3, "{}", small.escape_ascii());
+    // Node 70 is the last now, and the number two behind the last stays so.
+    assert_eq!(left, [2, 2, 5]);
+    // Nothing is tried once there is no going on.
+    let same = shrink_listed(&document, &list, fails, || false);
+    assert_eq!(same, (document, list.to_vec()));
+    // More lines than a list has numbers for.
+    let lines = vec![b'\n'; 300_000];
+    let listed = |_: &[u8], list: &[u16]| list.last() == Some(&u16::MAX);
+    let same = shrink_listed(&lines, &[7, u16::MAX], listed, || false);
+    assert_eq!(same, (lines, vec![7, u16::MAX]));
 }

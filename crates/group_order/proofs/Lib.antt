@@ -1,0 +1,4 @@
+pub mod Sizing
+pub mod Keying
+pub mod Entries
+pub mod Ordering
