@@ -182,8 +182,8 @@ extern "C" {
  * the lower number; 5; of 6 and 7 the one at the lower offset; 8; 9; 23; 10; 11;
  * 13. docs/FORMAT.md, section 4, has each with examples.
  *
- * The numbers 12 and 15 to 22 are kept for calls to come. No call hands them
- * back yet.
+ * The numbers 12, 15 to 22, 24 and 25 are kept for calls to come. No call hands
+ * them back yet.
  *
  * Lines count from 1, offsets from 0. Node v has the lines 4v + 2 to 4v + 5.
  */

@@ -44,7 +44,7 @@ pub enum Ground {
 }
 
 impl Ground {
-    /// All grounds, by rising numbers. No call hands back 12, or 15 to 22.
+    /// All grounds, by rising numbers. No call hands back 12 or 15 to 22, nor 24 and above.
     pub const ALL: [Ground; 14] = [
         Ground::DocumentLength,
         Ground::LineForm,
