@@ -11,7 +11,7 @@ use path_sets::scan::scan;
 use path_sets::sets::{Scan, given, no_step};
 
 // middle is the number of the first path's last step, count that of the second's. Which position follows which is a square beside it (`follow`), since a struct with an array of arrays is not covered.
-#[derive(Drop)]
+#[derive(Clone, Copy)]
 pub struct Automaton {
     pub last: u16,
     pub middle: usize,

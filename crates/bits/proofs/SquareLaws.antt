@@ -17,7 +17,7 @@ use Rattle.bits.specs.Square.{cell}
 
 -- ── The rows of a square by value ──
 -- each row of an array of arrays by value has 16 cells
-pub row_long : (f : List (List Bool)) (us : List Val) → shadow (each (List Bool) (e_arr e_bool 16).ty.own f us) → (i : ℕ) → i < length f → length (get_or f i []) ≡ 16
+pub row_long : (f : List (List Bool)) (us : List Val) → shadow (each (List Bool) (e_arr e_bool 16).ty.own_val f us) → (i : ℕ) → i < length f → length (get_or f i []) ≡ 16
 row_long [] us s i h = absurd (not-suc-le-zero h)
 row_long (x ∷ xs) [] s i h = absurd s
 row_long (x ∷ xs) (u ∷ us) s zero h = s.0.1.0.1

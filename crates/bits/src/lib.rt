@@ -1,4 +1,6 @@
 // Sets of positions below 16, as the bits of a u16: 01, "its size is the number of ones in it".
+#![tactic(auto)]
+
 pub mod square;
 
 ghost use Rattle.std.specs.Prelude.{◌≡◌, ℕ, ◌<◌};

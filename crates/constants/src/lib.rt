@@ -21,14 +21,14 @@ use value_order::constant::compare_constant;
 use values::{Reading, value_of};
 
 // What values are held against: a text that stands in the rule, or the key of an amount.
-#[derive(Drop)]
+#[derive(Clone, Copy)]
 pub enum Target {
     Text(Span),
     Amount(usize),
 }
 
 // The ranks below `first` belong to smaller values than the constant, those from `behind` on to greater ones, and those between to the constant itself.
-#[derive(Drop)]
+#[derive(Clone, Copy)]
 pub struct Place {
     pub first: usize,
     pub behind: usize,

@@ -12,7 +12,7 @@ use reach::expand::expand;
 use reach::list::{add, entry_at};
 
 // What a walk leaves: whether it has found as many nodes as are asked for, and how many entries its list has.
-#[derive(Drop)]
+#[derive(Clone, Copy)]
 pub struct Trail {
     pub enough: bool,
     pub len: usize,

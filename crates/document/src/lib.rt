@@ -11,7 +11,7 @@ use limits::Document;
 use nodes::{Progress, Step, node};
 
 // The number of nodes of an accepted document, or the ground of refusal with its line.
-#[derive(Drop)]
+#[derive(Clone, Copy)]
 pub enum Verdict {
     Accepted(usize),
     Length,
@@ -22,7 +22,7 @@ pub enum Verdict {
 }
 
 // The verdict, or how far the check is where the words are used up.
-#[derive(Drop)]
+#[derive(Clone, Copy)]
 enum Reading {
     Done(Verdict),
     Full(Progress),

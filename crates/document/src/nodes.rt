@@ -11,7 +11,7 @@ use lexer::{Ending, Numeral, number_line};
 use limits::Document;
 
 // The next node, where its lines begin, and the node before it.
-#[derive(Drop)]
+#[derive(Clone, Copy)]
 pub struct Progress {
     pub node: usize,
     pub at: usize,
@@ -19,7 +19,7 @@ pub struct Progress {
 }
 
 // How far the check is behind a node, the verdict, or that there are no words for the node's label.
-#[derive(Drop)]
+#[derive(Clone, Copy)]
 pub enum Step {
     Behind(Progress),
     Refused(Verdict),

@@ -10,14 +10,14 @@ use lexer::{Ending, Numeral, number_line};
 use limits::Document;
 
 // The bytes from one offset up to another.
-#[derive(Drop)]
+#[derive(Clone, Copy)]
 pub struct Span {
     pub from: usize,
     pub to: usize,
 }
 
 // A node's depth and kind, where its label and its value lie, and the offset behind its lines.
-#[derive(Drop)]
+#[derive(Clone, Copy)]
 pub struct Entry {
     pub depth: usize,
     pub kind: Kind,

@@ -8,7 +8,7 @@ use lexer::{Class, Ending};
 use limits::Document;
 
 // A kind and the offset behind its line, or that no kind line stands there.
-#[derive(Drop)]
+#[derive(Clone, Copy)]
 pub enum KindLine {
     Is(Kind, usize),
     NoKind,

@@ -7,7 +7,7 @@ ghost use Rattle.document_spec.specs.Library.{DepthBehind, KindBehind, LabelRule
 
 use lexer::Ending;
 
-#[derive(Drop)]
+#[derive(Clone, Copy)]
 pub enum Kind {
     Element,
     Attribute,
@@ -15,7 +15,7 @@ pub enum Kind {
 }
 
 // What the next node's rules ask of a node.
-#[derive(Drop)]
+#[derive(Clone, Copy)]
 pub struct Node {
     pub depth: usize,
     pub kind: Kind,

@@ -26,7 +26,7 @@ use verdicts::judge;
 
 // What an evaluation returns: number, place, the number of selected nodes, and the number of snippets.
 #[repr(C)]
-#[derive(Drop)]
+#[derive(Clone, Copy)]
 pub struct Evaluation {
     pub number: u16,
     pub place: usize,
@@ -35,7 +35,7 @@ pub struct Evaluation {
 }
 
 // How many nodes are marked, and how many snippets the rule has.
-#[derive(Drop)]
+#[derive(Clone, Copy)]
 struct Picked {
     selected: usize,
     snippets: usize,

@@ -17,7 +17,7 @@ use limits::Document;
 use machine::Machine;
 use rule_parts::kinds::Operator;
 
-#[derive(Drop)]
+#[derive(Clone, Copy)]
 pub enum Evaluator {
     Plain,
     Snippets,

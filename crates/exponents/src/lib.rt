@@ -1,4 +1,6 @@
 // The exponent of the largest power of two not above a length from 1 to 4,096, by formula; and the power of an exponent.
+#![tactic(auto)]
+
 ghost use Rattle.std.specs.Prelude.{◌≡◌, ◌^◌, ◌≤◌, ◌<◌};
 ghost use Rattle.limits.specs.Limits.{document_nodes, node_digits};
 ghost use Rattle.exponents.specs.Exponent.{Exponent};

@@ -7,7 +7,7 @@ ghost use Rattle.label_trees.specs.Trees.{key_at, held, digit, root_of, Stands, 
 use limits::Document;
 
 // The words of the trees: how many lines there are; the roots; three for each line, its offset and its two links. A link is the number of a line, from 1, or 0.
-#[derive(Drop)]
+#[derive(Clone, Copy)]
 pub struct Trees {
     pub words: usize,
 }
@@ -31,7 +31,7 @@ impl Trees {
     pub const MAX_WORDS: usize = Trees::HEADS + 3 * Document::MAX_NODES;
 }
 
-#[derive(Drop)]
+#[derive(Clone, Copy)]
 pub enum Added {
     New,
     Twice,
@@ -39,7 +39,7 @@ pub enum Added {
 }
 
 // A link that is free for a line, or that the line is there.
-#[derive(Drop)]
+#[derive(Clone, Copy)]
 enum Place {
     Free(usize),
     Taken,

@@ -1,5 +1,7 @@
 // The layout of the scratch: every column and block, where each stands, and reading and writing one word.
 // A column has one word for each node: word v of column c stands at c * n + v. The tree's own columns come first; a comparison's part begins behind them and is counted anew from 0.
+#![tactic(auto)]
+
 pub mod places;
 pub mod words;
 

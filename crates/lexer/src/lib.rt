@@ -1,4 +1,6 @@
 // Readers of one field of a line, at an offset of the document.
+#![tactic(auto)]
+
 mod blocks;
 
 ghost use Rattle.std.specs.Prelude.{◌≡◌, ℕ, ◌+◌, ◌≤◌, ◌<◌, length, get_or};
@@ -10,21 +12,21 @@ ghost use Rattle.std.proofs.Math.Seq.{slice};
 use blocks::pass;
 
 // The offset behind what was read, or that it does not stand there.
-#[derive(Drop)]
+#[derive(Clone, Copy)]
 pub enum Ending {
     Next(usize),
     Bad,
 }
 
 // A number and the offset behind its line, or that no numeral stands there.
-#[derive(Drop)]
+#[derive(Clone, Copy)]
 pub enum Numeral {
     Value(usize, usize),
     NoNumeral,
 }
 
 // The bytes that a field may have.
-#[derive(Drop)]
+#[derive(Clone, Copy)]
 pub enum Class {
     Digit,
     Label,

@@ -6,7 +6,7 @@ use exponents::{exponent, two_to};
 use powers::blocks::upper;
 
 // The node over, 2^exponent above, and how many edges are left from there.
-#[derive(Drop)]
+#[derive(Clone, Copy)]
 pub struct Hop {
     pub exponent: usize,
     pub over: usize,

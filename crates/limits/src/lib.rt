@@ -1,4 +1,6 @@
 // The limits of document 01, each named with the thing that it limits.
+#![tactic(auto)]
+
 ghost use Rattle.std.specs.Prelude.{◌≡◌, ◌<◌, ◌≤◌};
 ghost use Rattle.lists.specs.Text.{binary_digits};
 ghost use Rattle.limits.specs.Limits.{document_bytes, document_nodes, count_digits, depth_digits, label_bytes, value_bytes, rule_bytes, rule_tests, rule_nesting, comparison_steps, positions, constant_bytes, rule_count, numeral_digits, numeral_decimals, words_per_digit, words_per_node, tree_words, part_words, word_bits, word_values, scratch_words, program_input, program_words, program_marks};
@@ -110,40 +112,40 @@ impl Program {
 
 // The constants are the limits that the definitions name: each is tied to its own.
 fn document_agrees()
-    ensures* do_value { do ⌜ (← (⟦Document::MAX_BYTES⟧).entry) ≡ document_bytes ⌝ }
-    ensures* do_value_2 { do ⌜ (← (⟦Document::MAX_NODES⟧).entry) ≡ document_nodes ⌝ }
-    ensures* do_value_3 { do ⌜ (← (⟦Document::MAX_COUNT_DIGITS⟧).entry) ≡ count_digits ⌝ }
-    ensures* do_value_4 { do ⌜ (← (⟦Document::MAX_DEPTH_DIGITS⟧).entry) ≡ depth_digits ⌝ }
-    ensures* do_value_5 { do ⌜ (← (⟦Document::MAX_LABEL⟧).entry) ≡ label_bytes ⌝ }
-    ensures* do_value_6 { do ⌜ (← (⟦Document::MAX_VALUE⟧).entry) ≡ value_bytes ⌝ }
+    ensures max_bytes { Document.MAX_BYTES ≡ document_bytes }
+    ensures max_nodes { Document.MAX_NODES ≡ document_nodes }
+    ensures max_count_digits { Document.MAX_COUNT_DIGITS ≡ count_digits }
+    ensures max_depth_digits { Document.MAX_DEPTH_DIGITS ≡ depth_digits }
+    ensures max_label { Document.MAX_LABEL ≡ label_bytes }
+    ensures max_value { Document.MAX_VALUE ≡ value_bytes }
 {}
 
 fn rule_agrees()
-    ensures* do_value { do ⌜ (← (⟦Rule::MAX_BYTES⟧).entry) ≡ rule_bytes ⌝ }
-    ensures* do_value_2 { do ⌜ (← (⟦Rule::MAX_TESTS⟧).entry) ≡ rule_tests ⌝ }
-    ensures* do_value_3 { do ⌜ (← (⟦Rule::MAX_NESTING⟧).entry) ≡ rule_nesting ⌝ }
-    ensures* do_value_4 { do ⌜ (← (⟦Rule::MAX_STEPS⟧).entry) ≡ comparison_steps ⌝ }
-    ensures* do_value_5 { do ⌜ (← (⟦Rule::MAX_POSITIONS⟧).entry) ≡ positions ⌝ }
-    ensures* do_value_6 { do ⌜ (← (⟦Rule::MAX_CONSTANT⟧).entry) ≡ constant_bytes ⌝ }
-    ensures* do_value_7 { do ⌜ (← (⟦Rule::MAX_COUNT⟧).entry) ≡ rule_count ⌝ }
+    ensures max_bytes { Rule.MAX_BYTES ≡ rule_bytes }
+    ensures max_tests { Rule.MAX_TESTS ≡ rule_tests }
+    ensures max_nesting { Rule.MAX_NESTING ≡ rule_nesting }
+    ensures max_steps { Rule.MAX_STEPS ≡ comparison_steps }
+    ensures max_positions { Rule.MAX_POSITIONS ≡ positions }
+    ensures max_constant { Rule.MAX_CONSTANT ≡ constant_bytes }
+    ensures max_count { Rule.MAX_COUNT ≡ rule_count }
 {}
 
 fn numeral_agrees()
-    ensures* do_value { do ⌜ (← (⟦Numeral::MAX_DIGITS⟧).entry) ≡ numeral_digits ⌝ }
-    ensures* do_value_2 { do ⌜ (← (⟦Numeral::MAX_DECIMALS⟧).entry) ≡ numeral_decimals ⌝ }
+    ensures max_digits { Numeral.MAX_DIGITS ≡ numeral_digits }
+    ensures max_decimals { Numeral.MAX_DECIMALS ≡ numeral_decimals }
 {}
 
 fn scratch_agrees()
-    ensures* do_value { do ⌜ (← (⟦Scratch::WORDS_PER_DIGIT⟧).entry) ≡ words_per_digit ⌝ }
-    ensures* do_value_2 { do ⌜ (← (⟦Scratch::WORDS_PER_NODE⟧).entry) ≡ words_per_node ⌝ }
-    ensures* do_value_3 { do ⌜ (← (⟦Scratch::TREE_WORDS⟧).entry) ≡ tree_words ⌝ }
-    ensures* do_value_4 { do ⌜ (← (⟦Scratch::PART_WORDS⟧).entry) ≡ part_words ⌝ }
-    ensures* do_value_5 { do ⌜ (← (⟦Scratch::WORD_BITS⟧).entry) ≡ word_bits ⌝ }
-    ensures* do_value_6 { do ⌜ (← (⟦Scratch::WORD_VALUES⟧).entry) ≡ word_values ⌝ }
+    ensures words_per_digit { Scratch.WORDS_PER_DIGIT ≡ words_per_digit }
+    ensures words_per_node { Scratch.WORDS_PER_NODE ≡ words_per_node }
+    ensures tree_words { Scratch.TREE_WORDS ≡ tree_words }
+    ensures part_words { Scratch.PART_WORDS ≡ part_words }
+    ensures word_bits { Scratch.WORD_BITS ≡ word_bits }
+    ensures word_values { Scratch.WORD_VALUES ≡ word_values }
 {}
 
 fn program_agrees()
-    ensures* do_value { do ⌜ (← (⟦Program::MAX_INPUT⟧).entry) ≡ program_input ⌝ }
-    ensures* do_value_2 { do ⌜ (← (⟦Program::WORDS⟧).entry) ≡ program_words ⌝ }
-    ensures* do_value_3 { do ⌜ (← (⟦Program::MARKS⟧).entry) ≡ program_marks ⌝ }
+    ensures max_input { Program.MAX_INPUT ≡ program_input }
+    ensures words { Program.WORDS ≡ program_words }
+    ensures marks { Program.MARKS ≡ program_marks }
 {}

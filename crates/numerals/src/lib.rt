@@ -1,4 +1,6 @@
 // Numerals: the key of the amount that bytes spell, read one by one.
+#![tactic(auto)]
+
 ghost use Rattle.std.specs.Prelude.{ℕ, ◌+◌, ◌-◌, ◌*◌, ◌^◌, ◌≤◌, ◌<◌, ◌≡◌, true, List, [], ◌∷◌, ◌++◌, length, ltb};
 ghost use Rattle.std.proofs.Math.Option.{some, none};
 ghost use Rattle.std.proofs.Math.Seq.{slice};
@@ -23,7 +25,7 @@ fn keys_agree()
 {}
 
 // The part of a numeral that its next byte may go on with.
-#[derive(Drop)]
+#[derive(Clone, Copy)]
 pub enum Part {
     Start,
     Whole,
@@ -32,7 +34,7 @@ pub enum Part {
 }
 
 // What the bytes so far have made: the digits of this part, and the number that all digits make.
-#[derive(Drop)]
+#[derive(Clone, Copy)]
 pub struct Scan {
     pub part: Part,
     pub minus: bool,

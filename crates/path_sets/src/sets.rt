@@ -8,7 +8,7 @@ ghost use Rattle.path_sets.specs.Scanned.{Sets};
 use bits::{insert, union};
 
 // count is the first number behind the path's steps, next the offset behind its bytes.
-#[derive(Drop)]
+#[derive(Clone, Copy)]
 pub struct Scan {
     pub null: bool,
     pub first: u16,

@@ -12,7 +12,7 @@ use layout::words::get;
 use rule_parts::kinds::Operator;
 
 // The least rank, and one more than the greatest; 65535 and 0 where there is none.
-#[derive(Drop)]
+#[derive(Clone, Copy)]
 pub struct Range {
     pub least: usize,
     pub above: usize,

@@ -10,7 +10,7 @@ use layout::Part;
 use matrices::sets::without;
 
 // An entry: a node, and the positions that were new there.
-#[derive(Drop)]
+#[derive(Clone, Copy)]
 pub struct Entry {
     pub node: usize,
     pub set: u16,

@@ -8,7 +8,7 @@ use rule_readers::tally::NOWHERE;
 use tokens::read::{Read, Tally};
 
 // A rule is accepted, or refused by a ground with its offset.
-#[derive(Drop)]
+#[derive(Clone, Copy)]
 pub enum Verdict {
     Accepted,
     Length,

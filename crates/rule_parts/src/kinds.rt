@@ -6,7 +6,7 @@ ghost use Rattle.rule_parts.specs.Kinds.{test_kind, path_kind, signed, longer, s
 
 use tokens::stands;
 
-#[derive(Drop)]
+#[derive(Clone, Copy)]
 pub enum TestKind {
     Named,
     Not,
@@ -16,7 +16,7 @@ pub enum TestKind {
     Count,
 }
 
-#[derive(Drop)]
+#[derive(Clone, Copy)]
 pub enum PathKind {
     Empty,
     ToLeft,
@@ -29,7 +29,7 @@ pub enum PathKind {
     Star,
 }
 
-#[derive(Drop)]
+#[derive(Clone, Copy)]
 pub enum Operator {
     Equal,
     Unequal,
@@ -40,7 +40,7 @@ pub enum Operator {
 }
 
 // A sign and the offset behind it.
-#[derive(Drop)]
+#[derive(Clone, Copy)]
 pub struct Sign {
     pub operator: Operator,
     pub next: usize,

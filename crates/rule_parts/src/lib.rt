@@ -65,7 +65,7 @@ pub fn tests_in(s: &[u8], at: usize, end: usize) -> usize
 }
 
 // The sign of a comparison, where it stands, and where the second operand begins.
-#[derive(Drop)]
+#[derive(Clone, Copy)]
 pub struct Middle {
     pub operator: Operator,
     pub sign: usize,
@@ -95,7 +95,7 @@ pub fn parted(s: &[u8], at: usize) -> Middle
 }
 
 // The number in a count, and where its path begins.
-#[derive(Drop)]
+#[derive(Clone, Copy)]
 pub struct Count {
     pub nodes: usize,
     pub path: usize,

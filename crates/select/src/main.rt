@@ -9,7 +9,7 @@ use libc::{STDIN_FILENO, STDOUT_FILENO};
 use limits::Program;
 
 // What a session answers: what the evaluation hands back, and the marks.
-#[derive(Drop)]
+#[derive(Clone, Copy)]
 struct Answer {
     record: Evaluation,
     marks: [u8; Program::MARKS],

@@ -2,7 +2,7 @@
 pub mod skeleton;
 
 // Where the way up from a skeleton node ends: at the first skeleton node above it, by so many edges, and through which child of that node.
-#[derive(Drop)]
+#[derive(Clone, Copy)]
 pub struct Climb {
     pub node: usize,
     pub length: usize,

@@ -9,7 +9,7 @@ use rule_parts::kinds::{PathKind, path_kind};
 use rule_parts::skip_path;
 
 // Behind a path: the next number and the next offset.
-#[derive(Drop)]
+#[derive(Clone, Copy)]
 pub struct Spot {
     pub count: usize,
     pub next: usize,

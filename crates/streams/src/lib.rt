@@ -1,4 +1,6 @@
 // The two ends of a session: whether the input is too long, where the rule and the document stand in it, and which nodes the output has.
+#![tactic(auto)]
+
 ghost use Rattle.std.specs.Prelude.{◌≡◌, true, ◌↔◌, ◌<◌, length};
 ghost use Rattle.limits.specs.Limits.{program_input};
 ghost use Rattle.streams.specs.Input.{SplitAt};
@@ -16,7 +18,7 @@ pub fn is_longer(input: &[u8]) -> bool
 }
 
 // Where the rule ends, and where the document begins.
-#[derive(Drop)]
+#[derive(Clone, Copy)]
 pub struct Bounds {
     pub rule: usize,
     pub document: usize,

@@ -1,4 +1,6 @@
 // The order of two strings that are read where they stand: by unsigned bytes, a proper prefix being smaller.
+#![tactic(auto)]
+
 mod blocks;
 
 ghost use Rattle.std.specs.Prelude.{List, ◌∷◌, ◌≢◌, ℕ, ◌+◌, ◌≤◌, length};
@@ -7,7 +9,7 @@ ghost use Rattle.string_order.specs.Ordered.{Ordered, Begins, Agrees};
 use blocks::{BLOCK, same_blocks};
 
 // How the first of two strings compares with the second.
-#[derive(Drop)]
+#[derive(Clone, Copy)]
 pub enum Order {
     Less,
     Same,

@@ -32,7 +32,7 @@ pub fn second_test(s: &[u8], at: usize, k: usize) -> usize
 }
 
 // Behind a path: the number of the next step and that of the next test.
-#[derive(Drop)]
+#[derive(Clone, Copy)]
 struct Next {
     step: usize,
     test: usize,

@@ -14,7 +14,7 @@ use layout::words::get;
 use layout::{Ranking, Table};
 
 // The first and the last of some nodes that have text that is not blank, or no node twice if none has.
-#[derive(Drop)]
+#[derive(Clone, Copy)]
 pub struct Texts {
     pub first: usize,
     pub last: usize,

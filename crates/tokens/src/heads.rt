@@ -5,7 +5,7 @@ ghost use Rattle.tokens.specs.Heads.{TestByte, PathByte, TestBegins, PathBegins}
 
 use limits::Rule;
 
-#[derive(Drop)]
+#[derive(Clone, Copy)]
 pub enum TestHead {
     Name,
     Not,
@@ -16,7 +16,7 @@ pub enum TestHead {
     DeepTest,
 }
 
-#[derive(Drop)]
+#[derive(Clone, Copy)]
 pub enum PathHead {
     Empty,
     Step,

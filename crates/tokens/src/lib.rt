@@ -14,7 +14,7 @@ use limits::{Document, Rule};
 use read::{Read, Tally};
 
 // Where a comparison goes on behind its sign, or the first byte that no sign has.
-#[derive(Drop)]
+#[derive(Clone, Copy)]
 pub enum Sign {
     Passed(usize),
     NoSign(usize),
@@ -79,7 +79,7 @@ pub fn name(s: &[u8], at: usize, k: usize, t: Tally) -> Read
 }
 
 // The number that digits make, and the offset behind them.
-#[derive(Drop)]
+#[derive(Clone, Copy)]
 pub struct Digits {
     pub value: usize,
     pub next: usize,

@@ -39,7 +39,7 @@ fn gather(t: &[u16], n: usize, v: usize, x: Texts, y: Texts) -> Texts
 }
 
 // What the columns of a node hold: the texts under it, and its value.
-#[derive(Drop)]
+#[derive(Clone, Copy)]
 pub struct Sight {
     pub texts: Texts,
     pub note: Note,

@@ -18,7 +18,7 @@ use texts::Texts;
 
 // If the bytes of a value lie in one span: the two words of the offset where they start, and their number. Of a text also the blanks in front of them and, times `BASE`, those behind them.
 // The value of an element with several texts that are not blank has no length, and in the place of the offset stand the first and the last of them.
-#[derive(Drop)]
+#[derive(Clone, Copy)]
 pub struct Note {
     pub low: usize,
     pub high: usize,

@@ -12,7 +12,7 @@ use layout::{Ranking, Values};
 use values::Reading;
 
 // Two cursors.
-#[derive(Drop)]
+#[derive(Clone, Copy)]
 pub struct Both {
     pub x: Reading,
     pub y: Reading,

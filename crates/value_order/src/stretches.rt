@@ -6,7 +6,7 @@ use string_order::{Order, agree, by_bytes};
 use values::Reading;
 
 // How two values compare, or how many of the next bytes are the same.
-#[derive(Drop)]
+#[derive(Clone, Copy)]
 pub enum Ahead {
     Decided(Order),
     Common(usize),

@@ -11,7 +11,7 @@ use limits::Scratch;
 use value_notes::notes::{BASE, Note, get_note};
 
 // What is still to come of a value: the bytes from one offset up to another, and then, if `node` is not yet `last`, the texts behind `node` up to `last`.
-#[derive(Drop)]
+#[derive(Clone, Copy)]
 pub struct Reading {
     pub from: usize,
     pub to: usize,

@@ -15,7 +15,7 @@ use tokens::stands;
 
 // What the document check returns: number, place and N.
 #[repr(C)]
-#[derive(Drop)]
+#[derive(Clone, Copy)]
 pub struct DocumentAnswer {
     pub number: u16,
     pub place: usize,
@@ -68,7 +68,7 @@ pub fn check_document(document: &[u8]) -> DocumentAnswer
 
 // What the rule check returns: number and place.
 #[repr(C)]
-#[derive(Drop)]
+#[derive(Clone, Copy)]
 pub struct RuleAnswer {
     pub number: u16,
     pub place: usize,
@@ -113,7 +113,7 @@ pub fn check_rule(rule: &[u8]) -> RuleAnswer
 }
 
 // Number and place of the first ground of refusal; or zeros, and the number of nodes.
-#[derive(Drop)]
+#[derive(Clone, Copy)]
 pub struct Judgement {
     pub number: u16,
     pub place: usize,

@@ -2,11 +2,7 @@
 use lib.ListN.{length}
 use borrow.Author.Tests.{ltb-true, lt-ltb}
 use Rattle.limits.specs.Limits.{program_input}
-use Rattle.streams.proofs.is_longer.Statement.{statement}
-use Rattle.streams.proofs.is_longer.Tie as tie
+use Rattle.streams.proofs.is_longer.Goals as goal
 
-returns : tie.Need-returns
+pub returns : goal.returns
 returns c = let n = length c.args.input.now in (ltb-true program_input n, lt-ltb program_input n)
-
-pub is-longer-spec : {M : Type 1} → statement M
-is-longer-spec = tie.close (tie.spec returns)

@@ -1,21 +1,15 @@
--- `bits::insert` meets its contract.
 use mathlib.Core.Path.{ap, ◌∙◌}
 use Prim.Native.Nat.{ℕ, ◌^◌}
 use lib.Bits.{bit_or}
 use borrow.Author.Rules.{rules}
 use Rattle.bits.specs.Sets.{bit, or}
 use Rattle.bits.proofs.SetLaws.{bit_or_lem, bit_single, shifted_one, or_comm}
-use Rattle.bits.proofs.insert.Statement.{statement}
-use Rattle.bits.proofs.insert.Tie as tie
+use Rattle.bits.proofs.insert.Goals as goal
 
-shl-result : tie.Need-overflow-shl-result
-shl-result c = search rules
+-- `bits::insert` meets its contract.
 
-returns : tie.Need-returns
+pub returns : goal.returns
 returns c i =
     let w = c.args.w in
     let j = c.args.j in
     ap (λ (x : ℕ). bit (bit_or w x) i) (shifted_one j c.requires) ∙ bit_or_lem w (2 ^ j) i ∙ ap (or (bit w i)) (bit_single j i) ∙ or_comm (bit w i) _
-
-pub insert-spec : {M : Type 1} → statement M
-insert-spec = tie.close (tie.spec shl-result returns)

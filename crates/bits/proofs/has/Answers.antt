@@ -1,0 +1,10 @@
+use mathlib.Core.Path.{refl}
+use Rattle.bits.specs.Sets.{bit}
+use borrow.Author.Rules.{rules}
+use Rattle.bits.proofs.has.Goals as goal
+
+-- `bits::has` meets its contract.
+
+pub returns : goal.returns
+unfolding bit
+returns c = refl

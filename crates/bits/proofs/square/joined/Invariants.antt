@@ -1,0 +1,14 @@
+use mathlib.Core.Path.{refl, sym, ◌∙◌, subst}
+use mathlib.Core.Bool.{Bool}
+use mathlib.Core.Logic.{⊎_elim}
+use mathlib.Core.List.{List}
+use Prim.Native.Nat.{◌≤◌, ◌-◌, ◌+◌}
+use native.Mathlib.Omega.{arith}
+use Rattle.bits.proofs.SquareLaws.{Joining, joining_skip, joining_set}
+use Rattle.bits.proofs.square.joined.Given as goal
+
+abbrev pub invariant-loop-i : goal.invariant-loop-i
+invariant-loop-i l = (l.i ≤ 16) × Joining l.a l.b l.initial.g l.i l.g
+
+abbrev pub decreases-loop-i : goal.decreases-loop-i
+decreases-loop-i l = 16 - l.i

@@ -1,0 +1,13 @@
+-- `string_order::agree_from` meets its contract.
+use borrow.Author.Tests.{eqb-true, eqb-false}
+use Prim.Native.Nat.{◌-◌}
+use native.Mathlib.Omega.{arith}
+use Rattle.string_order.specs.Ordered.{Begins}
+use Rattle.string_order.proofs.Agreement.{begins_more, begins_all}
+use Rattle.string_order.proofs.agree_from.Given as goal
+
+abbrev pub invariant-loop-k : goal.invariant-loop-k
+invariant-loop-k l = Begins l.x l.i l.y l.j l.most l.k
+
+abbrev pub decreases-loop-k : goal.decreases-loop-k
+decreases-loop-k l = l.most - l.k

@@ -1,0 +1,43 @@
+-- `string_order::blocks::same_block` meets its contract.
+use mathlib.Core.Path.{◌≡◌, sym, ◌∙◌}
+use mathlib.Core.Logic.{⊎_elim}
+use mathlib.Core.Bool.{true, true≢false}
+use Prim.Native.Nat.{◌-◌, ◌≤◌}
+use native.Mathlib.Omega.{arith}
+use Rattle.string_order.specs.Ordered.{BLOCK, Common}
+use Rattle.string_order.proofs.Agreement.{common_none, common_more}
+use Rattle.string_order.proofs.blocks.same_block.Goals as goal
+
+pub loop-k-init : goal.loop-k-init
+loop-k-init c = let a = c.args in (omega arith, λ e. common_none a.x.now a.i a.y.now a.j)
+
+pub overflow_add-i : goal.overflow_add-i
+overflow_add-i c = omega arith
+
+pub bounds-x-i : goal.bounds-x-i
+bounds-x-i c = omega arith
+
+pub overflow_add-j : goal.overflow_add-j
+overflow_add-j c = omega arith
+
+pub bounds-y-j : goal.bounds-y-j
+bounds-y-j c = omega arith
+
+pub overflow_add-k : goal.overflow_add-k
+overflow_add-k c = omega arith
+
+pub loop-k-smaller : goal.loop-k-smaller
+loop-k-smaller c = omega arith
+
+pub loop-k-preserved : goal.loop-k-preserved
+loop-k-preserved c =
+    let a = c.args in let l = c.loop-k in (
+      omega arith,
+      ⊎_elim
+          (λ w e. absurd (true≢false (sym e ∙ w.1)))
+          (λ w e. common_more a.x.now a.i a.y.now a.j l.k (l.invariant.1 (sym w.1 ∙ e)) w.0.left)
+          c.if-x-i.branch-raw,
+    )
+
+pub returns : goal.returns
+returns c e m h = c.loop-k.invariant.1 e m (omega arith)
