@@ -1,4 +1,6 @@
 // Bytes where they stand, without the blanks at their ends.
+#![tactic(auto)]
+
 ghost use Rattle.std.specs.Prelude.{◌≤◌, length};
 ghost use Rattle.blanks.specs.Trimmed.{Skipped, Trimmed};
 

@@ -1,3 +1,4 @@
 pub mod TreeRules
 pub mod LineForms
 pub mod NodeLines
+pub mod EntryLines

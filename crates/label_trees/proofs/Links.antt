@@ -27,6 +27,7 @@ module _ {s t : List ℕ} (h : Holds s t) where
   -- a link of line q, counted from 1, leads to a later line
   link_later : (q i : ℕ) → 0 < q → q ≤ held t → i < 2
       → (get_or t (15 + 3 * q + i) 0 ≤ held t) × (0 < get_or t (15 + 3 * q + i) 0 → q < get_or t (15 + 3 * q + i) 0)
+  link_later zero i p m two = absurd (omega arith)
   link_later (suc k) i p m two =
       let e : 18 + 3 * k + i ≡ 15 + 3 * suc k + i = omega arith in
       subst (λ (j : ℕ). (get_or t j 0 ≤ held t) × (0 < get_or t j 0 → suc k < get_or t j 0)) e

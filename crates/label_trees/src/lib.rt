@@ -1,4 +1,6 @@
 // The label lines of one element's attributes, in digital search trees: whether a label is there already is told by the lines that its own bytes lead to. Nothing is put in order, and no word is moved.
+#![tactic(auto)]
+
 ghost use Rattle.std.specs.Prelude.{ℕ, suc, ◌+◌, ◌*◌, ◌≤◌, ◌<◌, List, ◌≡◌, length};
 ghost use Rattle.limits.specs.Limits.{document_bytes};
 ghost use Rattle.document_lines.specs.Nodes.{Told};

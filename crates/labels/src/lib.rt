@@ -1,4 +1,6 @@
 // The test of a name: the labels of the nodes against some bytes of the rule.
+#![tactic(auto)]
+
 ghost use Rattle.std.specs.Prelude.{true, List, ◌↔◌, ◌≡◌, ◌≤◌, ◌<◌, length};
 ghost use Rattle.std.proofs.Math.Seq.{slice};
 ghost use Rattle.limits.specs.Limits.{rule_tests};

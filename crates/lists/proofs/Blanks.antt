@@ -1,5 +1,5 @@
 -- Laws of blanks at the ends of a byte string. `trim_parts`, `trim_bare` and `trim_only`: what is left by trim is the one middle that neither begins nor ends with a blank.
-use Prim.Native.Nat.{ℕ, ◌+◌, ◌<◌}
+use Prim.Native.Nat.{ℕ, ◌<◌}
 use mathlib.Core.Path.{◌≡◌, refl, sym, ap, ◌∙◌, subst}
 use mathlib.Core.Logic.{◌⊎◌, inl, inr, ◌≢◌}
 use mathlib.Core.List.{List, [], ◌∷◌, ◌++◌, reverse, reverse-cons, reverse-append, reverse-reverse, append_assoc, append-nil, head-eq_of_cons-eq}

@@ -1,7 +1,6 @@
 -- Byte strings: quoted text, the bytes that names and values may have, numerals.
 use Rattle.std.specs.Prelude.{ℕ, zero, suc, ◌+◌, ◌/◌, ◌%◌, ◌≤◌, ◌⊎◌, true, false, ◌≡◌, List, [], ◌∷◌, ◌++◌, map, length, ltb}
 use Prim.Native.Char.{code}
-use Prim.Native.String
 use Prim.Native.String.{String}
 
 -- the bytes of a quoted text

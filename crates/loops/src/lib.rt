@@ -1,4 +1,6 @@
 // The loops of a comparison: for each node, which position comes to which there. Each node's matrix starts with the steps that stay and then grows by the detours over its neighbours, until no round changes any.
+#![tactic(auto)]
+
 mod rounds;
 mod start;
 

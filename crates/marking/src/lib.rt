@@ -1,4 +1,6 @@
 // What is handed back when the tests of a rule are settled: the marks, and a scratch of zeros.
+#![tactic(auto)]
+
 ghost use Rattle.std.specs.Prelude.{◌≡◌, ◌≤◌, length, take, drop, replicate};
 ghost use Rattle.layout.specs.Table.{Room};
 ghost use Rattle.marking.specs.Marking.{Marked};

@@ -1,4 +1,6 @@
 // Relations on the 16 positions. Each is a matrix, 16 words of a slice from an offset on: row i is the set of what i is related to.
+#![tactic(auto)]
+
 pub mod followers;
 pub mod rows;
 pub mod sets;

@@ -1,4 +1,6 @@
 // The pairs of positions spread over the edges of the tree: in rounds over all nodes, each gets what comes to the pairs of its neighbours, until a round changes nothing.
+#![tactic(auto)]
+
 ghost use Rattle.std.specs.Prelude.{◌<◌};
 ghost use Rattle.pairs.specs.Growing.{Ready, Grown, Everywhere};
 ghost use Rattle.pair_rounds.specs.Rounds.{Passed, Rises, Falls, Still};

@@ -8,7 +8,6 @@ use native.Mathlib.Omega.{arith}
 use Rattle.xpath.specs.Syntax.{XPath, empty, one, seq, union, star, Step, steps, size}
 use Rattle.xpath.specs.Tree.{Tree}
 use Rattle.xpath.specs.Meaning.{Reaches, Moves, Many}
-use Rattle.xpath.specs.Meaning as Meaning
 use Rattle.positions.specs.Positions.{Word, Numbered, Several, none, more}
 use Rattle.positions.proofs.Glushkov.{In}
 

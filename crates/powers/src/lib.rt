@@ -1,4 +1,6 @@
 // The powers of two along the tree: the node 2^k above a node, for each exponent k, and which positions come to which between the two.
+#![tactic(auto)]
+
 pub mod blocks;
 mod passes;
 

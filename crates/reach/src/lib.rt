@@ -1,4 +1,6 @@
 // Where a walk comes to: a work list over nodes and sets of positions, in a comparison's part of the scratch.
+#![tactic(auto)]
+
 pub mod expand;
 pub mod list;
 

@@ -10,7 +10,7 @@ use Rattle.rule_spec.specs.Spelling.{sign}
 use Rattle.rule_parts.specs.declared.Middle.{Middle}
 use Rattle.rule_parts.specs.declared.kinds.Sign.{Sign}
 use Rattle.rule_parts.specs.Standing.{Spans, TestAt, PathAt, SignAt}
-use Rattle.rule_parts.specs.Kinds.{operator, signed}
+use Rattle.rule_parts.specs.Kinds.{signed}
 use Rattle.rule_parts.specs.Middles.{FirstSide, Parted}
 use Rattle.rule_parts.proofs.Inner.{compare_inner, compareTo_inner}
 

@@ -1,4 +1,6 @@
 // Readers over an accepted rule: where its parts end, and what they are.
+#![tactic(auto)]
+
 pub mod kinds;
 
 ghost use Rattle.std.specs.Prelude.{◌≡◌, ℕ, ◌≤◌, ◌<◌, length};

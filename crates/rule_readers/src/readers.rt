@@ -9,7 +9,7 @@ use tokens::heads::{PathHead, TestHead, path_head, test_head};
 use tokens::read::{Read, Tally};
 use tokens::{Sign, closing, constant, name, number, read_sign, stands};
 
-#[cycle(comparison_count_read_path_read_test_second_operand_signed_operand)]
+#[cycle(readers)]
 pub fn read_test(s: &[u8], at: usize, n: usize, k: usize, t: Tally) -> Read
     requires { Due s.now at n k }
     ensures { Reading s.now (test n) at k t result }
@@ -34,7 +34,7 @@ pub fn read_test(s: &[u8], at: usize, n: usize, k: usize, t: Tally) -> Read
 }
 
 // A comparison from its opening bracket on; its steps are counted from 0.
-#[cycle(comparison_count_read_path_read_test_second_operand_signed_operand)]
+#[cycle(readers)]
 fn comparison(s: &[u8], at: usize, n: usize, k: usize, t: Tally) -> Read
     requires { Opened s.now 40 at n k }
     ensures { Reading s.now (test n) at k t result }
@@ -51,7 +51,7 @@ fn comparison(s: &[u8], at: usize, n: usize, k: usize, t: Tally) -> Read
 }
 
 // A count from its # on; its steps are counted from 0.
-#[cycle(comparison_count_read_path_read_test_second_operand_signed_operand)]
+#[cycle(readers)]
 fn count(s: &[u8], at: usize, n: usize, k: usize, t: Tally) -> Read
     requires { Opened s.now 35 at n k }
     ensures { Reading s.now (test n) at k t result }
@@ -67,7 +67,7 @@ fn count(s: &[u8], at: usize, n: usize, k: usize, t: Tally) -> Read
     Read::Behind(j, k, weigh(v, at, m))
 }
 
-#[cycle(comparison_count_read_path_read_test_second_operand_signed_operand)]
+#[cycle(readers)]
 fn signed_operand(s: &[u8], at: usize, n: usize, k: usize, t: Tally) -> Read
     requires { Due s.now at n k }
     ensures { Reading s.now (signed n) at k t result }
@@ -80,7 +80,7 @@ fn signed_operand(s: &[u8], at: usize, n: usize, k: usize, t: Tally) -> Read
 }
 
 // A path or a constant, and the bracket that ends the comparison.
-#[cycle(comparison_count_read_path_read_test_second_operand_signed_operand)]
+#[cycle(readers)]
 fn second_operand(s: &[u8], at: usize, n: usize, k: usize, t: Tally) -> Read
     requires { Due s.now at n k }
     ensures { Reading s.now (operand n) at k t result }
@@ -95,7 +95,7 @@ fn second_operand(s: &[u8], at: usize, n: usize, k: usize, t: Tally) -> Read
     closing(s, j, b')', l, u)
 }
 
-#[cycle(comparison_count_read_path_read_test_second_operand_signed_operand)]
+#[cycle(readers)]
 pub fn read_path(s: &[u8], at: usize, n: usize, k: usize, t: Tally) -> Read
     requires { Due s.now at n k }
     ensures { Reading s.now (path n) at k t result }

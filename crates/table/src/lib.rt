@@ -1,4 +1,6 @@
 // The binary tree of an accepted document, in words of a lent scratch: one pass over the document enters each node and hangs it under the node whose child it is.
+#![tactic(auto)]
+
 ghost use Rattle.std.specs.Prelude.{◌≡◌, List, ◌*◌, ◌≤◌, ◌<◌, length, ltb};
 ghost use Rattle.limits.specs.Limits.{word_values};
 ghost use Rattle.document_spec.specs.Library as Library;

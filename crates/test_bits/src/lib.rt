@@ -1,4 +1,6 @@
 // Where the tests of a rule hold: for each node four words of the table, with a bit for each test.
+#![tactic(auto)]
+
 pub mod notes;
 
 ghost use Rattle.std.specs.Prelude.{◌≡◌, ◌<◌};

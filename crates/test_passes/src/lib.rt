@@ -1,4 +1,6 @@
 // One pass over the nodes for each kind of test that is made of other tests.
+#![tactic(auto)]
+
 ghost use Rattle.std.specs.Prelude.{◌≡◌, true, ◌⊎◌, ◌*◌, ◌≤◌, ◌<◌, ◌+◌, length};
 ghost use Rattle.limits.specs.Limits.{rule_tests};
 ghost use Rattle.layout.specs.Table.{COLUMNS, Room};

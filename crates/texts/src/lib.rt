@@ -1,5 +1,7 @@
 // The first and the last node that has text that is not blank: of one node, of nodes one behind the other, and of those under a node of the binary tree, for which two columns tell them.
 // All text under a node but for blanks stands between the two, so nodes with the same two have the same value.
+#![tactic(auto)]
+
 ghost use Rattle.std.specs.Prelude.{List, ◌⊎◌, ◌≢◌, ◌≡◌, ℕ, suc, ◌≤◌, ◌<◌, length};
 ghost use Rattle.document_spec.specs.Library as Library;
 ghost use Rattle.document_lines.specs.Entries.{IsEntry};

@@ -1,4 +1,6 @@
 // The tokens of a rule, in which no test or path stands: bytes, names, numbers, constants and signs; and what the first byte of a test or path begins.
+#![tactic(auto)]
+
 pub mod heads;
 pub mod read;
 
@@ -94,7 +96,7 @@ fn with_digit(n: usize, b: u8) -> usize
 }
 
 // Whether a byte is a digit that may come behind those of n: none comes behind a zero, and the number stays one that a count may have.
-fn goes_on_lem(n: usize, b: u8) -> bool
+fn goes_on(n: usize, b: u8) -> bool
     requires { n ≤ rule_count }
     ensures { result ≡ goes_on n b }
 {

@@ -1,4 +1,6 @@
 // Compared values of nodes of an accepted document, read where they stand, by the notes in the table.
+#![tactic(auto)]
+
 ghost use Rattle.std.specs.Prelude.{List, ℕ, ◌≤◌, ◌<◌};
 ghost use Rattle.document_spec.specs.Library as Library;
 ghost use Rattle.document_spec.specs.Verdict.{Accepts};

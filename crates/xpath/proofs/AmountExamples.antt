@@ -3,7 +3,7 @@ use Prim.Native.Nat.{ℕ}
 use mathlib.Core.Path.{◌≡◌, refl}
 use mathlib.Core.Bool.{true, false}
 use mathlib.Core.Option.{Option, none, some}
-use mathlib.Core.List.{List, [], ◌∷◌, map}
+use mathlib.Core.List.{[], ◌∷◌, map}
 use Rattle.lists.specs.Text.{bytes}
 use Rattle.xpath.specs.Amounts.{Amount, amount}
 use Rattle.xpath.specs.Reading.{amount_of, whole_from, decimals_from}

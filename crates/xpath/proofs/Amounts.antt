@@ -1,5 +1,5 @@
 -- The laws of amounts: a numeral has one, which reading its bytes gives, and amounts are in a total order.
-use Prim.Native.Nat.{ℕ, zero, suc, ◌+◌, ◌-◌, ◌*◌, ◌^◌, ◌≤◌, ◌<◌}
+use Prim.Native.Nat.{ℕ, suc, ◌+◌, ◌-◌, ◌*◌, ◌^◌, ◌≤◌, ◌<◌}
 use mathlib.Core.Path.{◌≡◌, refl, sym, ap, ◌∙◌, subst, subst₂}
 use mathlib.Core.Logic.{◌⊎◌, inl, inr, ◌↔◌}
 use mathlib.Core.Bool.{Bool, true, false}
@@ -15,7 +15,7 @@ use Rattle.lists.specs.Numerals.{value_from, reading}
 use Rattle.xpath.specs.Booleans.{both}
 use Rattle.xpath.specs.Amounts.{signed, pointed, Amount, amount, HasAmount, Below, AtMost}
 use Rattle.xpath.specs.Reading.{given, is_digit, decimals_from, whole_from, with_sign, amount_of}
-use Rattle.xpath.proofs.Booleans.{T-both, eqb_iff, ltb_iff, ×-iff, trans, same}
+use Rattle.xpath.proofs.Booleans.{T-both, eqb_iff, ltb_iff, ×-iff, trans}
 
 -- ── Read byte by byte ──
 given_iff : {A : Type 0} (b : Bool) (x : Option A) (a : A) → (given b x ≡ some a) ↔ (T b × (x ≡ some a))

@@ -8,7 +8,7 @@ use mathlib.Core.List.{List, [], ◌∷◌}
 use native.Mathlib.Omega.{arith}
 use native.Mathlib.Decide.{ℕ_discrete}
 use lib.Dec.{T, leb, ltb, eqb, ltb→lt, lt→ltb, eqb→eq, eqb_refl}
-use Rattle.lists.specs.Lists.{Occurs, AtLeast, Number}
+use Rattle.lists.specs.Lists.{Occurs, Number}
 use Rattle.lists.specs.Blanks.{trim}
 use Rattle.lists.proofs.Lists.{number_none, number_single, number_add, number_iff, at_least_number, at_least_iff}
 use Rattle.xpath.specs.Syntax.{Op, eq, ne, lt, le, gt, ge, Test, named, not, and, or, compare, compare_to, at_least, XPath, empty, one, seq, union, star, Step, to_left, to_right, from_left, from_right, stay}

@@ -1,6 +1,5 @@
 use mathlib.Core.Path.{refl}
 use Rattle.bits.specs.Sets.{bit}
-use borrow.Author.Rules.{rules}
 use Rattle.bits.proofs.has.Goals as goal
 
 -- `bits::has` meets its contract.

@@ -1,7 +1,6 @@
 use mathlib.Core.Path.{ap, ◌∙◌}
 use Prim.Native.Nat.{ℕ, ◌^◌}
 use lib.Bits.{bit_or}
-use borrow.Author.Rules.{rules}
 use Rattle.bits.specs.Sets.{bit, or}
 use Rattle.bits.proofs.SetLaws.{bit_or_lem, bit_single, shifted_one, or_comm}
 use Rattle.bits.proofs.insert.Goals as goal

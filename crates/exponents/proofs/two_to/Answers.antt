@@ -5,7 +5,6 @@ use lib.Dec.{lit<}
 use lib.Pow.{shl_exact}
 use native.Mathlib.Nat.{one-mul}
 use native.Mathlib.Omega.{arith}
-use borrow.Author.Rules.{rules}
 use Rattle.exponents.proofs.two_to.Goals as goal
 
 pub returns : goal.returns

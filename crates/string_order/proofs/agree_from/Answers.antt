@@ -1,8 +1,5 @@
 -- `string_order::agree_from` meets its contract.
-use borrow.Author.Tests.{eqb-true, eqb-false}
-use Prim.Native.Nat.{◌-◌}
 use native.Mathlib.Omega.{arith}
-use Rattle.string_order.specs.Ordered.{Begins}
 use Rattle.string_order.proofs.Agreement.{begins_more, begins_all}
 use Rattle.string_order.proofs.agree_from.Goals as goal
 
@@ -30,12 +27,12 @@ loop-k-smaller c = omega arith
 pub loop-k-preserved : goal.loop-k-preserved
 loop-k-preserved c =
     let a = c.args in let l = c.loop-k in
-    begins_more a.x.now a.i a.y.now a.j a.most l.k l.invariant (omega arith) (eqb-true _ _ c.if-x-i.true)
+    begins_more a.x.now a.i a.y.now a.j a.most l.k l.invariant (omega arith) c.if-x-i.true
 
 pub returns-else-x-i : goal.returns-else-x-i
 returns-else-x-i c =
     let a = c.args in let l = c.loop-k in
-    begins_all a.x.now a.i a.y.now a.j a.most l.k (omega arith) (omega arith) l.invariant (λ h. eqb-false _ _ c.if-x-i.false)
+    begins_all a.x.now a.i a.y.now a.j a.most l.k (omega arith) (omega arith) l.invariant (λ h. c.if-x-i.false)
 
 pub returns-after-loop-k : goal.returns-after-loop-k
 returns-after-loop-k c =

@@ -1,9 +1,6 @@
 -- `string_order::agree_from` meets its contract.
-use borrow.Author.Tests.{eqb-true, eqb-false}
 use Prim.Native.Nat.{◌-◌}
-use native.Mathlib.Omega.{arith}
 use Rattle.string_order.specs.Ordered.{Begins}
-use Rattle.string_order.proofs.Agreement.{begins_more, begins_all}
 use Rattle.string_order.proofs.agree_from.Given as goal
 
 abbrev pub invariant-loop-k : goal.invariant-loop-k

@@ -1,10 +1,5 @@
-use mathlib.Core.Path.{refl, sym, ◌∙◌, subst}
-use mathlib.Core.Bool.{Bool}
-use mathlib.Core.Logic.{⊎_elim}
-use mathlib.Core.List.{List}
-use Prim.Native.Nat.{◌≤◌, ◌-◌, ◌+◌}
-use native.Mathlib.Omega.{arith}
-use Rattle.bits.proofs.SquareLaws.{Joining, joining_skip, joining_set}
+use Prim.Native.Nat.{◌≤◌, ◌-◌}
+use Rattle.bits.proofs.SquareLaws.{Joining}
 use Rattle.bits.proofs.square.joined.Given as goal
 
 abbrev pub invariant-loop-i : goal.invariant-loop-i

@@ -1,13 +1,9 @@
-use mathlib.Core.Path.{◌≡◌, sym, ap, ◌∙◌}
-use mathlib.Core.Bool.{Bool, true, false}
-use mathlib.Core.Logic.{⊎_elim}
-use Prim.Native.Nat.{ℕ, ◌≤◌, ◌-◌, ◌+◌}
-use lib.ListN.{length, get_or}
-use mathlib.Core.List.{List}
-use mathlib.Core.Path.{subst}
-use native.Mathlib.Omega.{arith}
+use mathlib.Core.Path.{◌≡◌}
+use mathlib.Core.Bool.{false}
+use Prim.Native.Nat.{◌≤◌, ◌-◌}
+use lib.ListN.{length}
 use Rattle.bits.specs.Sets.{or, bit}
-use Rattle.bits.proofs.SquareLaws.{Done, done_none, done_skip, done_set, or_true, or_false}
+use Rattle.bits.proofs.SquareLaws.{Done}
 use Rattle.bits.proofs.square.with_members.Given as goal
 
 abbrev pub invariant-loop-j : goal.invariant-loop-j

@@ -1,6 +1,5 @@
 -- `layout::places::block_at` meets its contract.
 use native.Mathlib.Omega.{arith}
-use borrow.Author.Rules.{rules}
 use Rattle.layout.proofs.Fitting.{small}
 use Rattle.layout.proofs.places.block_at.Goals as goal
 

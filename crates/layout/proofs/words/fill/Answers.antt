@@ -1,5 +1,4 @@
 -- `layout::words::fill` meets its contract.
-use Prim.Native.Nat.{◌-◌}
 use mathlib.Core.Path.{◌≡◌, subst}
 use native.Mathlib.Omega.{arith}
 use Rattle.layout.specs.Words.{Filled}

@@ -1,10 +1,6 @@
 -- `layout::words::fill` meets its contract.
 use Prim.Native.Nat.{◌-◌}
-use mathlib.Core.Path.{◌≡◌, subst}
-use native.Mathlib.Omega.{arith}
 use Rattle.layout.specs.Words.{Filled}
-use Rattle.layout.proofs.Filling.{filled_none, filled_step}
-use Rattle.layout.proofs.Frames.{room_within}
 use Rattle.layout.proofs.words.fill.Given as goal
 
 abbrev pub invariant-loop-v : goal.invariant-loop-v

@@ -20,10 +20,10 @@ pub offset_bounds-t-c : goal.offset_bounds-t-c
 offset_bounds-t-c c = let h = inside c in omega arith
 
 pub bounds-t-c : goal.bounds-t-c
-bounds-t-c c = inside c.BARE1
+bounds-t-c c = (let inside-here : cell c.args.n c.args.c c.args.v < length c.args.t.now = cell_inside c.args.t.now c.requires.0 c.requires.1 c.requires.2 in inside-here)
 
 pub overflow_cast-result : goal.overflow_cast-result
-overflow_cast-result c = omega (arith, c.shared_slice_known-1.given (cell c.args.n c.args.c c.args.v))
+overflow_cast-result c = omega (arith, c.type_inv.t (cell c.args.n c.args.c c.args.v))
 
 pub returns : goal.returns
-returns c = (refl, omega (arith, c.shared_slice_known-1.given (cell c.args.n c.args.c c.args.v)))
+returns c = (refl, omega (arith, c.type_inv.t (cell c.args.n c.args.c c.args.v)))

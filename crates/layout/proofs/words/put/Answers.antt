@@ -4,7 +4,6 @@ use lib.ListN.{length}
 use native.Mathlib.Omega.{arith}
 use Rattle.layout.specs.Words.{cell}
 use Rattle.layout.proofs.Cells.{cell_inside, wrote_one}
-use borrow.Author.Rules.{rules}
 use Rattle.layout.proofs.words.put.Goals as goal
 
 inside : (c : goal.Start) → cell c.args.n c.args.c c.args.v < length c.args.t.now

@@ -5,7 +5,6 @@ use native.Mathlib.Omega.{arith}
 use native.Mathlib.Nat.{mul-le-mul}
 use Rattle.lists.proofs.Numerals.{binary_short}
 use Rattle.limits.specs.Limits.{scratch_words}
-use borrow.Author.Rules.{rules}
 use Rattle.limits.proofs.Scratch.needed.Goals as goal
 
 -- a document's number of nodes has at most 13 digits

@@ -1,12 +1,10 @@
 -- `string_order::blocks::same_block` meets its contract.
-use mathlib.Core.Path.{◌≡◌, sym, ◌∙◌}
-use mathlib.Core.Logic.{⊎_elim}
-use mathlib.Core.Bool.{true, true≢false}
-use Prim.Native.Nat.{◌-◌, ◌≤◌}
+use mathlib.Core.Path.{sym, ◌∙◌}
+use mathlib.Core.Bool.{true≢false}
 use native.Mathlib.Omega.{arith}
-use Rattle.string_order.specs.Ordered.{BLOCK, Common}
 use Rattle.string_order.proofs.Agreement.{common_none, common_more}
 use Rattle.string_order.proofs.blocks.same_block.Goals as goal
+use Rattle.string_order.proofs.blocks.same_block.Goals.{then-x-i, else-x-i}
 
 pub loop-k-init : goal.loop-k-init
 loop-k-init c = let a = c.args in (omega arith, λ e. common_none a.x.now a.i a.y.now a.j)
@@ -33,10 +31,10 @@ pub loop-k-preserved : goal.loop-k-preserved
 loop-k-preserved c =
     let a = c.args in let l = c.loop-k in (
       omega arith,
-      ⊎_elim
-          (λ w e. absurd (true≢false (sym e ∙ w.1)))
-          (λ w e. common_more a.x.now a.i a.y.now a.j l.k (l.invariant.1 (sym w.1 ∙ e)) w.0.left)
-          c.if-x-i.branch-raw,
+      elim c.if-x-i.branch [
+        | then-x-i w ↦ λ e. absurd (true≢false (sym e ∙ w.all-is))
+        | else-x-i w ↦ λ e. common_more a.x.now a.i a.y.now a.j l.k (l.invariant.1 (sym w.all-is ∙ e)) w.if-x-i.false
+      ],
     )
 
 pub returns : goal.returns

@@ -1,11 +1,8 @@
 -- `string_order::blocks::same_block` meets its contract.
-use mathlib.Core.Path.{◌≡◌, sym, ◌∙◌}
-use mathlib.Core.Logic.{⊎_elim}
-use mathlib.Core.Bool.{true, true≢false}
+use mathlib.Core.Path.{◌≡◌}
+use mathlib.Core.Bool.{true}
 use Prim.Native.Nat.{◌-◌, ◌≤◌}
-use native.Mathlib.Omega.{arith}
 use Rattle.string_order.specs.Ordered.{BLOCK, Common}
-use Rattle.string_order.proofs.Agreement.{common_none, common_more}
 use Rattle.string_order.proofs.blocks.same_block.Given as goal
 
 abbrev pub invariant-loop-k : goal.invariant-loop-k

@@ -1,8 +1,5 @@
 -- `string_order::blocks::same_blocks` meets its contract.
-use borrow.Author.Tests.{not-false}
-use Prim.Native.Nat.{◌-◌}
 use native.Mathlib.Omega.{arith}
-use Rattle.string_order.specs.Ordered.{Begins}
 use Rattle.string_order.proofs.Agreement.{begins_none, begins_join}
 use Rattle.string_order.proofs.blocks.same_blocks.Goals as goal
 
@@ -33,7 +30,7 @@ loop-k-smaller c = omega arith
 pub loop-k-preserved : goal.loop-k-preserved
 loop-k-preserved c =
     let a = c.args in let l = c.loop-k in
-    begins_join a.x.now a.i a.y.now a.j a.most l.k 16 l.invariant (omega arith) (c.same_block.ensures (not-false c.same_block.result c.if-not-same_block.false))
+    begins_join a.x.now a.i a.y.now a.j a.most l.k 16 l.invariant (omega arith) (c.same_block.ensures c.if-not-same_block.false)
 
-pub returns-then-not-same_block : goal.returns
-returns-then-not-same_block c = c.loop-k.invariant
+pub returns : goal.returns
+returns c = c.loop-k.invariant

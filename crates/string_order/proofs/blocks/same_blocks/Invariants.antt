@@ -1,9 +1,6 @@
 -- `string_order::blocks::same_blocks` meets its contract.
-use borrow.Author.Tests.{not-false}
 use Prim.Native.Nat.{◌-◌}
-use native.Mathlib.Omega.{arith}
 use Rattle.string_order.specs.Ordered.{Begins}
-use Rattle.string_order.proofs.Agreement.{begins_none, begins_join}
 use Rattle.string_order.proofs.blocks.same_blocks.Given as goal
 
 abbrev pub invariant-loop-k : goal.invariant-loop-k

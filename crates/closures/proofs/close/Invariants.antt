@@ -1,0 +1,12 @@
+-- `closures::close` meets its contract.
+use Prim.Native.Nat.{◌≤◌, ◌-◌}
+use mathlib.Core.Path.{◌∙◌}
+use native.Mathlib.Omega.{arith}
+use Rattle.closures.proofs.Warshall.{Closing, closing_none, closing_step, closing_all}
+use Rattle.closures.proofs.close.Given as goal
+
+abbrev pub invariant-loop-k : goal.invariant-loop-k
+invariant-loop-k l = (l.k ≤ 16) × Closing l.at l.k l.initial.p l.p
+
+abbrev pub decreases-loop-k : goal.decreases-loop-k
+decreases-loop-k l = 16 - l.k

@@ -1,0 +1,14 @@
+-- `closures::reflect` meets its contract.
+use Prim.Native.Nat.{◌≤◌, ◌-◌}
+use native.Mathlib.Omega.{arith}
+use Rattle.matrices.specs.Matrices.{Related, Drawing}
+use Rattle.closures.specs.Closures.{Reflexive}
+use Rattle.matrices.proofs.Drawing.{drawing_none, drawing_to}
+use Rattle.closures.proofs.Rows.{reflect_step}
+use Rattle.closures.proofs.reflect.Given as goal
+
+abbrev pub invariant-loop-i : goal.invariant-loop-i
+invariant-loop-i l = (l.i ≤ 16) × Drawing (Reflexive (Related l.initial.p l.at)) l.at l.i l.initial.p l.p
+
+abbrev pub decreases-loop-i : goal.decreases-loop-i
+decreases-loop-i l = 16 - l.i

@@ -1,0 +1,14 @@
+-- `detours::begin::draw` meets its contract.
+use Prim.Native.Nat.{◌≤◌, ◌-◌}
+use native.Mathlib.Omega.{arith}
+use Rattle.matrices.specs.Matrices.{Drawing}
+use Rattle.matrices.proofs.Members.{and_iff}
+use Rattle.matrices.proofs.Drawing.{drawing_none, drawing_step, drawing_to}
+use Rattle.detours.specs.Visits.{Steps}
+use Rattle.detours.proofs.begin.draw.Given as goal
+
+abbrev pub invariant-loop-i : goal.invariant-loop-i
+invariant-loop-i l = (l.i ≤ 16) × Drawing (Steps l.rows l.w) l.at l.i l.initial.p l.p
+
+abbrev pub decreases-loop-i : goal.decreases-loop-i
+decreases-loop-i l = 16 - l.i

@@ -1,0 +1,22 @@
+-- `detours::place::is_left` meets its contract.
+use Prim.Native.Nat.{ℕ}
+use mathlib.Core.Path.{◌≡◌, sym, ap, ◌∙◌}
+use native.Mathlib.Omega.{arith}
+use borrow.Author.Rules.{rules}
+use borrow.Author.Tests.{eqb-true, eqb-false}
+use Rattle.layout.specs.Table.{LEFT, PARENT}
+use Rattle.layout.specs.Words.{word}
+use Rattle.detours.proofs.place.is_left.Goals as goal
+
+pub get-requires : goal.get-requires
+get-requires c =
+    let h = c.requires in
+    let u = h.0.parents c.args.v h.1 h.2 in
+    omega (arith, c.get-u.ensures.0)
+
+pub returns : goal.returns
+returns c =
+    let a = c.args in
+    let left : ℕ → ℕ = λ u. word a.p.now a.n LEFT u in
+    let e : c.get.result ≡ left (word a.p.now a.n PARENT a.v) = c.get.ensures.0 ∙ ap left c.get-u.ensures.0 in
+    (λ t. sym e ∙ eqb-true _ _ t, λ f k. eqb-false _ _ f (e ∙ k))

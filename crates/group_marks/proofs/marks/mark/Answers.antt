@@ -1,0 +1,7 @@
+-- `group_marks::marks::mark` meets its contract.
+use Rattle.group_marks.proofs.Noting.{marking_put}
+use borrow.Author.Rules.{rules}
+use Rattle.group_marks.proofs.marks.mark.Goals as goal
+
+pub returns : goal.returns
+returns c = marking_put c.requires.1 c.get-word.ensures.0 c.put.ensures

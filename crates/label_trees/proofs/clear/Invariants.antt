@@ -1,0 +1,14 @@
+-- `label_trees::clear` meets its contract.
+use Prim.Native.Nat.{ℕ, ◌-◌, ◌≤◌, ◌<◌}
+use mathlib.Core.Path.{◌≡◌}
+use native.Mathlib.Omega.{arith}
+use lib.ListN.{get_or}
+use Rattle.label_trees.specs.Trees.{heads}
+use Rattle.label_trees.proofs.Words.{Writing, writing_none, writing_more, holds_none}
+use Rattle.label_trees.proofs.clear.Given as goal
+
+abbrev pub invariant-loop-i : goal.invariant-loop-i
+invariant-loop-i l = (l.i ≤ heads) × Writing (λ j. 0) l.initial.t l.i l.t
+
+abbrev pub decreases-loop-i : goal.decreases-loop-i
+decreases-loop-i l = heads - l.i

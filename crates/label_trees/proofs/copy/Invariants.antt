@@ -1,0 +1,13 @@
+-- `label_trees::copy` meets its contract.
+use Prim.Native.Nat.{◌-◌, ◌≤◌}
+use native.Mathlib.Omega.{arith}
+use lib.ListN.{length, get_or}
+use Rattle.label_trees.proofs.Words.{Writing, writing_none, writing_more}
+use Rattle.label_trees.proofs.Copying.{copied}
+use Rattle.label_trees.proofs.copy.Given as goal
+
+abbrev pub invariant-loop-i : goal.invariant-loop-i
+invariant-loop-i l = (l.i ≤ length l.from) × Writing (λ j. get_or l.from j 0) l.initial.to l.i l.to
+
+abbrev pub decreases-loop-i : goal.decreases-loop-i
+decreases-loop-i l = length l.from - l.i

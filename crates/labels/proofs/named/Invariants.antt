@@ -1,0 +1,22 @@
+-- `labels::named` meets its contract.
+use Prim.Native.Nat.{◌-◌}
+use mathlib.Core.Path.{◌≡◌}
+use mathlib.Core.List.{List}
+use native.Mathlib.Omega.{arith}
+use native.Mathlib.Numerals.{add-one}
+use lib.Seq.{slice}
+use Rattle.document_spec.specs.Library.{Node, at}
+use Rattle.document_spec.specs.Verdict.{Accepts}
+use Rattle.table.specs.Links.{Linked}
+use Rattle.table.specs.Tabled.{Worked}
+use Rattle.table.proofs.Worked.{worked_linked, worked_tree}
+use Rattle.test_bits.proofs.Settling.{Settling, settling_none, settling_step, settling_all}
+use Rattle.labels.proofs.Kept.{settling_worked}
+use Rattle.labels.proofs.named.Given as goal
+
+abbrev pub invariant-loop-v : goal.invariant-loop-v
+invariant-loop-v l =
+    (ns : List Node) → Accepts l.s ns → Linked l.s ns l.initial.t → Settling l.n l.k (λ u. (at ns u).label ≡ slice l.from l.to l.rule) l.v l.initial.t l.t
+
+abbrev pub decreases-loop-v : goal.decreases-loop-v
+decreases-loop-v l = l.n - l.v

@@ -1,0 +1,16 @@
+-- `labels::same_bytes` meets its contract.
+use Prim.Native.Nat.{ℕ, ◌+◌, ◌-◌, ◌≤◌, ◌<◌}
+use mathlib.Core.Path.{◌≡◌, refl}
+use mathlib.Core.Bool.{false≢true}
+use native.Mathlib.Omega.{arith}
+use lib.ListN.{get_or}
+use borrow.Author.Count.{below_more}
+use Rattle.labels.proofs.Spans.{slices_long, slices_agree, slices_same}
+use Rattle.labels.proofs.same_bytes.Given as goal
+
+-- ── The loop's invariant ──
+abbrev pub invariant-loop-i : goal.invariant-loop-i
+invariant-loop-i l = (l.i ≤ l.m) × ((k : ℕ) → k < l.i → get_or l.s (l.from + k) 0 ≡ get_or l.rule (l.start + k) 0)
+
+abbrev pub decreases-loop-i : goal.decreases-loop-i
+decreases-loop-i l = l.m - l.i

@@ -1,0 +1,62 @@
+-- `lexer::run` meets its contract.
+use Prim.Native.Nat.{◌+◌}
+use mathlib.Core.Path.{◌≡◌, sym, ◌∙◌, subst}
+use lib.ListN.{get_or}
+use lib.Dec.{T}
+use native.Mathlib.Omega.{arith}
+use Rattle.lexer.proofs.Laws.{run_ends, run_never, run_stops}
+use Rattle.lexer.proofs.Passing.{passed_more}
+use Rattle.lexer.proofs.run.Goals as goal
+
+pub pass-i-requires : goal.pass-i-requires
+pass-i-requires c = omega arith
+
+pub loop-i-init : goal.loop-i-init
+loop-i-init c = c.pass-i.ensures
+
+-- ── A byte at which the run ends ──
+pub bounds-s-i : goal.bounds-s-i
+bounds-s-i c = omega arith
+
+pub overflow_add-result : goal.overflow_add-result
+overflow_add-result c = omega arith
+
+pub returns-then-b-eq10 : goal.returns-then-b-eq10
+returns-then-b-eq10 c =
+    let a = c.args in let l = c.loop-i in
+    run_ends a.s.now a.at l.i a.k a.most l.invariant.from l.invariant.fits (omega arith) c.if-b-eq10.true l.invariant.short
+
+pub overflow_sub-i : goal.overflow_sub-i
+overflow_sub-i c = omega arith
+
+pub returns-then-i-at : goal.returns-then-i-at
+returns-then-i-at c =
+    let a = c.args in let l = c.loop-i in
+    run_never a.s.now a.at l.i a.k a.most l.invariant.from l.invariant.fits
+    (λ m p q r e h. c.if-b-eq10.false (let z : a.at + m ≡ l.i = omega arith in subst (λ x. get_or a.s.now x 0 ≡ 10) z e))
+
+pub fits-requires : goal.fits-requires
+fits-requires c = tt
+
+pub returns-then-not-fits : goal.returns-then-not-fits
+returns-then-not-fits c =
+    let a = c.args in let l = c.loop-i in
+    run_stops a.s.now a.at l.i a.k a.most l.invariant.from l.invariant.fits c.if-b-eq10.false (sym c.fits.ensures ∙ c.if-not-fits.true)
+
+-- ── One turn of the loop ──
+pub overflow_add-i : goal.overflow_add-i
+overflow_add-i c = omega arith
+
+pub loop-i-smaller : goal.loop-i-smaller
+loop-i-smaller c = omega arith
+
+pub loop-i-preserved : goal.loop-i-preserved
+loop-i-preserved c =
+    let a = c.args in let l = c.loop-i in
+    passed_more a.k a.s.now a.at l.i a.most l.invariant (omega arith) (omega arith) (subst T (sym c.if-not-fits.false ∙ c.fits.ensures) tt)
+
+-- ── No byte left ──
+pub returns : goal.returns
+returns c =
+    let a = c.args in let l = c.loop-i in
+    run_never a.s.now a.at l.i a.k a.most l.invariant.from l.invariant.fits (λ m p q r e h. omega arith)

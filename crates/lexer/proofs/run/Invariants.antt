@@ -1,0 +1,12 @@
+-- `lexer::run` meets its contract.
+use Prim.Native.Nat.{◌-◌}
+use lib.ListN.{length}
+use Rattle.lexer.specs.Reading.{Passed}
+use Rattle.lexer.proofs.run.Given as goal
+
+-- ── The loop's invariant ──
+abbrev pub invariant-loop-i : goal.invariant-loop-i
+invariant-loop-i l = Passed l.k l.most l.s l.at l.i
+
+abbrev pub decreases-loop-i : goal.decreases-loop-i
+decreases-loop-i l = length l.s - l.i

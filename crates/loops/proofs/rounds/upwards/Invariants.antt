@@ -1,0 +1,13 @@
+-- `loops::rounds::upwards` meets its contract.
+use Prim.Native.Nat.{ℕ, ◌-◌, ◌≤◌, ◌<◌}
+use native.Mathlib.Omega.{arith}
+use Rattle.loops.specs.Growing.{Passed, Rises}
+use Rattle.loops.proofs.Grows.{ready_kept, grown_none}
+use Rattle.loops.proofs.Passing.{sweep_more, up_cover, total_le}
+use Rattle.loops.proofs.rounds.upwards.Given as goal
+
+abbrev pub invariant-loop-v : goal.invariant-loop-v
+invariant-loop-v l = (0 < l.v) × (l.v ≤ l.n) × Passed ((u : ℕ) → (l.v ≤ u) × (u < l.n) → Rises l.m l.n l.initial.p u) l.m l.n l.initial.p l.p l.r
+
+abbrev pub decreases-loop-v : goal.decreases-loop-v
+decreases-loop-v l = l.v

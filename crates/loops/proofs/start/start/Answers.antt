@@ -1,0 +1,28 @@
+-- `loops::start::start` meets its contract.
+use Prim.Native.Nat.{◌≤◌, ◌-◌}
+use native.Mathlib.Omega.{arith}
+use Rattle.loops.specs.Growing.{Started}
+use Rattle.loops.proofs.Grows.{ready_kept}
+use Rattle.loops.proofs.Starting.{started_none, started_step, started_to}
+use Rattle.loops.proofs.start.start.Goals as goal
+
+pub loop-v-init : goal.loop-v-init
+loop-v-init c = (omega arith, started_none _ _ _)
+
+pub begin-requires : goal.begin-requires
+begin-requires c = let s = c.loop-v.invariant.1 in (ready_kept s.frame c.requires, omega arith)
+
+pub overflow_add-v : goal.overflow_add-v
+overflow_add-v c = omega arith
+
+pub loop-v-smaller : goal.loop-v-smaller
+loop-v-smaller c = omega arith
+
+pub loop-v-preserved : goal.loop-v-preserved
+loop-v-preserved c = (omega arith, started_step (omega arith) c.loop-v.invariant.1 c.begin.ensures)
+
+pub shape_of-p : goal.shape_of-p
+shape_of-p c = c.loop-v.invariant.1.frame.long
+
+pub returns : goal.returns
+returns c = started_to (omega arith) c.loop-v.invariant.1

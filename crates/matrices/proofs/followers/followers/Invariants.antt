@@ -1,0 +1,11 @@
+-- `matrices::followers::followers` meets its contract.
+use lib.ListN.{get_or}
+use Rattle.bits.specs.Sets.{size}
+use Rattle.matrices.proofs.Following.{Following}
+use Rattle.matrices.proofs.followers.followers.Given as goal
+
+abbrev pub invariant-loop-rest : goal.invariant-loop-rest
+invariant-loop-rest l = Following (λ i. get_or l.rows i 0) l.w l.rest l.r
+
+abbrev pub decreases-loop-rest : goal.decreases-loop-rest
+decreases-loop-rest l = size 16 l.rest

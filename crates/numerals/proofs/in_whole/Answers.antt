@@ -1,0 +1,32 @@
+-- `numerals::in_whole` meets its contract.
+use mathlib.Core.Path.{sym, ◌∙◌, subst}
+use mathlib.Core.Logic.{inl, inr}
+use native.Mathlib.Omega.{arith}
+use Rattle.numerals.specs.declared.Part.TheVariants.{Whole}
+use Rattle.numerals.proofs.Scans.{Steps, number_small, whole_more, whole_full, whole_point, whole_lost}
+use Rattle.numerals.proofs.in_whole.Goals as goal
+use Rattle.numerals.proofs.in_whole.Goals.{then-b-eq46+else-c-gt0, else-b-eq46}
+
+pub more-requires : goal.more-requires
+more-requires c =
+    (sym c.is_digit.ensures ∙ c.if-is_digit.true, omega arith, number_small _ _ c.requires.1 (omega arith))
+
+pub returns-then-c-lt-MAX_DIGITS : goal.returns-then-c-lt-MAX_DIGITS
+returns-then-c-lt-MAX_DIGITS c =
+    subst (Steps Whole c.args.c c.args.b) (sym c.more.ensures)
+    (whole_more c.args.c c.args.b c.requires (sym c.is_digit.ensures ∙ c.if-is_digit.true) c.if-c-lt-MAX_DIGITS.true)
+
+pub returns-then-is_digit : goal.returns-then-is_digit
+returns-then-is_digit c =
+    whole_full c.args.c c.args.b c.failed.result c.failed.ensures
+    (sym c.is_digit.ensures ∙ c.if-is_digit.true) c.if-c-lt-MAX_DIGITS.false
+
+pub returns-then-c-gt0 : goal.returns-then-c-gt0
+returns-then-c-gt0 c =
+    whole_point c.args.c c.args.b c.requires
+    (sym c.is_digit.ensures ∙ c.if-is_digit.false) c.if-b-eq46.true c.if-c-gt0.true
+
+pub returns : goal.returns
+returns c =
+    whole_lost c.args.c c.args.b c.failed-2.result c.failed-2.ensures (sym c.is_digit.ensures ∙ c.if-is_digit.false)
+    (elim c.if-b-eq46.branch [ then-b-eq46+else-c-gt0 w ↦ inr (omega arith) | else-b-eq46 w ↦ inl w.if-b-eq46.false ])

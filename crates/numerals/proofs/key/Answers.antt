@@ -1,0 +1,30 @@
+-- `numerals::key` meets its contract.
+use mathlib.Core.Path.{sym, ap, ◌∙◌, subst}
+use mathlib.Core.List.{[]}
+use native.Mathlib.Omega.{arith}
+use Rattle.xpath.specs.Reading.{whole_from, decimals_from, amount_of}
+use Rattle.numerals.specs.Keys.{key_of}
+use Rattle.numerals.specs.Scans.{resumed, FitsIn}
+use Rattle.numerals.proofs.Scans.{number_whole}
+use Rattle.numerals.proofs.key.Goals as goal
+
+pub key_at_end-requires : goal.key_at_end-requires
+key_at_end-requires c =
+    let f = subst (λ p. FitsIn p c.args.c) c.in-Whole.is c.requires in
+    (omega arith, number_whole _ _ f.1 f.0)
+
+pub key_at_end-requires-in-Decimals : goal.key_at_end-requires-in-Decimals
+key_at_end-requires-in-Decimals c =
+    subst (λ p. FitsIn p c.args.c) c.in-Decimals.is c.requires
+
+pub returns-in-Start : goal.returns-in-Start
+unfolding amount_of
+returns-in-Start c = sym (ap (λ p. key_of (resumed p c.args.c [])) c.in-Start.is)
+
+pub returns-in-Whole : goal.returns-in-Whole
+unfolding whole_from
+returns-in-Whole c = c.key_at_end.ensures ∙ sym (ap (λ p. key_of (resumed p c.args.c [])) c.in-Whole.is)
+
+pub returns-in-Decimals : goal.returns-in-Decimals
+unfolding decimals_from
+returns-in-Decimals c = c.key_at_end-in-Decimals.ensures ∙ sym (ap (λ p. key_of (resumed p c.args.c [])) c.in-Decimals.is)

@@ -1,0 +1,11 @@
+-- `numerals::key_of` meets its contract.
+use mathlib.Core.Path.{ap, ◌∙◌}
+use lib.Seq.{slice}
+use Rattle.numerals.specs.Keys.{key_of}
+use Rattle.numerals.proofs.Scans.{scanned}
+use Rattle.numerals.proofs.key_of.Goals as goal
+
+pub returns : goal.returns
+returns c =
+    let a = c.args in let b = c.begin in let r = c.scan_bytes in
+    c.key.ensures ∙ ap key_of (scanned (slice a.from a.to a.s.now) b.result r.result b.ensures.1 r.ensures.1)

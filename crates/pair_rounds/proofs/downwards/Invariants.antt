@@ -1,0 +1,14 @@
+-- `pair_rounds::downwards` meets its contract.
+use Prim.Native.Nat.{◌<◌, ◌-◌}
+use native.Mathlib.Omega.{arith}
+use Rattle.pair_rounds.specs.Rounds.{Passed, Falls}
+use Rattle.pairs.specs.Growing.{Everywhere}
+use Rattle.pairs.proofs.Framing.{ready_kept}
+use Rattle.pair_rounds.proofs.Passing.{passed_map, passed_none, passed_small, down_more}
+use Rattle.pair_rounds.proofs.downwards.Given as goal
+
+abbrev pub invariant-loop-y : goal.invariant-loop-y
+invariant-loop-y l = (0 < l.y) × Passed (Everywhere (Falls l.n l.initial.p) l.y) l.n l.initial.p l.p l.r
+
+abbrev pub decreases-loop-y : goal.decreases-loop-y
+decreases-loop-y l = l.n - l.y

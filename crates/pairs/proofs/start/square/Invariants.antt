@@ -1,0 +1,13 @@
+-- `pairs::start::square` meets its contract.
+use Prim.Native.Nat.{◌≤◌, ◌-◌}
+use native.Mathlib.Omega.{arith}
+use Rattle.matrices.specs.Matrices.{Drawing}
+use Rattle.matrices.proofs.Drawing.{drawing_none, drawing_step, drawing_to}
+use Rattle.pairs.specs.Growing.{Square}
+use Rattle.pairs.proofs.start.square.Given as goal
+
+abbrev pub invariant-loop-a : goal.invariant-loop-a
+invariant-loop-a l = (l.a ≤ 16) × Drawing (Square l.w) l.at l.a l.initial.p l.p
+
+abbrev pub decreases-loop-a : goal.decreases-loop-a
+decreases-loop-a l = 16 - l.a

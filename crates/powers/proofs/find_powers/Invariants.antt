@@ -1,0 +1,12 @@
+-- `powers::find_powers` meets its contract.
+use Prim.Native.Nat.{◌+◌, ◌-◌, ◌*◌, ◌≤◌}
+use native.Mathlib.Nat.{mul-le-mul_right}
+use native.Mathlib.Omega.{arith}
+use Rattle.powers.proofs.Passing.{Rising, rising_none, rising_step, rising_all}
+use Rattle.powers.proofs.find_powers.Given as goal
+
+abbrev pub invariant-loop-k : goal.invariant-loop-k
+invariant-loop-k l = (l.k ≤ l.b) × Rising l.m l.n l.k l.initial.p l.p
+
+abbrev pub decreases-loop-k : goal.decreases-loop-k
+decreases-loop-k l = l.b - l.k

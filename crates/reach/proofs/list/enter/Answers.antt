@@ -1,0 +1,20 @@
+-- `reach::list::enter` meets its contract.
+use native.Mathlib.Omega.{arith}
+use lib.ListN.{length-set}
+use Rattle.layout.specs.Part.{SEEN, NODES, POSITIONS}
+use Rattle.layout.specs.Words.{cell}
+use Rattle.layout.proofs.Cells.{wrote_one, wrote_then}
+use borrow.Author.Rules.{rules}
+use Rattle.reach.proofs.list.enter.Goals as goal
+
+pub bounds-p-n-2 : goal.bounds-p-n-2
+bounds-p-n-2 c = simp length-set (omega arith)
+
+pub bounds-p-n-3 : goal.bounds-p-n-3
+bounds-p-n-3 c = simp length-set (omega arith)
+
+pub returns : goal.returns
+returns c =
+    let x = c.args in let q = c.requires.0.room in let l = c.requires.1 in let k = c.requires.2 in
+    wrote_then (wrote_then (wrote_one x.p.now (cell x.n SEEN x.u) x.seen (omega arith)) (omega arith) (wrote_one _ (cell x.n NODES x.len) x.u (simp length-set (omega arith)))) (omega arith)
+    (wrote_one _ (cell x.n POSITIONS x.len) x.new (simp length-set (omega arith)))

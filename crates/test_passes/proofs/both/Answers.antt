@@ -1,0 +1,40 @@
+-- `test_passes::both` meets its contract.
+use mathlib.Core.Path.{◌∙◌}
+use native.Mathlib.Omega.{arith}
+use native.Mathlib.Numerals.{add-one}
+use Rattle.test_passes.proofs.Told.{told_and}
+use Rattle.test_bits.proofs.Settling.{settling_none, settling_here, settling_step, settling_all}
+use Rattle.test_passes.proofs.both.Goals as goal
+
+pub loop-v-init : goal.loop-v-init
+loop-v-init c = settling_none _ _ _ _
+
+pub holds-x-requires : goal.holds-x-requires
+holds-x-requires c = let l = c.loop-v.invariant.within.long in omega arith
+
+pub holds-y-requires : goal.holds-y-requires
+holds-y-requires c = let l = c.loop-v.invariant.within.long in omega arith
+
+pub note-requires : goal.note-requires
+note-requires c = let l = c.loop-v.invariant.within.long in omega arith
+
+pub overflow_add-v : goal.overflow_add-v
+overflow_add-v c = omega arith
+
+pub loop-v-smaller : goal.loop-v-smaller
+loop-v-smaller c = omega arith
+
+pub loop-v-preserved : goal.loop-v-preserved
+loop-v-preserved c =
+    let g = c.loop-v.invariant in let l = c.loop-v-test.true in
+    rw add-one (settling_step c.requires.0 l g
+    (told_and
+    (c.holds-x.ensures ∙ settling_here g c.args.a c.requires.1 l)
+    (c.holds-y.ensures ∙ settling_here g c.args.b c.requires.2 l))
+    c.note.ensures)
+
+pub shape_of-t : goal.shape_of-t
+shape_of-t c = c.loop-v.invariant.within.long
+
+pub returns : goal.returns
+returns c = settling_all c.loop-v-test.false c.loop-v.invariant
