@@ -10,15 +10,15 @@ use Rattle.document_spec.specs.Library.{Node}
 use Rattle.layout.specs.Table.{AMOUNT}
 use Rattle.layout.specs.Words.{NONE, word}
 use Rattle.document_spec.specs.Binary.{compared_of}
-use Rattle.numerals.specs.Keys.{NO_KEY}
+use Rattle.numerals.specs.Keys.{no_key}
 use Rattle.numerals.proofs.Keys.{key_most}
 use Rattle.amounts.specs.Weighed.{key_at, Weighed}
 
 -- a node with a rank has an amount
-pub weighed_some : {ns : List Node} {t : List ℕ} → length ns ≤ NONE → Weighed ns t → (v : ℕ) → v < length ns → word t (length ns) AMOUNT v < length ns → key_at ns v < NO_KEY
-weighed_some {ns} few g v l s = go (dec_lt (key_at ns v) NO_KEY)
+pub weighed_some : {ns : List Node} {t : List ℕ} → length ns ≤ NONE → Weighed ns t → (v : ℕ) → v < length ns → word t (length ns) AMOUNT v < length ns → key_at ns v < no_key
+weighed_some {ns} few g v l s = go (dec_lt (key_at ns v) no_key)
   where
-    go : Dec (key_at ns v < NO_KEY) → key_at ns v < NO_KEY
+    go : Dec (key_at ns v < no_key) → key_at ns v < no_key
     go (yes h) = h
     go (no h) = let m = key_most (compared_of ns v) in let e = g.none v l (omega arith) in absurd (omega arith)
 

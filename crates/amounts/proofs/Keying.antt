@@ -10,7 +10,7 @@ use Rattle.document_spec.specs.Verdict.{Accepts}
 use Rattle.layout.specs.Words.{Wrote}
 use Rattle.layout.proofs.Frames.{within_none, within_then}
 use Rattle.value_notes.specs.Notes.{Annotated}
-use Rattle.numerals.specs.Keys.{NO_KEY}
+use Rattle.numerals.specs.Keys.{no_key}
 use Rattle.numerals.proofs.Keys.{key_most}
 use Rattle.amounts.specs.Weighed.{key_at}
 use Rattle.amounts.specs.Keys.{key_in, keyed}
@@ -18,7 +18,7 @@ use Rattle.amounts.specs.Steps.{Keyed}
 use Rattle.amounts.proofs.Words.{key_written, key_other, keyed_within}
 
 -- what is read fits in three words
-pub key_fits : {s : List ℕ} {n : ℕ} (v : ℕ) {k : ℕ} {t : List ℕ} → Annotated s n t → ((ns : List Node) → Accepts s ns → k ≡ key_at ns v) → k ≤ NO_KEY
+pub key_fits : {s : List ℕ} {n : ℕ} (v : ℕ) {k : ℕ} {t : List ℕ} → Annotated s n t → ((ns : List Node) → Accepts s ns → k ≡ key_at ns v) → k ≤ no_key
 key_fits v h f = let ns = h.tabled.nodes in let e = f ns h.tabled.accepts in let m = key_most (compared_of ns v) in omega arith
 
 pub keyed_none : (s : List ℕ) (n : ℕ) (t : List ℕ) → Keyed s n 0 t t

@@ -13,7 +13,7 @@ use Rattle.values.specs.declared.Reading.{Reading}
 use Rattle.values.specs.Comes.{at_hand, Goes, Comes, Opens, Filled}
 use Rattle.values.proofs.Texts.{used_up}
 use Rattle.numerals.specs.declared.Scan.{Scan}
-use Rattle.numerals.specs.Keys.{NO_KEY, key_of}
+use Rattle.numerals.specs.Keys.{no_key, key_of}
 use Rattle.numerals.specs.Scans.{resume}
 use Rattle.amounts.specs.Weighed.{key_at}
 
@@ -65,5 +65,5 @@ module _ {s : List ℕ} {ns : List Node} {v : ℕ} {x : Reading} {c : Scan} (h :
   read_all e f = f ∙ ap key_of (ap (λ bs. resume c bs) (sym e) ∙ h.amount)
 
   -- what is left does not matter
-  pub read_failed : ((bs : List ℕ) → resume c bs ≡ none) → NO_KEY ≡ key_at ns v
+  pub read_failed : ((bs : List ℕ) → resume c bs ≡ none) → no_key ≡ key_at ns v
   read_failed e = ap key_of (sym (e h.rest) ∙ h.amount)

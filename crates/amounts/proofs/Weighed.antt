@@ -13,7 +13,7 @@ use Rattle.layout.proofs.Frames.{within_then, within_more}
 use Rattle.table.specs.Tabled.{Tabled}
 use Rattle.table.proofs.Trees.{tree_size}
 use Rattle.sorting.specs.Sorting.{InOrder}
-use Rattle.numerals.specs.Keys.{NO_KEY}
+use Rattle.numerals.specs.Keys.{no_key}
 use Rattle.amounts.specs.Weighed.{key_at, Weighed}
 use Rattle.amounts.specs.Keys.{Keys}
 use Rattle.amounts.specs.Steps.{Keyed, Sorting, Numbered, Struck}
@@ -22,7 +22,7 @@ use Rattle.amounts.proofs.Sorting.{keys_kept}
 -- numbers in the order of the keys, and those without a key struck out
 module _ (ns : List Node) {t t' : List ℕ} (keys : Keys (length ns) (key_at ns) t) (o : InOrder ◌<◌ (key_at ns) (length ns) (λ v. word t (length ns) AMOUNT v))
     (z : Struck (length ns) (length ns) t t') where
-  number : (v : ℕ) → v < length ns → key_at ns v < NO_KEY → word t (length ns) AMOUNT v ≡ word t' (length ns) AMOUNT v
+  number : (v : ℕ) → v < length ns → key_at ns v < no_key → word t (length ns) AMOUNT v ≡ word t' (length ns) AMOUNT v
   number v l h = let k = keys v l in sym ((z.shown v l).some (λ e. omega arith))
 
   weighed_of : Weighed ns t'

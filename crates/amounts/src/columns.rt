@@ -2,7 +2,7 @@
 ghost use Rattle.std.specs.Prelude.{◌≡◌, ◌≤◌, ◌<◌};
 ghost use Rattle.layout.specs.Table.{Room};
 ghost use Rattle.layout.specs.Words.{Wrote};
-ghost use Rattle.numerals.specs.Keys.{NO_KEY};
+ghost use Rattle.numerals.specs.Keys.{no_key};
 ghost use Rattle.amounts.specs.Keys.{key_in, keyed};
 
 use layout::Ranking;
@@ -22,7 +22,7 @@ pub fn get_key(t: &[u16], n: usize, v: usize) -> usize
 
 // The key of node `v` becomes `k`.
 pub fn put_key(t: &mut [u16], n: usize, v: usize, k: usize)
-    requires { (v < n) × Room n t.old × (k ≤ NO_KEY) }
+    requires { (v < n) × Room n t.old × (k ≤ no_key) }
     ensures { Wrote (keyed n v k) t.old t.new }
 {
     let rest = k / Scratch::WORD_VALUES;

@@ -1,4 +1,6 @@
 // Ranks of the amounts of the nodes of an accepted document: numbers that are in the order of the numerals that their compared values are.
+#![tactic(auto)]
+
 mod columns;
 pub mod keys;
 mod number;

@@ -1,4 +1,6 @@
 // The position automaton (Glushkov) of a comparison's paths, from the bytes of an accepted rule.
+#![tactic(auto)]
+
 pub mod automaton;
 pub mod follow;
 pub mod relation;

@@ -1,4 +1,6 @@
 // The machine of a comparison, from the bytes of an accepted rule.
+#![tactic(auto)]
+
 mod rows;
 mod steps;
 

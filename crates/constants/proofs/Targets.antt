@@ -15,7 +15,7 @@ use Rattle.string_order.specs.Ordered.{Ordered}
 use Rattle.string_order.specs.declared.Order.{Order}
 use Rattle.string_order.specs.declared.Order.TheVariants.{Less, Same, Greater}
 use Rattle.string_order.proofs.Bytes.{less_transitive}
-use Rattle.numerals.specs.Keys.{NO_KEY}
+use Rattle.numerals.specs.Keys.{no_key}
 use Rattle.ranks.specs.Ranks.{Ranked}
 use Rattle.amounts.specs.Weighed.{key_at, Weighed}
 use Rattle.amounts.proofs.Kept.{weighed_some}
@@ -50,7 +50,7 @@ pub valued : {ns : List Node} {n k : ℕ} {t : List ℕ} (rule : List ℕ) (c : 
 valued {ns} {n} {k} {t} rule c e size few r g =
     subst₂ (λ (m j : ℕ). Valued (against ns rule c) m (word t m j)) size (sym e) (go c)
   where
-    some : (v : ℕ) → v < length ns → word t (length ns) AMOUNT v < length ns → key_at ns v < NO_KEY
+    some : (v : ℕ) → v < length ns → word t (length ns) AMOUNT v < length ns → key_at ns v < no_key
     some = weighed_some few g
 
     go : (c : Target) → Valued (against ns rule c) (length ns) (word t (length ns) (column_of c))

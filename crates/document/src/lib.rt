@@ -1,4 +1,6 @@
 // The document check: any bytes get the verdict of numbers 1 to 4 of document 01 and 14 of document 02.
+#![tactic(auto)]
+
 mod nodes;
 
 ghost use Rattle.std.specs.Prelude.{◌≡◌, ◌≤◌, ◌<◌, length};
@@ -32,7 +34,7 @@ enum Reading {
 fn read_nodes(s: &[u8], n: usize, start: Progress, words: &mut [u32]) -> Reading
     requires { (start.node ≤ n) × Reached s.now words.old n start × Room words.old }
     ensures nodes_read { NodesRead s.now words.new n result }
-    ensures words_len_unchanged { length words.new ≡ length words.old }
+    ensures long { length words.new ≡ length words.old }
 {
     let mut here = start;
     while here.node < n {

@@ -50,7 +50,7 @@ fn value_step(s: &[u8], at: usize, v: usize, node: Node) -> Step
 fn enter(s: &[u8], at: usize, end: usize, k: Kind, words: &mut [u32]) -> Added
     requires { Enterable s.now words.old at end k × (length s.now ≤ document_bytes) × (at ≤ document_bytes) × Room words.old }
     ensures entered { Entered s.now words.old at k words.new result }
-    ensures words_len_unchanged { length words.new ≡ length words.old }
+    ensures long { length words.new ≡ length words.old }
 {
     match k {
         Kind::Element => Added::New,
@@ -60,10 +60,10 @@ fn enter(s: &[u8], at: usize, end: usize, k: Kind, words: &mut [u32]) -> Added
 }
 
 fn label_step(s: &[u8], at: usize, v: usize, node: Node, words: &mut [u32]) -> Step
-    requires by_index { (n : ℕ) × AtLabel s.now words.old n v node at }
+    requires standing { (n : ℕ) × AtLabel s.now words.old n v node at }
     requires room { Room words.old }
-    ensures by_index_2 { (n : ℕ) → AtLabel s.now words.old n v node at → Stepped s.now words.new n v ((words.new ≡ words.old) × UsedUp words.new v) result }
-    ensures words_len_unchanged { length words.new ≡ length words.old }
+    ensures stepped { (n : ℕ) → AtLabel s.now words.old n v node at → Stepped s.now words.new n v ((words.new ≡ words.old) × UsedUp words.new v) result }
+    ensures long { length words.new ≡ length words.old }
 {
     let r = read_label(s, at);
     let Ending::Next(j) = r else {
@@ -86,7 +86,7 @@ fn label_step(s: &[u8], at: usize, v: usize, node: Node, words: &mut [u32]) -> S
 fn begin_labels(before: Kind, k: Kind, words: &mut [u32])
     requires { Room words.old }
     ensures opened { Opened before k words.old words.new }
-    ensures words_len_unchanged { length words.new ≡ length words.old }
+    ensures long { length words.new ≡ length words.old }
 {
     match k {
         Kind::Element => {}
@@ -102,10 +102,10 @@ fn begin_labels(before: Kind, k: Kind, words: &mut [u32])
 }
 
 fn kind_step(s: &[u8], at: usize, here: Progress, d: usize, words: &mut [u32]) -> Step
-    requires by_index { (n : ℕ) × AtKind s.now words.old n here d at }
+    requires standing { (n : ℕ) × AtKind s.now words.old n here d at }
     requires room { Room words.old }
-    ensures by_index_2 { (n : ℕ) → AtKind s.now words.old n here d at → Stepped s.now words.new n here.node (NoWords s.now words.new here) result }
-    ensures words_len_unchanged { length words.new ≡ length words.old }
+    ensures stepped { (n : ℕ) → AtKind s.now words.old n here d at → Stepped s.now words.new n here.node (NoWords s.now words.new here) result }
+    ensures long { length words.new ≡ length words.old }
 {
     let v = here.node;
     let before = here.before;
@@ -124,10 +124,10 @@ fn kind_step(s: &[u8], at: usize, here: Progress, d: usize, words: &mut [u32]) -
 
 // The four lines of the next node.
 pub fn node(s: &[u8], here: Progress, words: &mut [u32]) -> Step
-    requires by_index { (n : ℕ) × (here.node < n) × Reached s.now words.old n here }
+    requires standing { (n : ℕ) × (here.node < n) × Reached s.now words.old n here }
     requires room { Room words.old }
-    ensures by_index_2 { (n : ℕ) → here.node < n → Reached s.now words.old n here → Stepped s.now words.new n here.node (NoWords s.now words.new here) result }
-    ensures words_len_unchanged { length words.new ≡ length words.old }
+    ensures stepped { (n : ℕ) → here.node < n → Reached s.now words.old n here → Stepped s.now words.new n here.node (NoWords s.now words.new here) result }
+    ensures long { length words.new ≡ length words.old }
 {
     let at = here.at;
     let v = here.node;

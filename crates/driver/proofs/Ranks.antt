@@ -14,7 +14,7 @@ use Rattle.document_spec.specs.Binary.{compared_of, tree_of}
 use Rattle.layout.specs.Table.{COLUMNS, RANK, AMOUNT}
 use Rattle.layout.specs.Words.{word}
 use Rattle.ranks.specs.Ranks.{Ranked}
-use Rattle.numerals.specs.Keys.{NO_KEY}
+use Rattle.numerals.specs.Keys.{no_key}
 use Rattle.numerals.proofs.Keys.{below_by_keys, at_most_by_keys}
 use Rattle.amounts.specs.Weighed.{key_at, Weighed}
 use Rattle.amounts.proofs.Kept.{weighed_some}
@@ -53,8 +53,8 @@ not_above a b c d f r = go (dec_lt a b)
 module _ {ns : List Node} {t : List ℕ} (few : length ns ≤ 4096) (weighed : Weighed ns t) where
   -- a relation of ranks that is one of keys
   ranks_keys : (K : ℕ → ℕ → Type 0) (v w : ℕ) → v < length ns → w < length ns
-      → (key_at ns v < NO_KEY → key_at ns w < NO_KEY → K (amount ns t v) (amount ns t w) ↔ K (key_at ns v) (key_at ns w))
-      → ((amount ns t v < length ns) × (amount ns t w < length ns) × K (amount ns t v) (amount ns t w)) ↔ ((key_at ns v < NO_KEY) × (key_at ns w < NO_KEY) × K (key_at ns v) (key_at ns w))
+      → (key_at ns v < no_key → key_at ns w < no_key → K (amount ns t v) (amount ns t w) ↔ K (key_at ns v) (key_at ns w))
+      → ((amount ns t v < length ns) × (amount ns t w < length ns) × K (amount ns t v) (amount ns t w)) ↔ ((key_at ns v < no_key) × (key_at ns w < no_key) × K (key_at ns v) (key_at ns w))
   ranks_keys K v w l k f = (
     λ (h, i, r). let x = weighed_some (omega arith) weighed v l h in let y = weighed_some (omega arith) weighed w k i in (x, y, (f x y).0 r),
     λ (x, y, r). (weighed.small v l x, weighed.small w k y, (f x y).1 r),

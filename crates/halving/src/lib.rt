@@ -1,4 +1,6 @@
 // The snippets of all powers of a comparison: those of each power handed down to the next lower one, and their number.
+#![tactic(auto)]
+
 mod passes;
 
 ghost use Rattle.powers.specs.Blocks.{BlockRoom};

@@ -110,9 +110,9 @@ fn find(s: &[u8], from: usize, to: usize, t: &[u32]) -> Place
 // Forgets all lines.
 pub fn clear(t: &mut [u32])
     requires { heads ≤ length t.old }
-    ensures t_len_unchanged { length t.new ≡ length t.old }
-    ensures t_after { held t.new ≡ 0 }
-    ensures by_index { (s : List ℕ) → Holds s t.new }
+    ensures long { length t.new ≡ length t.old }
+    ensures empty { held t.new ≡ 0 }
+    ensures holds { (s : List ℕ) → Holds s t.new }
 {
     let mut i = 0;
     while i < Trees::HEADS {

@@ -1,4 +1,6 @@
 // How many levels the tree in a comparison's part has: one more than the edges of its longest way down.
+#![tactic(auto)]
+
 ghost use Rattle.std.specs.Prelude.{[], ◌∷◌, ◌⊎◌, ◌≡◌, suc, ◌≤◌, ◌<◌, ◌-◌};
 ghost use Rattle.limits.specs.Limits.{word_values};
 ghost use Rattle.xpath.specs.Tree.{Tree};

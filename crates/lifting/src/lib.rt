@@ -1,4 +1,6 @@
 // Binary lifting along the tree, by the powers of two: the node so many edges above a node, and sets of positions carried along the stretch between the two.
+#![tactic(auto)]
+
 mod hops;
 
 ghost use Rattle.std.specs.Prelude.{◌≡◌, ℕ};

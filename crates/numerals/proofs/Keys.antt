@@ -19,7 +19,7 @@ use Rattle.xpath.specs.Meaning.{ByAmount}
 use Rattle.xpath.proofs.Amounts.{amount_iff}
 use Rattle.xpath.specs.Amounts.{Amount, amount, HasAmount, Below, AtMost}
 use Rattle.xpath.specs.Reading.{amount_of}
-use Rattle.numerals.specs.Keys.{bias, NO_KEY, key_of}
+use Rattle.numerals.specs.Keys.{bias, no_key, key_of}
 use Rattle.numerals.proofs.Scans.{number_below}
 
 -- ── How much a numeral can be ──
@@ -50,7 +50,7 @@ numeral_small bs a e =
     few = reading_below (h.whole ++ h.decimals) ((all_append Digit h.whole h.decimals).1 (h.whole_digits, h.decimal_digits))
 
 -- ── The order of keys ──
-pub small_key : {a : Amount} → Small a → key_of (some a) < NO_KEY
+pub small_key : {a : Amount} → Small a → key_of (some a) < no_key
 small_key s = omega (arith, s.above, s.below)
 
 pub small_less_iff : {a b : Amount} → Small a → Small b → Below a b ↔ (key_of (some a) < key_of (some b))
@@ -61,7 +61,7 @@ small_at_most_iff s t = ((λ h. omega (arith, s.below, t.below)), (λ h. omega (
 
 -- ── The keys of byte strings ──
 module _ (bs : List ℕ) (a : Amount) (e : amount_of bs ≡ some a) where
-  pub key_below : key_of (amount_of bs) < NO_KEY
+  pub key_below : key_of (amount_of bs) < no_key
   key_below = rw e (small_key (numeral_small bs a e))
 
   module _ (cs : List ℕ) (b : Amount) (f : amount_of cs ≡ some b) where
@@ -71,10 +71,10 @@ module _ (bs : List ℕ) (a : Amount) (e : amount_of bs ≡ some a) where
     pub key_at_most_iff : AtMost a b ↔ (key_of (amount_of bs) ≤ key_of (amount_of cs))
     key_at_most_iff = rw (e, f) (small_at_most_iff (numeral_small bs a e) (numeral_small cs b f))
 
-pub key_most : (bs : List ℕ) → key_of (amount_of bs) ≤ NO_KEY
+pub key_most : (bs : List ℕ) → key_of (amount_of bs) ≤ no_key
 key_most bs = go (amount_of bs) refl
   where
-    go : (o : Option Amount) → amount_of bs ≡ o → key_of o ≤ NO_KEY
+    go : (o : Option Amount) → amount_of bs ≡ o → key_of o ≤ no_key
     go none e = omega arith
     go (some a) e = let h = small_key (numeral_small bs a e) in omega arith
 
@@ -82,7 +82,7 @@ key_most bs = go (amount_of bs) refl
 -- a relation of amounts that is one of their keys
 module _ (R : Amount → Amount → Type 0) (K : ℕ → ℕ → Type 0)
     (keyed : (bs : List ℕ) (a : Amount) → amount_of bs ≡ some a → (cs : List ℕ) (b : Amount) → amount_of cs ≡ some b → R a b ↔ K (key_of (amount_of bs)) (key_of (amount_of cs))) where
-  by_keys : (bs cs : List ℕ) → ByAmount R bs cs ↔ ((key_of (amount_of bs) < NO_KEY) × (key_of (amount_of cs) < NO_KEY) × K (key_of (amount_of bs)) (key_of (amount_of cs)))
+  by_keys : (bs cs : List ℕ) → ByAmount R bs cs ↔ ((key_of (amount_of bs) < no_key) × (key_of (amount_of cs) < no_key) × K (key_of (amount_of bs)) (key_of (amount_of cs)))
   by_keys bs cs = (
     λ (a, b, h, i, r).
         let e = (amount_iff bs a).0 h in let f = (amount_iff cs b).0 i in
@@ -90,15 +90,15 @@ module _ (R : Amount → Amount → Type 0) (K : ℕ → ℕ → Type 0)
     λ (x, y, r). let (a, e) = has bs x in let (b, f) = has cs y in (a, b, (amount_iff bs a).1 e, (amount_iff cs b).1 f, (keyed bs a e cs b f).1 r),
   )
     where
-      has : (ds : List ℕ) → key_of (amount_of ds) < NO_KEY → (a : Amount) × (amount_of ds ≡ some a)
+      has : (ds : List ℕ) → key_of (amount_of ds) < no_key → (a : Amount) × (amount_of ds ≡ some a)
       has ds x = go (amount_of ds) x
         where
-          go : (o : Option Amount) → key_of o < NO_KEY → (a : Amount) × (o ≡ some a)
+          go : (o : Option Amount) → key_of o < no_key → (a : Amount) × (o ≡ some a)
           go none x = absurd (omega arith)
           go (some a) x = (a, refl)
 
-pub below_by_keys : (bs cs : List ℕ) → ByAmount Below bs cs ↔ ((key_of (amount_of bs) < NO_KEY) × (key_of (amount_of cs) < NO_KEY) × (key_of (amount_of bs) < key_of (amount_of cs)))
+pub below_by_keys : (bs cs : List ℕ) → ByAmount Below bs cs ↔ ((key_of (amount_of bs) < no_key) × (key_of (amount_of cs) < no_key) × (key_of (amount_of bs) < key_of (amount_of cs)))
 below_by_keys = by_keys Below (λ x y. x < y) key_less_iff
 
-pub at_most_by_keys : (bs cs : List ℕ) → ByAmount AtMost bs cs ↔ ((key_of (amount_of bs) < NO_KEY) × (key_of (amount_of cs) < NO_KEY) × (key_of (amount_of bs) ≤ key_of (amount_of cs)))
+pub at_most_by_keys : (bs cs : List ℕ) → ByAmount AtMost bs cs ↔ ((key_of (amount_of bs) < no_key) × (key_of (amount_of cs) < no_key) × (key_of (amount_of bs) ≤ key_of (amount_of cs)))
 at_most_by_keys = by_keys AtMost (λ x y. x ≤ y) key_at_most_iff

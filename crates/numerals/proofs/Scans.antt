@@ -19,7 +19,7 @@ use Rattle.xpath.specs.Reading.{given, is_digit, decimals_from, whole_from, with
 use Rattle.numerals.specs.declared.Scan.{Scan}
 use Rattle.numerals.specs.declared.Part.{Part}
 use Rattle.numerals.specs.declared.Part.TheVariants.{Whole, Decimals}
-use Rattle.numerals.specs.Keys.{bias, NO_KEY, key_of}
+use Rattle.numerals.specs.Keys.{bias, no_key, key_of}
 use Rattle.numerals.specs.Scans.{resumed, resume, FitsIn, Fits, further}
 
 -- ── Digits ──
@@ -168,7 +168,7 @@ pub padded_all : (n k : ℕ) → k ≡ numeral_decimals → n ≡ n * 10 ^ (nume
 padded_all n k e = rw e (omega arith)
 
 module _ (m : Bool) (k n : ℕ) where
-  pub key_none : k ≡ 0 → NO_KEY ≡ key_of (with_sign m (given (ltb 0 k) (some n)))
+  pub key_none : k ≡ 0 → no_key ≡ key_of (with_sign m (given (ltb 0 k) (some n)))
   key_none e = rw (le-ltb 0 k (omega arith))
 
   pub key_minus : ¬ (k ≡ 0) → m ≡ true → bias - n ≡ key_of (with_sign m (given (ltb 0 k) (some n)))

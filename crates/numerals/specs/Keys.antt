@@ -11,9 +11,9 @@ use Rattle.xpath.specs.Amounts.{Amount}
 abbrev pub bias : ℕ
 bias = 10 ^ (numeral_digits + numeral_decimals)
 
-abbrev pub NO_KEY : ℕ
-NO_KEY = bias + bias
+abbrev pub no_key : ℕ
+no_key = bias + bias
 
 abbrev pub key_of : Option Amount → ℕ
-key_of none = NO_KEY
+key_of none = no_key
 key_of (some a) = bias + a.above - a.below

@@ -7,7 +7,7 @@ ghost use Rattle.std.proofs.Math.Seq.{slice};
 ghost use Rattle.limits.specs.Limits.{numeral_digits, numeral_decimals};
 ghost use Rattle.xpath.specs.Reading.{is_digit, given, with_sign, amount_of};
 ghost use Rattle.numerals.specs.declared.Part.TheVariants.{Whole, Decimals};
-ghost use Rattle.numerals.specs.Keys.{bias, NO_KEY, key_of};
+ghost use Rattle.numerals.specs.Keys.{bias, no_key, key_of};
 ghost use Rattle.numerals.specs.Scans.{resumed, resume, FitsIn, Fits, further};
 
 use limits::Numeral;
@@ -21,7 +21,7 @@ pub const NO_KEY: usize = 2 * BIAS;
 // The constants are those that the definitions name.
 fn keys_agree()
     ensures value { BIAS ≡ bias }
-    ensures no_key_value { NO_KEY ≡ NO_KEY }
+    ensures no_key_value { NO_KEY ≡ no_key }
 {}
 
 // The part of a numeral that its next byte may go on with.

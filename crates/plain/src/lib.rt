@@ -1,4 +1,6 @@
 // The plain evaluation of one comparison at every node, in the part of the scratch that is lent for it.
+#![tactic(auto)]
+
 mod ends;
 mod equal;
 mod ordered;

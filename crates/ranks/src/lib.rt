@@ -1,4 +1,6 @@
 // Ranks of the nodes of an accepted document: numbers that are in the order of the compared values.
+#![tactic(auto)]
+
 mod number;
 mod sort;
 

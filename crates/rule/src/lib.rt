@@ -1,4 +1,6 @@
 // The rule check: any bytes get the verdict of numbers 5 to 9 of document 01.
+#![tactic(auto)]
+
 ghost use Rattle.std.specs.Prelude.{◌≡◌};
 ghost use Rattle.rule.specs.Check.{Judged, judged_by};
 

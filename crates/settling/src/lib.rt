@@ -1,4 +1,6 @@
 // The pairs of positions, one of each path of a comparison, that are settled from each node. They start with those that end at the node or meet a snippet from an end of its edge, and spread from node to node until no round changes any.
+#![tactic(auto)]
+
 mod answers;
 
 ghost use Rattle.std.specs.Prelude.{◌*◌, ◌≤◌, ◌+◌, length};

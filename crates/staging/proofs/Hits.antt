@@ -17,7 +17,7 @@ use Rattle.blanks.specs.Trimmed.{between}
 use Rattle.layout.specs.Part.{HIT}
 use Rattle.layout.specs.Table.{COLUMNS, RANK, AMOUNT}
 use Rattle.layout.specs.Words.{NONE, cell, word, Within}
-use Rattle.numerals.specs.Keys.{NO_KEY}
+use Rattle.numerals.specs.Keys.{no_key}
 use Rattle.numerals.proofs.Keys.{key_most}
 use Rattle.ranks.specs.Ranks.{Ranked}
 use Rattle.amounts.specs.Weighed.{key_at, Weighed}
@@ -67,7 +67,7 @@ module _ {ns : List Node} {n : ℕ} {t t' : List ℕ} (q : Op) (k bs : List ℕ)
   judged : Within n (COLUMNS + HIT) (COLUMNS + HIT + 1) t t' → ((v : ℕ) → v < n → (word t' n (COLUMNS + HIT) v ≡ 1) ↔ Rel q (compared_of ns v) bs) → Judged ns n q k t t'
   judged w f = record { within = w; done = λ v l. subst (λ (c : List ℕ). (word t' n (COLUMNS + HIT) v ≡ 1) ↔ Rel q (compared_of ns v) c) (sym cut) (f v l) }
 
-  pub judged_none : HitsCleared n t t' → ¬ ByText q → key bs ≡ NO_KEY → Judged ns n q k t t'
+  pub judged_none : HitsCleared n t t' → ¬ ByText q → key bs ≡ no_key → Judged ns n q k t t'
   judged_none h f e = judged h.within (λ v l. zero_tells (h.done v l) (λ r. let z = (amounts_both q (compared_of ns v) bs f r).1 in absurd (omega arith)))
 
 module _ {ns : List Node} {n : ℕ} {t t' : List ℕ} {p : Place} {o : Operator} (size : length ns ≡ n) (q : Op) (e : o ≡ operator q) (k rule : List ℕ) (c : Span) (cut : trim k ≡ between rule c) where
@@ -80,15 +80,15 @@ module _ {ns : List Node} {n : ℕ} {t t' : List ℕ} {p : Place} {o : Operator}
           trans (f q e) (stands_text q (compared_of ns v) (between rule c) d y (pl.tells v d l s r))
 
   -- i is the key of the constant
-  pub judged_amount : {i : ℕ} → i ≡ key (between rule c) → ¬ (i ≡ NO_KEY) → ¬ ByText q → length ns ≤ NONE → Weighed ns t → Placed (against ns rule (Amount i)) n (word t n AMOUNT) p → HitsFilled n AMOUNT p o t t'
+  pub judged_amount : {i : ℕ} → i ≡ key (between rule c) → ¬ (i ≡ no_key) → ¬ ByText q → length ns ≤ NONE → Weighed ns t → Placed (against ns rule (Amount i)) n (word t n AMOUNT) p → HitsFilled n AMOUNT p o t t'
       → Judged ns n q k t t'
   judged_amount {i} b y f few g pl h = judged q k (between rule c) cut h.within (λ v l. tells v l (dec_lt (word t n AMOUNT v) n))
     where
-      some : (v : ℕ) → v < n → word t n AMOUNT v < n → key_at ns v < NO_KEY
-      some = subst (λ (m : ℕ). (v : ℕ) → v < m → word t m AMOUNT v < m → key_at ns v < NO_KEY) size (weighed_some few g)
+      some : (v : ℕ) → v < n → word t n AMOUNT v < n → key_at ns v < no_key
+      some = subst (λ (m : ℕ). (v : ℕ) → v < m → word t m AMOUNT v < m → key_at ns v < no_key) size (weighed_some few g)
 
-      small : (v : ℕ) → v < n → key_at ns v < NO_KEY → word t n AMOUNT v < n
-      small = subst (λ (m : ℕ). (v : ℕ) → v < m → key_at ns v < NO_KEY → word t m AMOUNT v < m) size g.small
+      small : (v : ℕ) → v < n → key_at ns v < no_key → word t n AMOUNT v < n
+      small = subst (λ (m : ℕ). (v : ℕ) → v < m → key_at ns v < no_key → word t m AMOUNT v < m) size g.small
 
       tells : (v : ℕ) → v < n → Dec (word t n AMOUNT v < n) → (word t' n (COLUMNS + HIT) v ≡ 1) ↔ Rel q (compared_of ns v) (between rule c)
       tells v l (yes s) =

@@ -18,7 +18,7 @@ use Rattle.string_order.specs.Bytes as Bytes
 use Rattle.string_order.specs.declared.Order.{Order}
 use Rattle.string_order.specs.declared.Order.TheVariants.{Less, Same, Greater}
 use Rattle.string_order.proofs.Bytes.{less_distinct}
-use Rattle.numerals.specs.Keys.{NO_KEY, key_of}
+use Rattle.numerals.specs.Keys.{no_key, key_of}
 use Rattle.numerals.proofs.Keys.{below_by_keys, at_most_by_keys}
 use Rattle.constants.specs.Places.{Compares}
 use Rattle.staging.specs.Signs.{Stands, ByText, ranks_of}
@@ -126,7 +126,7 @@ key bs = key_of (amount_of bs)
 keyed : {A B C D : Type 0} → A → B → D ↔ (A × B × C) → C ↔ D
 keyed a b f = (λ c. f.1 (a, b, c), λ d. (f.0 d).2)
 
-pub stands_amount : (q : Op) (bs cs : List ℕ) (c : Order) → ¬ ByText q → key bs < NO_KEY → key cs < NO_KEY → Compares ◌<◌ (key bs) (key cs) c → Stands q c ↔ Rel q bs cs
+pub stands_amount : (q : Op) (bs cs : List ℕ) (c : Order) → ¬ ByText q → key bs < no_key → key cs < no_key → Compares ◌<◌ (key bs) (key cs) c → Stands q c ↔ Rel q bs cs
 stands_amount eq bs cs c f x y h = absurd (f tt)
 stands_amount ne bs cs c f x y h = absurd (f tt)
 stands_amount lt bs cs c f x y h = trans (less_number (key bs) (key cs) c h) (keyed x y (below_by_keys bs cs))
@@ -135,7 +135,7 @@ stands_amount gt bs cs c f x y h = trans (greater_number (key bs) (key cs) c h) 
 stands_amount ge bs cs c f x y h = trans (trans (¬-iff (less_number (key bs) (key cs) c h)) (not_less (key bs) (key cs))) (keyed y x (at_most_by_keys cs bs))
 
 -- it holds between numerals alone
-pub amounts_both : (q : Op) (bs cs : List ℕ) → ¬ ByText q → Rel q bs cs → (key bs < NO_KEY) × (key cs < NO_KEY)
+pub amounts_both : (q : Op) (bs cs : List ℕ) → ¬ ByText q → Rel q bs cs → (key bs < no_key) × (key cs < no_key)
 amounts_both eq bs cs f r = absurd (f tt)
 amounts_both ne bs cs f r = absurd (f tt)
 amounts_both lt bs cs f r = let z = (below_by_keys bs cs).0 r in (z.0, z.1)

@@ -1,4 +1,6 @@
 // Where each step of a comparison's paths stands in an accepted rule, by its number.
+#![tactic(auto)]
+
 ghost use Rattle.std.specs.Prelude.{◌≤◌, length};
 ghost use Rattle.limits.specs.Limits.{positions};
 ghost use Rattle.path_sets.specs.Paths.{Room, OnePath, TwoPaths};

@@ -1,4 +1,6 @@
 // The tests of an accepted rule, numbered by their first bytes.
+#![tactic(auto)]
+
 ghost use Rattle.std.specs.Prelude.{◌≡◌, ℕ, suc, ◌+◌, ◌≤◌, ◌<◌, length};
 ghost use Rattle.limits.specs.Limits.{positions, rule_tests, rule_bytes};
 ghost use Rattle.xpath.specs.Syntax.{Test, and, or};

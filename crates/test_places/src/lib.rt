@@ -1,4 +1,6 @@
 // Where each test of an accepted rule stands, by its number.
+#![tactic(auto)]
+
 ghost use Rattle.std.specs.Prelude.{◌≤◌, length};
 ghost use Rattle.limits.specs.Limits.{rule_tests};
 ghost use Rattle.xpath.specs.Syntax.{Test};
@@ -12,7 +14,7 @@ use rule_parts::{counted, parted, skip_path, skip_test};
 use tokens::stands;
 
 // The offsets of the test at an offset and of the tests inside it, numbered from k; the next number is handed back.
-#[cycle(list_inside_list_path_list_test)]
+#[cycle(listing)]
 fn list_test(s: &[u8], at: usize, k: usize, offsets: &mut [usize]) -> usize
     requires { Room (TestAt s.now) tests_of at k × (rule_tests ≤ length offsets.old) }
     ensures { Lists (TestAt s.now) tests_of at k s.now offsets.old offsets.new result }
@@ -22,7 +24,7 @@ fn list_test(s: &[u8], at: usize, k: usize, offsets: &mut [usize]) -> usize
 }
 
 // The same for the tests inside the test at an offset. The first part is read twice, to find the second: a rule is short.
-#[cycle(list_inside_list_path_list_test)]
+#[cycle(listing)]
 fn list_inside(s: &[u8], at: usize, k: usize, offsets: &mut [usize]) -> usize
     requires { Room (TestAt s.now) inside at k × (rule_tests ≤ length offsets.old) }
     ensures { Lists (TestAt s.now) inside at k s.now offsets.old offsets.new result }
@@ -53,7 +55,7 @@ fn list_inside(s: &[u8], at: usize, k: usize, offsets: &mut [usize]) -> usize
 }
 
 // The same for the tests in the path at an offset.
-#[cycle(list_inside_list_path_list_test)]
+#[cycle(listing)]
 fn list_path(s: &[u8], at: usize, k: usize, offsets: &mut [usize]) -> usize
     requires { Room (PathAt s.now) path_tests at k × (rule_tests ≤ length offsets.old) }
     ensures { Lists (PathAt s.now) path_tests at k s.now offsets.old offsets.new result }

@@ -1,4 +1,6 @@
 // The two checks, each answered by the numbers of documents 01 and 02, and the judgements on all inputs of an evaluation.
+#![tactic(auto)]
+
 ghost use Rattle.std.specs.Prelude.{◌≤◌, ◌<◌, ◌≡◌};
 ghost use Rattle.limits.specs.Limits.{document_nodes};
 ghost use Rattle.xpath.specs.Syntax.{Test};

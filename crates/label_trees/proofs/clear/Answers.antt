@@ -32,4 +32,4 @@ pub returns : goal.returns
 returns c =
     let l = c.loop-i in
     let z : (j : ℕ) → j < heads → get_or l.t j 0 ≡ 0 = λ j h. l.invariant.1.done j (omega arith) in
-    record { t_len_unchanged = l.invariant.1.long; t_after = z 0 (omega arith); by_index = λ s. holds_none s l.t (omega arith) z }
+    record { long = l.invariant.1.long; empty = z 0 (omega arith); holds = λ s. holds_none s l.t (omega arith) z }

@@ -1,0 +1,13 @@
+-- `amounts::number::number` meets its contract.
+use Prim.Native.Nat.{◌-◌}
+use native.Mathlib.Omega.{arith}
+use native.Mathlib.Numerals.{add-one}
+use Rattle.layout.proofs.Frames.{room_within}
+use Rattle.amounts.proofs.Numbering.{Numbering, numbering_none, numbering_within, numbering_small, numbering_last, numbering_below, numbering_step, numbering_all}
+use Rattle.amounts.proofs.number.number.Given as goal
+
+abbrev pub invariant-loop-i : goal.invariant-loop-i
+invariant-loop-i l = Numbering l.n l.i l.u l.r l.initial.t l.t
+
+abbrev pub decreases-loop-i : goal.decreases-loop-i
+decreases-loop-i l = l.n - l.i

@@ -1,0 +1,12 @@
+-- `compiler::rows::rows_of` meets its contract.
+use mathlib.Core.Path.{refl}
+use Prim.Native.Nat.{◌≤◌, ◌-◌}
+use native.Mathlib.Omega.{arith}
+use Rattle.compiler.proofs.Gathering.{Rows, rows_none, rows_more}
+use Rattle.compiler.proofs.rows.rows_of.Given as goal
+
+abbrev pub invariant-loop-i : goal.invariant-loop-i
+invariant-loop-i l = (l.i ≤ 16) × Rows l.f l.i l.rows
+
+abbrev pub decreases-loop-i : goal.decreases-loop-i
+decreases-loop-i l = 16 - l.i

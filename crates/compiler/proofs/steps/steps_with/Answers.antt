@@ -1,0 +1,46 @@
+-- `compiler::steps::steps_with` meets its contract.
+use mathlib.Core.Logic.{⊎_elim}
+use Prim.Native.Nat.{◌≤◌, ◌-◌, ◌+◌}
+use native.Mathlib.Omega.{arith}
+use Rattle.compiler.specs.Gathered.{Gathered, Begins}
+use Rattle.compiler.proofs.Gathering.{gathered_none, gathered_in, gathered_out, gathered_all}
+use Rattle.compiler.proofs.steps.steps_with.Goals as goal
+use Rattle.compiler.proofs.steps.steps_with.Goals.{then-s-places, else-s-places}
+
+pub loop-i-init : goal.loop-i-init
+loop-i-init c = (omega arith, omega arith, gathered_none _ _ (λ j l b. let p = b.0 in absurd (let z : ⊥ = omega arith in z)))
+
+pub offset_bounds-places-i : goal.offset_bounds-places-i
+offset_bounds-places-i c = let n = c.requires.few in omega arith
+
+pub bounds-places-i : goal.bounds-places-i
+bounds-places-i c = let n = c.requires.few in omega arith
+
+pub bounds-s-places : goal.bounds-s-places
+bounds-s-places c = let i = c.loop-i.invariant in c.requires.within _ i.0 (omega arith)
+
+pub overflow_cast-i : goal.overflow_cast-i
+overflow_cast-i c = let n = c.requires.few in omega arith
+
+pub insert-w-requires : goal.insert-w-requires
+insert-w-requires c = let n = c.requires.few in omega arith
+
+pub overflow_add-i : goal.overflow_add-i
+overflow_add-i c = let n = c.requires.few in omega arith
+
+pub loop-i-smaller : goal.loop-i-smaller
+loop-i-smaller c = omega arith
+
+pub loop-i-preserved : goal.loop-i-preserved
+loop-i-preserved c =
+    let (p, l, g) = c.loop-i.invariant in (
+      omega arith,
+      omega arith,
+      elim c.if-s-places.branch [
+        | then-s-places z ↦ gathered_in _ _ g _ z.insert-w.ensures z.w-is (p, z.if-s-places.true)
+        | else-s-places z ↦ gathered_out _ _ g z.w-is (λ b. z.if-s-places.false b.1)
+      ],
+    )
+
+pub returns : goal.returns
+returns c = gathered_all (omega arith) c.loop-i.invariant.2

@@ -1,0 +1,13 @@
+-- `compiler::steps::up_to` meets its contract.
+use mathlib.Core.Path.{refl}
+use Prim.Native.Nat.{◌≤◌, ◌-◌, ◌+◌}
+use native.Mathlib.Omega.{arith}
+use Rattle.compiler.specs.Gathered.{Gathered}
+use Rattle.compiler.proofs.Gathering.{gathered_none, gathered_in}
+use Rattle.compiler.proofs.steps.up_to.Given as goal
+
+abbrev pub invariant-loop-j : goal.invariant-loop-j
+invariant-loop-j l = (l.j ≤ l.n + 1) × Gathered (λ k. k ≤ l.n) l.j l.w
+
+abbrev pub decreases-loop-j : goal.decreases-loop-j
+decreases-loop-j l = l.n + 1 - l.j

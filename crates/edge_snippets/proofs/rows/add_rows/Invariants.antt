@@ -1,0 +1,14 @@
+-- `edge_snippets::rows::add_rows` meets its contract.
+use Prim.Native.Nat.{◌≤◌, ◌-◌}
+use native.Mathlib.Omega.{arith}
+use Rattle.matrices.specs.Matrices.{Drawing}
+use Rattle.matrices.proofs.Drawing.{drawing_none, drawing_to}
+use Rattle.edge_snippets.specs.Edges.{Crossed}
+use Rattle.edge_snippets.proofs.Crossing.{crossed_step}
+use Rattle.edge_snippets.proofs.rows.add_rows.Given as goal
+
+abbrev pub invariant-loop-i : goal.invariant-loop-i
+invariant-loop-i l = (l.i ≤ 16) × Drawing (Crossed l.initial.p l.at l.rows l.set l.first) l.at l.i l.initial.p l.p
+
+abbrev pub decreases-loop-i : goal.decreases-loop-i
+decreases-loop-i l = 16 - l.i

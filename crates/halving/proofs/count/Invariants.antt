@@ -1,0 +1,16 @@
+-- `halving::count` meets its contract.
+use Prim.Native.Nat.{◌+◌, ◌*◌, ◌-◌, ◌≤◌}
+use mathlib.Core.Path.{◌≡◌, refl, sym, ap, ap₂, ◌∙◌, subst}
+use native.Mathlib.Omega.{arith}
+use Rattle.matrices.proofs.Pairs.{pairs_le}
+use Rattle.layout.specs.Blocks.{BLOCKS}
+use Rattle.halving.specs.Halving.{Counts}
+use Rattle.halving.proofs.Counting.{total, total_more, total_le, total_counts}
+use Rattle.halving.proofs.count.Given as goal
+
+-- ── The loop's invariant ──
+abbrev pub invariant-loop-i : goal.invariant-loop-i
+invariant-loop-i l = (l.i ≤ l.blocks) × (l.r ≡ total l.p l.n l.i)
+
+abbrev pub decreases-loop-i : goal.decreases-loop-i
+decreases-loop-i l = l.blocks - l.i

@@ -1,0 +1,31 @@
+-- `halving::passes::pass` meets its contract.
+use Prim.Native.Nat.{◌≤◌, ◌-◌}
+use native.Mathlib.Omega.{arith}
+use mathlib.Core.Path.{◌≡◌, subst}
+use Rattle.halving.specs.Passes.{Grown, Handed}
+use Rattle.halving.proofs.Growing.{handed_none, handed_step}
+use Rattle.halving.proofs.passes.pass.Goals as goal
+
+pub loop-y-init : goal.loop-y-init
+loop-y-init c = (omega arith, handed_none _ _ _)
+
+pub hand_down-requires : goal.hand_down-requires
+hand_down-requires c = (omega arith, omega (arith, c.loop-y.invariant.1.same.long))
+
+pub overflow_add-y : goal.overflow_add-y
+overflow_add-y c = omega arith
+
+pub loop-y-smaller : goal.loop-y-smaller
+loop-y-smaller c = omega arith
+
+pub loop-y-preserved : goal.loop-y-preserved
+loop-y-preserved c = (omega arith, handed_step _ _ _ c.loop-y.invariant.1 c.hand_down.ensures)
+
+pub shape_of-p : goal.shape_of-p
+shape_of-p c = c.loop-y.invariant.1.same.long
+
+pub returns : goal.returns
+returns c =
+    let x = c.args in
+    let e : c.loop-y.y ≡ x.n = omega arith in
+    subst (λ m. Grown x.n x.k (Handed x.n x.k x.p.now m) x.p.now c.loop-y.p) e c.loop-y.invariant.1

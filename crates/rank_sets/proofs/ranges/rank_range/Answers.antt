@@ -1,0 +1,32 @@
+-- `rank_sets::ranges::rank_range` meets its contract.
+use Prim.Native.Nat.{◌-◌, ◌≤◌}
+use mathlib.Core.Path.{◌≡◌, subst}
+use native.Mathlib.Numerals.{add-one}
+use native.Mathlib.Omega.{arith}
+use Rattle.layout.specs.Table.{RANK}
+use Rattle.layout.specs.Words.{word}
+use Rattle.rank_sets.specs.Ends.{Ended}
+use Rattle.rank_sets.specs.Ranges.{WithRank, Ranged}
+use Rattle.rank_sets.proofs.Ranged.{ranged_none}
+use Rattle.rank_sets.proofs.ranges.rank_range.Goals as goal
+
+pub loop-w-init : goal.loop-w-init
+loop-w-init c = (omega arith, ranged_none _ _)
+
+pub widened-a-requires : goal.widened-a-requires
+widened-a-requires c = (c.loop-w-test.true, c.requires, c.loop-w.invariant.1)
+
+pub overflow_add-w : goal.overflow_add-w
+overflow_add-w c = omega arith
+
+pub loop-w-smaller : goal.loop-w-smaller
+loop-w-smaller c = omega arith
+
+pub loop-w-preserved : goal.loop-w-preserved
+loop-w-preserved c = let l = c.loop-w-test.true in (omega arith, rw add-one c.widened-a.ensures)
+
+pub returns : goal.returns
+returns c =
+    let x = c.args in let l = c.loop-w.invariant.0 in let r = c.loop-w-test.false in
+    let whole : c.loop-w.w ≡ x.n = omega arith in
+    subst (λ k. Ranged k (WithRank x.n (word x.p.now x.n RANK) (Ended x.n x.last x.p.now)) (word x.p.now x.n RANK) c.loop-w.a) whole c.loop-w.invariant.1

@@ -1,0 +1,11 @@
+-- `retracing::notes::note_entries` meets its contract.
+use Prim.Native.Nat.{◌-◌}
+use native.Mathlib.Omega.{arith}
+use Rattle.retracing.proofs.Noting.{Noting, noting_none, noting_step, noting_all}
+use Rattle.retracing.proofs.notes.note_entries.Given as goal
+
+abbrev pub invariant-loop-h : goal.invariant-loop-h
+invariant-loop-h l = Noting l.n l.c l.x l.second l.from l.h l.len l.initial.p l.p
+
+abbrev pub decreases-loop-h : goal.decreases-loop-h
+decreases-loop-h l = l.len - l.h

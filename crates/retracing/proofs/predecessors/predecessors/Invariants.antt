@@ -1,0 +1,11 @@
+-- `retracing::predecessors::predecessors` meets its contract.
+use Prim.Native.Nat.{◌-◌}
+use Rattle.retracing.proofs.Preceding.{Preceding, preceding_none, preceding_step, preceding_all}
+use borrow.Author.Rules.{rules}
+use Rattle.retracing.proofs.predecessors.predecessors.Given as goal
+
+abbrev pub invariant-loop-i : goal.invariant-loop-i
+invariant-loop-i l = Preceding l.rows l.w l.i l.r
+
+abbrev pub decreases-loop-i : goal.decreases-loop-i
+decreases-loop-i l = 16 - l.i

@@ -1,0 +1,13 @@
+-- `retracing::retrace::downward` meets its contract.
+use native.Mathlib.Omega.{arith}
+use Rattle.reach.proofs.Spreading.{either}
+use borrow.Author.Rules.{rules}
+use Rattle.retracing.proofs.retrace.downward.Goals as goal
+
+pub returns-then-n-v : goal.returns-then-n-v
+returns-then-n-v c h = absurd (omega arith)
+
+pub returns : goal.returns
+returns c h =
+    let l = c.if_linked-left in let r = c.if_linked-right in
+    either l.result r.result c.union.result l.ensures r.ensures c.union.ensures

@@ -1,0 +1,12 @@
+-- `settling::answers::answer` meets its contract.
+use Prim.Native.Nat.{◌≤◌, ◌-◌}
+use native.Mathlib.Omega.{arith}
+use Rattle.settling.specs.Settled.{Answering}
+use Rattle.settling.proofs.Answering.{answering_none, answering_ready, answering_step, answering_to}
+use Rattle.settling.proofs.answers.answer.Given as goal
+
+abbrev pub invariant-loop-v : goal.invariant-loop-v
+invariant-loop-v l = (l.v ≤ l.n) × Answering l.second l.n l.v l.initial.p l.p
+
+abbrev pub decreases-loop-v : goal.decreases-loop-v
+decreases-loop-v l = l.n - l.v

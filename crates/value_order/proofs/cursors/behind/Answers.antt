@@ -1,0 +1,7 @@
+-- `value_order::cursors::behind` meets its contract.
+use Rattle.value_order.proofs.Moving.{moved}
+use borrow.Author.Rules.{rules}
+use Rattle.value_order.proofs.cursors.behind.Goals as goal
+
+pub returns : goal.returns
+returns c = λ s ns bs h. moved h c.args.k c.requires

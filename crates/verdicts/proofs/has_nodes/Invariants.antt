@@ -1,0 +1,14 @@
+-- `verdicts::has_nodes` meets its contract.
+use Prim.Native.Nat.{◌-◌, ◌≤◌}
+use lib.ListN.{length}
+use native.Mathlib.Omega.{arith}
+use borrow.Author.Rules.{rules}
+use Rattle.lists.proofs.Indices.{occurs_at}
+use Rattle.verdicts.proofs.Nodes.{Behind, behind_more, behind_all}
+use Rattle.verdicts.proofs.has_nodes.Given as goal
+
+abbrev pub invariant-loop-i : goal.invariant-loop-i
+invariant-loop-i l = (l.i ≤ length l.values) × Behind l.nodes l.values l.i
+
+abbrev pub decreases-loop-i : goal.decreases-loop-i
+decreases-loop-i l = length l.values - l.i
