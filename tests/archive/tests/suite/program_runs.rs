@@ -12,10 +12,10 @@ use evaluator::samples::selections::{CASES_ON_X, SESSION};
 use evaluator::samples::{counts, document, documents, flat, selections, X};
 
 fn binary() -> PathBuf {
-    let path = Path::new(env!("CARGO_MANIFEST_DIR")).join("../../target/bin/select");
+    let path = Path::new(env!("CARGO_MANIFEST_DIR")).join("../../crates/select/out/select");
     assert!(
         path.is_file(),
-        "target/bin/select is missing: run `rt check select` in the repository's root first"
+        "crates/select/out/select is missing: run `rt run` in crates/select first"
     );
     path
 }
