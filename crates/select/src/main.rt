@@ -1,10 +1,12 @@
 // The program: a rule, LF and a library document come in on standard input; what the evaluation hands back and the marked nodes go out.
 #![tactic(auto)]
 
-ghost use Rattle.std.specs.Prelude.{◌≤◌, ◌≡◌, length, take, IfOk};
+ghost use Rattle.std.specs.Prelude.{◌≤◌, ◌≡◌, length, take, IfOk, OnOk, IfSome};
+ghost use Rattle.std.specs.Io.KnownBytes.{Appends};
 ghost use Rattle.evaluation_spec.specs.Evaluation.{SnippetEvaluation};
 ghost use Rattle.evaluation.specs.Outcomes.{outcome_of};
 ghost use Rattle.select.specs.Session.{rest, Answered, Session};
+ghost use Rattle.select.specs.Printed.{record_lines, node_lines, Prints};
 
 use evaluation::Evaluation;
 use limits::Program;
@@ -61,7 +63,8 @@ fn session(input: &[u8]) -> Answer
 
 // Reads until the buffer is full or the input ends, and tells how many bytes came.
 fn read_full<R: Read>(reader: &mut R, buffer: &mut [u8]) -> io::Result<usize>
-    ensures { IfOk result (λ n. n ≤ length buffer.new) }
+    ensures bound { IfOk result (λ n. n ≤ length buffer.new) }
+    ensures bytes { IfOk result (λ n. IfSome (R.remaining reader.old) (λ input. take n buffer.new ≡ take (length buffer.new) input)) }
 {
     let mut filled = 0;
     while filled < buffer.len() {
@@ -75,15 +78,19 @@ fn read_full<R: Read>(reader: &mut R, buffer: &mut [u8]) -> io::Result<usize>
 }
 
 // Writes the four lines that are always there.
-fn write_record<W: Write>(out: &mut W, record: Evaluation) -> io::Result<()> {
-    writeln!(out, "number={}", record.number)?;
-    writeln!(out, "place={}", record.place)?;
-    writeln!(out, "selected={}", record.selected)?;
-    writeln!(out, "snippets={}", record.snippets)
+fn write_record<W: Write>(out: &mut W, outcome: Evaluation) -> io::Result<()>
+    ensures { OnOk result (Appends (W.contents out.old) (W.contents out.new) (record_lines (outcome_of outcome))) }
+{
+    writeln!(out, "number={}", outcome.number)?;
+    writeln!(out, "place={}", outcome.place)?;
+    writeln!(out, "selected={}", outcome.selected)?;
+    writeln!(out, "snippets={}", outcome.snippets)
 }
 
 // Writes the lines of the marked nodes, rising.
-fn write_nodes<W: Write>(out: &mut W, marks: &[u8]) -> io::Result<()> {
+fn write_nodes<W: Write>(out: &mut W, marks: &[u8]) -> io::Result<()>
+    ensures { OnOk result (Appends (W.contents out.old) (W.contents out.new) (node_lines 0 marks.now)) }
+{
     let mut node = streams::next_marked(marks, 0);
     while node < marks.len() {
         writeln!(out, "node={node}")?;
@@ -93,7 +100,9 @@ fn write_nodes<W: Write>(out: &mut W, marks: &[u8]) -> io::Result<()> {
 }
 
 // Reads one byte more than an input may have, so that a longer one shows, and writes what the session answers.
-fn run<R: Read, W: Write>(reader: &mut R, out: &mut W) -> io::Result<()> {
+fn run<R: Read, W: Write>(reader: &mut R, out: &mut W) -> io::Result<()>
+    ensures { OnOk result (IfSome (R.remaining reader.old) (λ input. Prints input (W.contents out.old) (W.contents out.new))) }
+{
     let mut input = [0u8; Program::MAX_INPUT + 1];
     let length = read_full(reader, &mut input)?;
     let answer = session(&input[..length]);
