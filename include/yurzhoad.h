@@ -11,8 +11,8 @@
  *
  * BUILD AND LINK
  *
- *     rt staticlib exports
- *     cc -std=c99 -I include program.c target/staticlib/libexports.a
+ *     (cd crates/exports && rt lib)
+ *     cc -std=c99 -I include program.c crates/exports/out/libexports.a
  *
  * A C++ program is built in the same way. No other library is needed.
  *

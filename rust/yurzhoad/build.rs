@@ -15,7 +15,7 @@ fn main() {
     println!("cargo:rerun-if-changed={}", archive.display());
     assert!(
         archive.is_file(),
-        "{} is missing: run `rt staticlib exports` in the repository's root first, \
+        "{} is missing: run `rt lib` in crates/exports first, \
          or name the folder of libexports.a in {FOLDER}",
         archive.display()
     );
@@ -31,5 +31,5 @@ fn folder() -> PathBuf {
         return PathBuf::from(named);
     }
     let package = env::var("CARGO_MANIFEST_DIR").expect("cargo sets the package's folder");
-    Path::new(&package).join("../../target/staticlib")
+    Path::new(&package).join("../../crates/exports/out")
 }

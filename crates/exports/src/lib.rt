@@ -1,4 +1,6 @@
 // What C and Rust call: numbers pass as themselves, and a slice as a pointer and a length.
+#![tactic(auto)]
+
 ghost use Rattle.evaluation.specs.Outcomes.{outcome_of};
 ghost use Rattle.rule_spec.specs.Verdict as Grammar;
 ghost use Rattle.document_spec.specs.Verdict.{Checked};

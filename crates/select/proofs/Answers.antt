@@ -1,6 +1,6 @@
 -- A session: what it answers is one, and the nodes that it prints are the selected ones.
 use Prim.Native.Nat.{ℕ, ◌+◌, ◌-◌, ◌≤◌, ◌<◌}
-use mathlib.Core.Path.{◌≡◌, refl, sym, ap, ◌∙◌, subst}
+use mathlib.Core.Path.{◌≡◌, sym, ap, ◌∙◌, subst}
 use mathlib.Core.Logic.{◌⊎◌, inl, inr, ◌↔◌}
 use mathlib.Core.Bool.{Bool, true, false, false≢true}
 use mathlib.Core.List.{List}
@@ -19,22 +19,15 @@ use Rattle.streams.proofs.Splitting.{parts_some, parts_one}
 use Rattle.evaluation_spec.specs.Buffers.{Ground, Accepted}
 use Rattle.evaluation_spec.specs.Evaluation.{Outcome, Selects, Selected, SnippetEvaluation}
 use Rattle.evaluation_spec.proofs.Agreement.{snippet_evaluation_one}
-use Rattle.evaluation.specs.Outcomes.{refused_by}
 use Rattle.select.specs.Session.{rest, Answered, Session}
 
--- ── The two ways of `evaluate_input` ──
+-- ── An input that is not too long ──
 pub not_longer : {b : Bool} {m n : ℕ} → (b ≡ true) ↔ (m < n) → b ≡ false → n ≤ m
 not_longer {b} {m} {n} f e = go (dec_lt m n)
   where
     go : Dec (m < n) → n ≤ m
     go (yes l) = absurd (false≢true (sym e ∙ f.1 l))
     go (no g) = omega arith
-
-pub answered_longer : (input scratch marks : List ℕ) → program_input < length input → Answered input scratch marks (refused_by 1 0) scratch marks
-answered_longer input scratch marks l = record {
-  longer = λ _. record { outcome = refl; same_scratch = refl; same_marks = refl };
-  evaluated = λ k rule document p. absurd (omega arith);
-}
 
 pub answered_parts : {input : List ℕ} {e b : ℕ} → SplitAt input e b → length input ≤ program_input
     → (scratch marks : List ℕ) (o : Outcome) (scratch' marks' : List ℕ)

@@ -1,12 +1,17 @@
 // The program: a rule, LF and a library document come in on standard input; what the evaluation hands back and the marked nodes go out.
-ghost use Rattle.std.specs.Prelude.{◌≤◌, ◌≡◌, length, take};
+#![tactic(auto)]
+
+ghost use Rattle.std.specs.Prelude.{◌≤◌, ◌≡◌, length, take, IfOk, OnOk, IfSome};
+ghost use Rattle.std.specs.Io.KnownBytes.{Appends};
 ghost use Rattle.evaluation_spec.specs.Evaluation.{SnippetEvaluation};
 ghost use Rattle.evaluation.specs.Outcomes.{outcome_of};
 ghost use Rattle.select.specs.Session.{rest, Answered, Session};
+ghost use Rattle.select.specs.Printed.{record_lines, node_lines, Prints};
 
 use evaluation::Evaluation;
-use libc::{STDIN_FILENO, STDOUT_FILENO};
 use limits::Program;
+use std::io;
+use std::io::{Read, Write};
 
 // What a session answers: what the evaluation hands back, and the marks.
 #[derive(Clone, Copy)]
@@ -56,49 +61,56 @@ fn session(input: &[u8]) -> Answer
     Answer { record, marks }
 }
 
-// Writes a key and a number, which make one line. Tells whether all of it was written.
-fn print_line(key: &[u8], number: usize) -> bool {
-    if !io::write_all(STDOUT_FILENO, key) {
-        return false;
+// Reads until the buffer is full or the input ends, and tells how many bytes came.
+fn read_full<R: Read>(reader: &mut R, buffer: &mut [u8]) -> io::Result<usize>
+    ensures bound { IfOk result (λ n. n ≤ length buffer.new) }
+    ensures bytes { IfOk result (λ n. IfSome (R.remaining reader.old) (λ input. take n buffer.new ≡ take (length buffer.new) input)) }
+{
+    let mut filled = 0;
+    while filled < buffer.len() {
+        let count = reader.read(&mut buffer[filled..])?;
+        if count == 0 {
+            break;
+        }
+        filled += count;
     }
-    if !io::print_decimal(STDOUT_FILENO, number as u64) {
-        return false;
-    }
-    io::write_all(STDOUT_FILENO, b"\n")
+    Ok(filled)
 }
 
-// The four lines that are always there.
-fn print_record(record: Evaluation) -> bool {
-    if !print_line(b"number=", record.number as usize) {
-        return false;
-    }
-    if !print_line(b"place=", record.place) {
-        return false;
-    }
-    if !print_line(b"selected=", record.selected) {
-        return false;
-    }
-    print_line(b"snippets=", record.snippets)
+// Writes the four lines that are always there.
+fn write_record<W: Write>(out: &mut W, outcome: Evaluation) -> io::Result<()>
+    ensures { OnOk result (Appends (W.contents out.old) (W.contents out.new) (record_lines (outcome_of outcome))) }
+{
+    writeln!(out, "number={}", outcome.number)?;
+    writeln!(out, "place={}", outcome.place)?;
+    writeln!(out, "selected={}", outcome.selected)?;
+    writeln!(out, "snippets={}", outcome.snippets)
 }
 
-// The lines of the marked nodes, rising, as far as they can be written.
-fn print_nodes(marks: &[u8]) {
+// Writes the lines of the marked nodes, rising.
+fn write_nodes<W: Write>(out: &mut W, marks: &[u8]) -> io::Result<()>
+    ensures { OnOk result (Appends (W.contents out.old) (W.contents out.new) (node_lines 0 marks.now)) }
+{
     let mut node = streams::next_marked(marks, 0);
     while node < marks.len() {
-        if !print_line(b"node=", node) {
-            return;
-        }
+        writeln!(out, "node={node}")?;
         node = streams::next_marked(marks, node + 1);
     }
+    Ok(())
 }
 
-// Reads one byte more than an input may have, so that a longer one shows. A read that fails ends the input: what is cut short has too few lines, and is refused.
-fn main() {
+// Reads one byte more than an input may have, so that a longer one shows, and writes what the session answers.
+fn run<R: Read, W: Write>(reader: &mut R, out: &mut W) -> io::Result<()>
+    ensures { OnOk result (IfSome (R.remaining reader.old) (λ input. Prints input (W.contents out.old) (W.contents out.new))) }
+{
     let mut input = [0u8; Program::MAX_INPUT + 1];
-    let length = io::read_full(STDIN_FILENO, &mut input);
+    let length = read_full(reader, &mut input)?;
     let answer = session(&input[..length]);
-    let marks = answer.marks;
-    if print_record(answer.record) {
-        print_nodes(&marks);
-    }
+    write_record(out, answer.record)?;
+    write_nodes(out, &answer.marks)
+}
+
+// A read or a write that fails ends the program with its error.
+fn main(rt: HostRuntime) -> io::Result<()> {
+    run(&mut rt.stdin(), &mut rt.stdout())
 }

@@ -13,14 +13,6 @@ not_lower {r = r} h g l = let (f, m) = h.marked (omega arith) in g.first r f l m
 pub next_one : {marks : List ℕ} {from r q : ℕ} → NextMarked marks from r → NextMarked marks from q → r ≡ q
 next_one h g = omega (arith, not_lower h g, not_lower g h)
 
--- the next one behind a node is nearer to the end
-pub next_nearer : {marks : List ℕ} {n r : ℕ} → NextMarked marks (n + 1) r → n < length marks → length marks - r < length marks - n
-next_nearer {marks} {n} {r} h l = go (dec_lt r (length marks))
-  where
-    go : Dec (r < length marks) → length marks - r < length marks - n
-    go (yes k) = let b = (h.marked k).0 in omega arith
-    go (no f) = omega arith
-
 -- ── The loop: from `from` on no node below n is marked ──
 pub record Passed (marks : List ℕ) (from n : ℕ) : Type 0 where
   pub behind : from ≤ n

@@ -22,10 +22,10 @@
 //!
 //! # Building
 //!
-//! The proved functions come in an archive, `target/staticlib/libexports.a`.
-//! `rt staticlib exports` in the repository's root writes it, and so does
-//! `.ci/run`. If the archive is elsewhere, name its folder in the environment
-//! variable `YURZHOAD_ARCHIVE_DIR`.
+//! The proved functions come in an archive, `crates/exports/out/libexports.a`.
+//! `rt lib` in crates/exports writes it, and so does `.ci/run`. If the archive
+//! is elsewhere, name its folder in the environment variable
+//! `YURZHOAD_ARCHIVE_DIR`.
 //!
 //! # Selecting
 //!

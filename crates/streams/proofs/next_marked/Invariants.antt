@@ -1,8 +1,7 @@
 -- `streams::next_marked` meets its contract.
 use Prim.Native.Nat.{◌-◌}
 use lib.ListN.{length}
-use native.Mathlib.Omega.{arith}
-use Rattle.streams.proofs.Marks.{Passed, passed_none, passed_more, next_found, next_none}
+use Rattle.streams.proofs.Marks.{Passed}
 use Rattle.streams.proofs.next_marked.Given as goal
 
 abbrev pub invariant-loop-node : goal.invariant-loop-node

@@ -1,8 +1,7 @@
 -- `streams::split` meets its contract.
 use Prim.Native.Nat.{◌-◌}
 use lib.ListN.{length}
-use native.Mathlib.Omega.{arith}
-use Rattle.streams.proofs.Splitting.{Searched, searched_none, searched_more, split_found, split_none}
+use Rattle.streams.proofs.Splitting.{Searched}
 use Rattle.streams.proofs.split.Given as goal
 
 abbrev pub invariant-loop-i : goal.invariant-loop-i

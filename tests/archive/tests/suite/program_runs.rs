@@ -1,8 +1,9 @@
 //! The proved program beside the evaluator's: the same bytes in, the same out.
 
+use std::fs::File;
 use std::io::Write;
 use std::path::{Path, PathBuf};
-use std::process::{Command, Stdio};
+use std::process::{Child, Command, Stdio};
 use std::thread;
 
 use evaluator::document::{spell, DocumentRecord};
@@ -12,10 +13,10 @@ use evaluator::samples::selections::{CASES_ON_X, SESSION};
 use evaluator::samples::{counts, document, documents, flat, selections, X};
 
 fn binary() -> PathBuf {
-    let path = Path::new(env!("CARGO_MANIFEST_DIR")).join("../../target/bin/select");
+    let path = Path::new(env!("CARGO_MANIFEST_DIR")).join("../../crates/select/out/select");
     assert!(
         path.is_file(),
-        "target/bin/select is missing: run `rt check select` in the repository's root first"
+        "crates/select/out/select is missing: run `rt run` in crates/select first"
     );
     path
 }
@@ -160,6 +161,29 @@ fn input_above_the_limit_is_1() {
     }
     // A limit that is reached in pieces.
     assert_eq!(printed(&rows(fill + 1), 1_000), one);
+}
+
+#[test]
+fn a_read_or_a_write_that_fails_ends_it_with_an_error() {
+    // A folder cannot be read.
+    let folder = File::open(env!("CARGO_MANIFEST_DIR")).expect("a folder");
+    let output = Command::new(binary())
+        .stdin(folder)
+        .output()
+        .expect("the program ends");
+    assert_eq!(output.status.code(), Some(1));
+    assert!(output.stdout.is_empty() && !output.stderr.is_empty());
+    // Nothing fits on a full device.
+    let full = File::create("/dev/full").expect("the device");
+    let output = Command::new(binary())
+        .stdin(Stdio::null())
+        .stdout(full)
+        .stderr(Stdio::piped())
+        .spawn()
+        .and_then(Child::wait_with_output)
+        .expect("the program ends");
+    assert_eq!(output.status.code(), Some(1));
+    assert!(!output.stderr.is_empty());
 }
 
 #[test]
