@@ -1,4 +1,6 @@
 // The snippet evaluation's way to constants and to the signs other than =: backwards from the ends, so that each position is visited once at each node.
+#![tactic(auto)]
+
 mod constants;
 mod order;
 mod sweeps;

@@ -1,4 +1,6 @@
 // The place of a constant among the values of the nodes, by their texts or by their amounts. The ranks are in the order of the values, so halving finds it with few values read, and each node is then judged by its rank alone.
+#![tactic(auto)]
+
 ghost use Rattle.std.specs.Prelude.{List, ◌≡◌, ◌≤◌, ◌<◌, length};
 ghost use Rattle.document_spec.specs.Library as Library;
 ghost use Rattle.document_spec.specs.Binary.{compared_of};

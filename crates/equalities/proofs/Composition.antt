@@ -135,14 +135,14 @@ module _ {P R : XPath} {t : Tree} {m : Machine} (vs : List ℕ) {n b : ℕ} {p p
     edge_marked x y i j = (
       λ z. let e = f.stage.drawn.size in let r = z.child.inside in
           all.0 (record { inside = record { power = some; lower = omega arith; apart = deeper here z.child; first = z.upper_few; second = z.lower_few }; marked = z.marked }),
-      λ z. let w = all.1 z in edge w.inside w.marked w.inside.apart,
+      λ z. let w = all.1 z in edge x y w.inside w.marked w.inside.apart,
     )
       where
         all : Marked t n b p'' 0 x y i j ↔ YieldedBy t vs P R 0 x y i j
         all = sets_marked all_sets f.stage.formed all_within 0 x y i j
 
-        edge : Inside t n b 0 x y i j → Related p'' (snippet_at n 0 y) i j → Down t x y 1 → pairs.Marked t n p'' x y i j
-        edge o r (deeper {side = side} d c) =
+        edge : (x y : ℕ) → Inside t n b 0 x y i j → Related p'' (snippet_at n 0 y) i j → Down t x y 1 → pairs.Marked t n p'' x y i j
+        edge x y o r (deeper {side = side} d c) =
             record { side = side; child = subst (λ (u : ℕ). Child t side u y) (sym (down_zero t f.stage.formed refl d)) c; upper_few = o.first; lower_few = o.second; marked = r }
 
 -- p has no snippets, p₁ has what the first snippets yield, and p₂ their halves too

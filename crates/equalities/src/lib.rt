@@ -1,4 +1,6 @@
 // An equality between two paths, evaluated by snippets in a comparison's part of the scratch.
+#![tactic(auto)]
+
 mod clear;
 
 ghost use Rattle.std.specs.Prelude.{◌<◌};

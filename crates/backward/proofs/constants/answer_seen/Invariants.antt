@@ -1,0 +1,16 @@
+-- `backward::constants::answer_seen` meets its contract.
+use Prim.Native.Nat.{ℕ, ◌-◌}
+use mathlib.Core.Path.{◌≡◌, sym, ap, ◌∙◌}
+use native.Mathlib.Omega.{arith}
+use Rattle.bits.specs.Sets.{bit}
+use Rattle.layout.specs.Part.{SEEN}
+use Rattle.layout.specs.Words.{cell, word}
+use Rattle.reach.specs.Work.{Seen}
+use Rattle.backward.proofs.Telling.{Telling, telling_none, telling_step, telling_space, telling_all}
+use Rattle.backward.proofs.constants.answer_seen.Given as goal
+
+abbrev pub invariant-loop-v : goal.invariant-loop-v
+invariant-loop-v l = Telling l.n (λ u. Seen l.initial.p l.n u 0) l.v l.initial.p l.p
+
+abbrev pub decreases-loop-v : goal.decreases-loop-v
+decreases-loop-v l = l.n - l.v

@@ -1,0 +1,11 @@
+-- `backward::constants::spread_hits` meets its contract.
+use Prim.Native.Nat.{◌-◌}
+use native.Mathlib.Omega.{arith}
+use Rattle.backward.proofs.Hitting.{Hitting, hitting_none, hitting_step, hitting_all}
+use Rattle.backward.proofs.constants.spread_hits.Given as goal
+
+abbrev pub invariant-loop-w : goal.invariant-loop-w
+invariant-loop-w l = Hitting l.m l.n l.w l.len l.initial.p l.p
+
+abbrev pub decreases-loop-w : goal.decreases-loop-w
+decreases-loop-w l = l.n - l.w

@@ -1,0 +1,16 @@
+-- `backward::order::answer_ordered` meets its contract.
+use Prim.Native.Nat.{◌-◌}
+use mathlib.Core.Path.{◌≡◌, ◌∙◌, subst₂}
+use mathlib.Core.Logic.{◌↔◌}
+use mathlib.Core.Bool.{true}
+use native.Mathlib.Omega.{arith}
+use Rattle.rank_sets.specs.Ranges.{Across}
+use Rattle.backward.specs.Sweeps.{range_of}
+use Rattle.backward.proofs.Telling.{Telling, telling_none, telling_step, telling_space, telling_range, telling_all}
+use Rattle.backward.proofs.order.answer_ordered.Given as goal
+
+abbrev pub invariant-loop-v : goal.invariant-loop-v
+invariant-loop-v l = Telling l.n (λ u. Across l.o (range_of l.initial.p l.n 0 u) (range_of l.initial.p l.n 1 u)) l.v l.initial.p l.p
+
+abbrev pub decreases-loop-v : goal.decreases-loop-v
+decreases-loop-v l = l.n - l.v

@@ -1,0 +1,24 @@
+-- `constants::find_place` meets its contract.
+use Prim.Native.Nat.{◌-◌, ◌≤◌, ◌<◌}
+use mathlib.Core.Path.{sym, subst}
+use mathlib.Core.List.{List}
+use native.Mathlib.Omega.{arith}
+use Rattle.document_spec.specs.Library.{Node}
+use Rattle.document_spec.specs.Verdict.{Accepts}
+use Rattle.layout.specs.Table.{COLUMNS}
+use Rattle.layout.specs.Words.{word}
+use Rattle.ranks.specs.Ranks.{Ranked}
+use Rattle.amounts.specs.Weighed.{Weighed}
+use Rattle.table.proofs.Trees.{tree_size, tree_small}
+use Rattle.constants.specs.Places.{ComparesAt, against}
+use Rattle.constants.proofs.Placing.{Valued, Around, around_all, around_smaller, around_greater, around_none, placed_same, placed_between}
+use Rattle.constants.proofs.Targets.{column_inside, valued, placed_there}
+use borrow.Author.Rules.{rules}
+use Rattle.constants.proofs.find_place.Given as goal
+
+-- ── The loop's invariant ──
+abbrev pub invariant-loop-lo : goal.invariant-loop-lo
+invariant-loop-lo l = (l.hi ≤ l.n) × ((ns : List Node) → Accepts l.s ns → Valued (against ns l.rule l.c) l.n (word l.t l.n l.k) → Around (against ns l.rule l.c) l.n (word l.t l.n l.k) l.lo l.hi)
+
+abbrev pub decreases-loop-lo : goal.decreases-loop-lo
+decreases-loop-lo l = l.hi - l.lo

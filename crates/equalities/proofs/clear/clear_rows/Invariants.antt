@@ -1,0 +1,12 @@
+-- `equalities::clear::clear_rows` meets its contract.
+use Prim.Native.Nat.{◌≤◌, ◌-◌}
+use native.Mathlib.Omega.{arith}
+use Rattle.equalities.specs.Steps.{Zeroed}
+use Rattle.equalities.proofs.Clearing.{zeroed_none, zeroed_step, zeroed_to}
+use Rattle.equalities.proofs.clear.clear_rows.Given as goal
+
+abbrev pub invariant-loop-i : goal.invariant-loop-i
+invariant-loop-i l = (l.i ≤ 16) × Zeroed l.at l.i l.initial.p l.p
+
+abbrev pub decreases-loop-i : goal.decreases-loop-i
+decreases-loop-i l = 16 - l.i

@@ -1,0 +1,13 @@
+-- `equalities::clear::clear_snippets` meets its contract.
+use Prim.Native.Nat.{◌*◌, ◌≤◌, ◌-◌}
+use mathlib.Core.Path.{◌≡◌, subst}
+use native.Mathlib.Omega.{arith}
+use Rattle.equalities.specs.Steps.{Cleared}
+use Rattle.equalities.proofs.Clearing.{cleared_none, cleared_step}
+use Rattle.equalities.proofs.clear.clear_snippets.Given as goal
+
+abbrev pub invariant-loop-i : goal.invariant-loop-i
+invariant-loop-i l = (l.i ≤ l.blocks) × Cleared l.n l.i l.initial.p l.p
+
+abbrev pub decreases-loop-i : goal.decreases-loop-i
+decreases-loop-i l = l.blocks - l.i

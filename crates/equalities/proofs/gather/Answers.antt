@@ -1,0 +1,9 @@
+-- `equalities::gather` meets its contract.
+use Rattle.equalities.proofs.Composition.{gathered}
+use borrow.Author.Rules.{rules}
+use Rattle.equalities.proofs.gather.Goals as goal
+
+pub returns : goal.returns
+returns c =
+    let s = c.requires in
+    gathered s.1 s.2 c.add_values.ensures c.halve.ensures c.count.ensures
