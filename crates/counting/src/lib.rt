@@ -1,4 +1,6 @@
 // A count: whether a path ends at so many different nodes or more, at every node.
+#![tactic(auto)]
+
 mod forget;
 mod walk;
 

@@ -1,5 +1,7 @@
 // The driver over a rule's tests: test after test is settled, inner ones first, from the last to the first.
 // Which evaluation it is goes along as an argument, and shows only where `evaluators` answers a comparison.
+#![tactic(auto)]
+
 mod comparisons;
 mod counts;
 mod paths;

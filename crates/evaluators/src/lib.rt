@@ -1,4 +1,6 @@
 // The two evaluators of a comparison behind one name: the driver does not know which of them runs.
+#![tactic(auto)]
+
 ghost use Rattle.std.specs.Prelude.{◌≡◌, ◌<◌};
 ghost use Rattle.lists.specs.Lists.{All};
 ghost use Rattle.xpath.specs.Syntax.{XPath, Op, eq};

@@ -5,7 +5,7 @@ use mathlib.Core.Logic.{◌⊎◌, inl, inr}
 use mathlib.Core.List.{List, [], ◌∷◌}
 use native.Mathlib.Decide.{ℕ_discrete}
 use native.Mathlib.Omega.{arith}
-use Rattle.xpath.specs.Tree.{Tree, Child, Down, here, deeper}
+use Rattle.xpath.specs.Tree.{Tree, Child, Down, deeper}
 use Rattle.xpath.proofs.Trees.{child_after, down_le}
 use Rattle.layout.specs.Groups.{LEVEL}
 use Rattle.layout.specs.Table.{PARENT}

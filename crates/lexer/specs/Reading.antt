@@ -34,8 +34,8 @@ abbrev pub AllIn : Class → List ℕ → ℕ → ℕ → Type 0
 AllIn k s i j = (m : ℕ) → i ≤ m → m < j → T (in_class k (get_or s m 0))
 
 -- the bytes that are looked at together
-abbrev pub BLOCK : ℕ
-BLOCK = 16
+abbrev pub block : ℕ
+block = 16
 
 -- from i up to j stand bytes of a class, at most so many
 pub record Passed (k : Class) (most : ℕ) (s : List ℕ) (i j : ℕ) : Type 0 where

@@ -1,7 +1,7 @@
 // Whole blocks of text bytes: no byte of a block ends its loop, so that the machine compares them all at once.
 ghost use Rattle.std.specs.Prelude.{◌+◌, ◌≤◌, ◌≡◌, true, length};
 ghost use Rattle.lexer.specs.declared.Class.TheVariants.{Text};
-ghost use Rattle.lexer.specs.Reading.{BLOCK, AllIn, Passed};
+ghost use Rattle.lexer.specs.Reading.{block, AllIn, Passed};
 
 use crate::{Class, fits};
 
@@ -10,8 +10,8 @@ const BLOCK: usize = 16;
 
 // Whether the bytes of a block are text.
 fn text_block(s: &[u8], at: usize) -> bool
-    requires { at + BLOCK ≤ length s.now }
-    ensures { result ≡ true → AllIn Text s.now at (at + BLOCK) }
+    requires { at + block ≤ length s.now }
+    ensures { result ≡ true → AllIn Text s.now at (at + block) }
 {
     let mut all = true;
     let mut i: usize = 0;

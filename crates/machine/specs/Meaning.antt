@@ -1,5 +1,5 @@
 -- What the words of a machine and of a part stand for.
-use Rattle.std.specs.Prelude.{ℕ, suc, ◌+◌, ◌≤◌, ◌<◌, ◌≡◌, ◌⊎◌, ◌↔◌, Bool, true, List, ◌++◌, length, get_or}
+use Rattle.std.specs.Prelude.{ℕ, ◌+◌, ◌≤◌, ◌<◌, ◌≡◌, ◌⊎◌, ◌↔◌, Bool, true, List, ◌++◌, get_or}
 use Rattle.lists.specs.Blanks.{trim}
 use Rattle.limits.specs.Limits.{document_nodes, positions, comparison_steps}
 use Rattle.bits.specs.Sets.{bit}

@@ -1,4 +1,6 @@
 // The machine of a comparison: its automaton as words.
+#![tactic(auto)]
+
 use limits::Rule;
 
 // Row i of the follow square is the set of the positions that follow i. Each step is in one of the five sets that say what it is; `first` is the set of the positions of the first path, its start among them, and `second` is the start of the second path.

@@ -2,7 +2,7 @@
 use Prim.Native.Nat.{ℕ, suc, ◌<◌}
 use mathlib.Core.Path.{subst}
 use mathlib.Core.Logic.{inl, inr, ◌↔◌}
-use mathlib.Core.List.{List, ◌∷◌, ◌++◌}
+use mathlib.Core.List.{List, [], ◌∷◌, ◌++◌}
 use Rattle.lists.specs.Lists.{All}
 use Rattle.lists.proofs.Lists.{all_append}
 use Rattle.xpath.specs.Syntax.{XPath, empty, one, seq, union, star, Step, steps}
@@ -27,6 +27,7 @@ module _ (C : List ℕ → Type 0) where
   steps_within (star P) k = steps_within P k
 
   numbered_within : (xs : List Step) → All Kept xs → (b j : ℕ) (s : Step) → Numbered b xs j s → Kept s
+  numbered_within [] _ b j s e = elim e [ ]
   numbered_within (x ∷ xs) (h, hs) b j s (inl e) = subst Kept e.1 h
   numbered_within (x ∷ xs) (h, hs) b j s (inr n) = numbered_within xs hs (suc b) j s n
 

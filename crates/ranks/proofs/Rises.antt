@@ -2,7 +2,6 @@
 use Prim.Native.Nat.{ℕ, ◌<◌}
 use mathlib.Core.Path.{◌≡◌, sym, ap, ◌∙◌}
 use mathlib.Core.List.{List}
-use Rattle.string_order.specs.Bytes as Bytes
 use Rattle.document_spec.specs.Library.{Node}
 use Rattle.document_spec.specs.Binary.{compared_of}
 use Rattle.document_spec.specs.Verdict.{Accepts}

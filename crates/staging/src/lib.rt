@@ -1,4 +1,6 @@
 // What a comparison needs of the tree and of other tests, copied to the front of its part of the scratch: that part alone is lent to it.
+#![tactic(auto)]
+
 mod relations;
 
 ghost use Rattle.std.specs.Prelude.{List, ◌≡◌, ℕ, ◌*◌, ◌≤◌, ◌<◌, ◌+◌, length, get_or};
@@ -40,7 +42,7 @@ const RANK: usize = Table::COLUMNS + Table::RANK;
 
 const STAYS: usize = Table::COLUMNS + Part::STAYS;
 
-const HIT: usize = Table::COLUMNS + Part::HIT;
+const HITS: usize = Table::COLUMNS + Part::HIT;
 
 // The words from one offset on are copied to behind them.
 fn copy(t: &mut [u16], from: usize, to: usize, size: usize)
@@ -134,7 +136,7 @@ fn fill_hits(t: &mut [u16], n: usize, column: usize, p: Place, o: Operator)
     requires { ((COLUMNS + HIT + 1) * n ≤ length t.old) × (column < COLUMNS) }
     ensures { HitsFilled n column p o t.old t.new }
 {
-    let hits = HIT * n;
+    let hits = HITS * n;
     let mut v = 0;
     while v < n {
         let x = hit(t, n, column, v, p, o);
@@ -148,7 +150,7 @@ fn clear_hits(t: &mut [u16], n: usize)
     requires { (COLUMNS + HIT + 1) * n ≤ length t.old }
     ensures { HitsCleared n t.old t.new }
 {
-    let hits = HIT * n;
+    let hits = HITS * n;
     let mut v = 0;
     while v < n {
         t[hits + v] = 0;

@@ -15,8 +15,8 @@ abbrev pub Common : List ℕ → ℕ → List ℕ → ℕ → ℕ → Type 0
 Common x i y j k = (m : ℕ) → m < k → get_or x (i + m) 0 ≡ get_or y (j + m) 0
 
 -- the bytes that are looked at together
-abbrev pub BLOCK : ℕ
-BLOCK = 16
+abbrev pub block : ℕ
+block = 16
 
 -- at least the first k of `most` bytes are the same
 pub record Begins (x : List ℕ) (i : ℕ) (y : List ℕ) (j most k : ℕ) : Type 0 where

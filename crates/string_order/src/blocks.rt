@@ -1,14 +1,14 @@
 // Whole blocks of bytes that agree: no byte of a block ends its loop, so that the machine compares them all at once.
 ghost use Rattle.std.specs.Prelude.{◌+◌, ◌≤◌, ◌≡◌, true, length};
-ghost use Rattle.string_order.specs.Ordered.{BLOCK, Common, Begins};
+ghost use Rattle.string_order.specs.Ordered.{block, Common, Begins};
 
 // The bytes of a block: as many as a vector register has.
 pub const BLOCK: usize = 16;
 
 // Whether the bytes of a block are the same.
 fn same_block(x: &[u8], i: usize, y: &[u8], j: usize) -> bool
-    requires { (i + BLOCK ≤ length x.now) × (j + BLOCK ≤ length y.now) }
-    ensures { result ≡ true → Common x.now i y.now j BLOCK }
+    requires { (i + block ≤ length x.now) × (j + block ≤ length y.now) }
+    ensures { result ≡ true → Common x.now i y.now j block }
 {
     let mut all = true;
     let mut k: usize = 0;

@@ -1,6 +1,5 @@
 -- `amounts::rank_amounts` meets its contract.
 use Rattle.amounts.proofs.Weighed.{weighed_within, weighed}
-use borrow.Author.Rules.{rules}
 use Rattle.amounts.proofs.rank_amounts.Goals as goal
 
 pub returns : goal.returns

@@ -1,10 +1,7 @@
 -- `blanks::skip` meets its contract.
-use borrow.Author.Tests.{eqb-true, eqb-false}
 use Prim.Native.Nat.{◌-◌, ◌≤◌}
-use native.Mathlib.Omega.{arith}
 use lib.Seq.{slice}
 use Rattle.lists.specs.Blanks.{Blanks}
-use Rattle.blanks.proofs.Slices.{blanks_none, blanks_more}
 use Rattle.blanks.proofs.skip.Given as goal
 
 abbrev pub invariant-loop-i : goal.invariant-loop-i

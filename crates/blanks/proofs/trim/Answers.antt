@@ -1,9 +1,5 @@
 -- `blanks::trim` meets its contract.
-use borrow.Author.Tests.{eqb-true, eqb-false}
-use Prim.Native.Nat.{◌≤◌}
 use native.Mathlib.Omega.{arith}
-use lib.Seq.{slice}
-use Rattle.lists.specs.Blanks.{Blanks}
 use Rattle.blanks.proofs.Slices.{blanks_none, blanks_before}
 use Rattle.blanks.proofs.trim.Goals as goal
 

@@ -1,8 +1,7 @@
 -- `closures::close` meets its contract.
-use Prim.Native.Nat.{◌≤◌, ◌-◌}
 use mathlib.Core.Path.{◌∙◌}
 use native.Mathlib.Omega.{arith}
-use Rattle.closures.proofs.Warshall.{Closing, closing_none, closing_step, closing_all}
+use Rattle.closures.proofs.Warshall.{closing_none, closing_step, closing_all}
 use Rattle.closures.proofs.close.Goals as goal
 
 pub reflect-requires : goal.reflect-requires

@@ -1,8 +1,6 @@
 -- `closures::close` meets its contract.
 use Prim.Native.Nat.{◌≤◌, ◌-◌}
-use mathlib.Core.Path.{◌∙◌}
-use native.Mathlib.Omega.{arith}
-use Rattle.closures.proofs.Warshall.{Closing, closing_none, closing_step, closing_all}
+use Rattle.closures.proofs.Warshall.{Closing}
 use Rattle.closures.proofs.close.Given as goal
 
 abbrev pub invariant-loop-k : goal.invariant-loop-k

@@ -1,12 +1,9 @@
 -- `closures::join` meets its contract.
-use mathlib.Core.Path.{◌≡◌, refl}
+use mathlib.Core.Path.{◌≡◌}
 use Prim.Native.Nat.{◌≤◌, ◌+◌, ◌-◌}
-use native.Mathlib.Omega.{arith}
 use lib.ListN.{get_or}
 use Rattle.matrices.specs.Matrices.{Related, Drawing}
 use Rattle.closures.specs.Closures.{Through}
-use Rattle.matrices.proofs.Drawing.{drawing_none, drawing_to}
-use Rattle.closures.proofs.Rows.{join_step}
 use Rattle.closures.proofs.join.Given as goal
 
 -- ── The loop's invariant ──

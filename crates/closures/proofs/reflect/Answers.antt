@@ -1,8 +1,5 @@
 -- `closures::reflect` meets its contract.
-use Prim.Native.Nat.{◌≤◌, ◌-◌}
 use native.Mathlib.Omega.{arith}
-use Rattle.matrices.specs.Matrices.{Related, Drawing}
-use Rattle.closures.specs.Closures.{Reflexive}
 use Rattle.matrices.proofs.Drawing.{drawing_none, drawing_to}
 use Rattle.closures.proofs.Rows.{reflect_step}
 use Rattle.closures.proofs.reflect.Goals as goal

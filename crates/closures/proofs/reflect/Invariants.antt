@@ -1,10 +1,7 @@
 -- `closures::reflect` meets its contract.
 use Prim.Native.Nat.{◌≤◌, ◌-◌}
-use native.Mathlib.Omega.{arith}
 use Rattle.matrices.specs.Matrices.{Related, Drawing}
 use Rattle.closures.specs.Closures.{Reflexive}
-use Rattle.matrices.proofs.Drawing.{drawing_none, drawing_to}
-use Rattle.closures.proofs.Rows.{reflect_step}
 use Rattle.closures.proofs.reflect.Given as goal
 
 abbrev pub invariant-loop-i : goal.invariant-loop-i

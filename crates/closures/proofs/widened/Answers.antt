@@ -1,6 +1,5 @@
 -- `closures::widened` meets its contract.
 use mathlib.Core.Path.{sym, ◌∙◌}
-use borrow.Author.Rules.{rules}
 use Rattle.closures.proofs.Rows.{widened, not_widened}
 use Rattle.closures.proofs.widened.Goals as goal
 

@@ -1,7 +1,6 @@
 -- `compiler::machine` meets its contract.
 use mathlib.Core.Path.{refl}
 use Rattle.compiler.proofs.Machines.{known_inside, known_middle, machine_told}
-use borrow.Author.Rules.{rules}
 use Rattle.compiler.proofs.machine.Goals as goal
 
 pub steps_with-requires : goal.steps_with-requires

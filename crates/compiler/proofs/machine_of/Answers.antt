@@ -1,6 +1,5 @@
 -- `compiler::machine_of` meets its contract.
 use Rattle.compiler.proofs.Machines.{two_known, two_machined}
-use borrow.Author.Rules.{rules}
 use Rattle.compiler.proofs.machine_of.Goals as goal
 
 pub machine-requires : goal.machine-requires

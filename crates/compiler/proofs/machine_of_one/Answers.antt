@@ -1,6 +1,5 @@
 -- `compiler::machine_of_one` meets its contract.
 use Rattle.compiler.proofs.Machines.{one_known, one_machined}
-use borrow.Author.Rules.{rules}
 use Rattle.compiler.proofs.machine_of_one.Goals as goal
 
 pub machine-requires : goal.machine-requires

@@ -2,7 +2,6 @@
 use mathlib.Core.Path.{subst}
 use Rattle.constants.specs.Places.{InRule}
 use Rattle.constants.proofs.Targets.{compared_text, compared_amount}
-use borrow.Author.Rules.{rules}
 use Rattle.constants.proofs.compare_value.Goals as goal
 
 pub compare_text-requires : goal.compare_text-requires
@@ -12,10 +11,10 @@ compare_text-requires c =
 
 pub returns-in-Text : goal.returns-in-Text
 returns-in-Text c =
-    let x = c.args in let w = c.c-1.given in
-    λ ns a. compared_text ns x.rule.now x.v x.c c.compare_text.result w.0.0 w.1 (c.compare_text.ensures ns a)
+    let x = c.args in
+    λ ns a. compared_text ns x.rule.now x.v x.c c.compare_text.result c.in-Text.w c.in-Text.is (c.compare_text.ensures ns a)
 
 pub returns-in-Amount : goal.returns-in-Amount
 returns-in-Amount c =
-    let x = c.args in let w = c.c-in-Amount-1.given in
-    λ ns a. compared_amount ns x.rule.now x.v x.c c.compare_keys.result c.node_key.result w.0.0 w.1 (c.node_key.ensures ns a) c.compare_keys.ensures
+    let x = c.args in
+    λ ns a. compared_amount ns x.rule.now x.v x.c c.compare_keys.result c.node_key.result c.in-Amount.k c.in-Amount.is (c.node_key.ensures ns a) c.compare_keys.ensures

@@ -1,19 +1,13 @@
 -- `constants::find_place` meets its contract.
-use Prim.Native.Nat.{◌-◌, ◌≤◌, ◌<◌}
+use Prim.Native.Nat.{◌<◌}
 use mathlib.Core.Path.{sym, subst}
-use mathlib.Core.List.{List}
 use native.Mathlib.Omega.{arith}
-use Rattle.document_spec.specs.Library.{Node}
-use Rattle.document_spec.specs.Verdict.{Accepts}
 use Rattle.layout.specs.Table.{COLUMNS}
 use Rattle.layout.specs.Words.{word}
-use Rattle.ranks.specs.Ranks.{Ranked}
-use Rattle.amounts.specs.Weighed.{Weighed}
 use Rattle.table.proofs.Trees.{tree_size, tree_small}
 use Rattle.constants.specs.Places.{ComparesAt, against}
-use Rattle.constants.proofs.Placing.{Valued, Around, around_all, around_smaller, around_greater, around_none, placed_same, placed_between}
+use Rattle.constants.proofs.Placing.{around_all, around_smaller, around_greater, around_none, placed_same, placed_between}
 use Rattle.constants.proofs.Targets.{column_inside, valued, placed_there}
-use borrow.Author.Rules.{rules}
 use Rattle.constants.proofs.find_place.Goals as goal
 
 -- the node in the middle is there
@@ -31,7 +25,7 @@ pub overflow_add-mid : goal.overflow_add-mid
 overflow_add-mid c = let l = c.loop-lo-test.true in let h = c.loop-lo.invariant.0 in omega arith
 
 pub nearest-v-requires : goal.nearest-v-requires
-nearest-v-requires c = (c.requires.0.tabled.room, (let in_table-here : c.column-k.result < COLUMNS = subst (λ k. k < COLUMNS) (sym c.column-k.ensures) (column_inside c.args.c) in in_table-here))
+nearest-v-requires c = (c.requires.0.tabled.room, subst (λ k. k < COLUMNS) (sym c.column-k.ensures) (column_inside c.args.c))
 
 pub loop-lo-smaller-then-v-n : goal.loop-lo-smaller-then-v-n
 loop-lo-smaller-then-v-n c = let l = c.loop-lo-test.true in omega arith
@@ -40,7 +34,7 @@ pub loop-lo-preserved-then-v-n : goal.loop-lo-preserved-then-v-n
 loop-lo-preserved-then-v-n c = let i = c.loop-lo in let l = c.loop-lo-test.true in let h = i.invariant.0 in (omega arith, λ ns a g. around_none (i.invariant.1 ns a g) c.nearest-v.ensures c.if-v-n.true)
 
 pub get-r-requires : goal.get-r-requires
-get-r-requires c = ((let in_table-here : c.column-k.result < COLUMNS = subst (λ k. k < COLUMNS) (sym c.column-k.ensures) (column_inside c.args.c) in in_table-here), inside c, c.requires.0.tabled.room)
+get-r-requires c = (subst (λ k. k < COLUMNS) (sym c.column-k.ensures) (column_inside c.args.c), inside c, c.requires.0.tabled.room)
 
 pub compare_value-requires : goal.compare_value-requires
 compare_value-requires c = let p = c.requires in (p.0, (let inside-here : c.nearest-v.result < c.args.n = let w = c.nearest-v.ensures.within in let l = c.if-v-n.false in omega arith in inside-here), p.1)
@@ -63,7 +57,7 @@ pub returns-in-Same : goal.returns-in-Same
 returns-in-Same c =
     let x = c.args in let m = c.nearest-v in let k = c.column-k in
     λ ns a r w. placed_there x.t.now k.ensures
-    (placed_same (let in_order_lem-here : (ns : List Node) → Accepts c.args.s.now ns → Ranked ns c.args.t.now → Weighed ns c.args.t.now → Valued (against ns c.args.rule.now c.args.c) c.args.n (word c.args.t.now c.args.n c.column-k.result) = λ ns a r g. valued c.args.rule.now c.args.c c.column-k.ensures (tree_size c.requires.0.tabled ns a) (tree_small a) r g in in_order_lem-here) ns a r w) m.ensures ((let inside-here : c.nearest-v.result < c.args.n = let w = c.nearest-v.ensures.within in let l = c.if-v-n.false in omega arith in inside-here) c.get-r.ensures.0 (subst (λ o. ComparesAt (against ns x.rule.now x.c) m.result o) c.in-Same.is (c.compare_value.ensures ns a)))
+    (placed_same (valued x.rule.now x.c c.column-k.ensures (tree_size c.requires.0.tabled ns a) (tree_small a) r w) m.ensures (let inside-here : c.nearest-v.result < c.args.n = let w = c.nearest-v.ensures.within in let l = c.if-v-n.false in omega arith in inside-here) c.get-r.ensures.0 (subst (λ o. ComparesAt (against ns x.rule.now x.c) m.result o) c.in-Same.is (c.compare_value.ensures ns a)))
 
 pub loop-lo-smaller : goal.loop-lo-smaller
 loop-lo-smaller c = let l = c.loop-lo-test.true in omega arith
@@ -77,4 +71,4 @@ loop-lo-preserved c =
 pub returns : goal.returns
 returns c =
     let x = c.args in
-    λ ns a r w. placed_there x.t.now c.column-k.ensures (placed_between (c.loop-lo.invariant.1 ns a ((let in_order_lem-here : (ns : List Node) → Accepts c.args.s.now ns → Ranked ns c.args.t.now → Weighed ns c.args.t.now → Valued (against ns c.args.rule.now c.args.c) c.args.n (word c.args.t.now c.args.n c.column-k.result) = λ ns a r g. valued c.args.rule.now c.args.c c.column-k.ensures (tree_size c.requires.0.tabled ns a) (tree_small a) r g in in_order_lem-here) ns a r w)) c.loop-lo-test.false)
+    λ ns a r w. placed_there x.t.now c.column-k.ensures (placed_between (c.loop-lo.invariant.1 ns a (valued x.rule.now x.c c.column-k.ensures (tree_size c.requires.0.tabled ns a) (tree_small a) r w)) c.loop-lo-test.false)

@@ -1,19 +1,11 @@
 -- `constants::find_place` meets its contract.
-use Prim.Native.Nat.{◌-◌, ◌≤◌, ◌<◌}
-use mathlib.Core.Path.{sym, subst}
+use Prim.Native.Nat.{◌-◌, ◌≤◌}
 use mathlib.Core.List.{List}
-use native.Mathlib.Omega.{arith}
 use Rattle.document_spec.specs.Library.{Node}
 use Rattle.document_spec.specs.Verdict.{Accepts}
-use Rattle.layout.specs.Table.{COLUMNS}
 use Rattle.layout.specs.Words.{word}
-use Rattle.ranks.specs.Ranks.{Ranked}
-use Rattle.amounts.specs.Weighed.{Weighed}
-use Rattle.table.proofs.Trees.{tree_size, tree_small}
-use Rattle.constants.specs.Places.{ComparesAt, against}
-use Rattle.constants.proofs.Placing.{Valued, Around, around_all, around_smaller, around_greater, around_none, placed_same, placed_between}
-use Rattle.constants.proofs.Targets.{column_inside, valued, placed_there}
-use borrow.Author.Rules.{rules}
+use Rattle.constants.specs.Places.{against}
+use Rattle.constants.proofs.Placing.{Valued, Around}
 use Rattle.constants.proofs.find_place.Given as goal
 
 -- ── The loop's invariant ──

@@ -1,9 +1,7 @@
 -- `constants::nearest` meets its contract.
-use mathlib.Core.Logic.{⊎_elim}
+use mathlib.Core.Logic.{inl, inr}
 use native.Mathlib.Omega.{arith}
-use borrow.Author.Tests.{leb-true, leb-false}
-use Rattle.layout.specs.Words.{word}
-use Rattle.constants.proofs.Nearing.{Nearing, nearing_none, nearing_skip, nearing_take, nearing_all}
+use Rattle.constants.proofs.Nearing.{nearing_none, nearing_skip, nearing_take, nearing_all}
 use Rattle.constants.proofs.nearest.Goals as goal
 
 pub loop-v-init : goal.loop-v-init
@@ -21,7 +19,7 @@ loop-v-smaller-then-r-low c = let l = c.loop-v-test.true in omega arith
 pub loop-v-preserved-then-r-low : goal.loop-v-preserved-then-r-low
 loop-v-preserved-then-r-low c =
     let h = c.loop-v.invariant in let l = c.loop-v-test.true in let r = c.get-r.ensures in
-    nearing_skip h l r.0 (⊎_elim (λ z k m. let q = z.taken in absurd (omega arith)) (λ z k m. leb-true _ _ z.1.taken) c.then-r-low.branch-raw)
+    nearing_skip h l r.0 (elim c.then-r-low.either [ inl z ↦ λ k m. absurd (omega arith) | inr z ↦ λ k m. z.1 ])
 
 pub loop-v-smaller : goal.loop-v-smaller
 loop-v-smaller c = let l = c.loop-v-test.true in omega arith

@@ -1,9 +1,6 @@
 -- `constants::nearest` meets its contract.
-use mathlib.Core.Logic.{⊎_elim}
-use native.Mathlib.Omega.{arith}
-use borrow.Author.Tests.{leb-true, leb-false}
 use Rattle.layout.specs.Words.{word}
-use Rattle.constants.proofs.Nearing.{Nearing, nearing_none, nearing_skip, nearing_take, nearing_all}
+use Rattle.constants.proofs.Nearing.{Nearing}
 use Rattle.constants.proofs.nearest.Given as goal
 
 abbrev pub invariant-loop-v : goal.invariant-loop-v

@@ -1,7 +1,6 @@
 -- `document::all_nodes` meets its contract.
 use mathlib.Core.Path.{subst}
 use native.Mathlib.Omega.{arith}
-use borrow.Author.Rules.{rules}
 use Rattle.document.specs.Check.{NodesRead}
 use Rattle.document.proofs.Walk.{first_reached}
 use Rattle.document.proofs.all_nodes.Goals as goal

@@ -7,7 +7,6 @@ use Rattle.document_spec.proofs.Grounds.{first_long}
 use Rattle.lexer.specs.declared.Numeral.TheVariants.{Value}
 use Rattle.lexer.specs.Reading.{NumberedLine}
 use Rattle.document.proofs.Walk.{no_count, bad_count, good_count}
-use borrow.Author.Rules.{rules}
 use Rattle.document.proofs.check.Goals as goal
 
 pub returns-then-s-gt-MAX_BYTES : goal.returns-then-s-gt-MAX_BYTES

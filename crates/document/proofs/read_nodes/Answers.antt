@@ -1,11 +1,6 @@
 -- `document::read_nodes` meets its contract.
-use Prim.Native.Nat.{◌+◌, ◌-◌, ◌*◌, ◌≤◌}
-use mathlib.Core.Path.{◌≡◌, refl, subst, ◌∙◌}
-use lib.ListN.{length}
+use mathlib.Core.Path.{◌≡◌, refl, ◌∙◌}
 use native.Mathlib.Omega.{arith}
-use borrow.Author.Rules.{rules}
-use Rattle.document.specs.declared.nodes.Step.{Step}
-use Rattle.document.specs.Check.{Cursor, Reached, Room, NoWords, Stepped}
 use Rattle.document.proofs.Walk.{reached_still, more_lines, no_more}
 use Rattle.document.proofs.read_nodes.Goals as goal
 

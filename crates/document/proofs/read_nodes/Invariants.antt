@@ -1,12 +1,8 @@
 -- `document::read_nodes` meets its contract.
-use Prim.Native.Nat.{◌+◌, ◌-◌, ◌*◌, ◌≤◌}
-use mathlib.Core.Path.{◌≡◌, refl, subst, ◌∙◌}
+use Prim.Native.Nat.{◌-◌, ◌≤◌}
+use mathlib.Core.Path.{◌≡◌}
 use lib.ListN.{length}
-use native.Mathlib.Omega.{arith}
-use borrow.Author.Rules.{rules}
-use Rattle.document.specs.declared.nodes.Step.{Step}
-use Rattle.document.specs.Check.{Cursor, Reached, Room, NoWords, Stepped}
-use Rattle.document.proofs.Walk.{reached_still, more_lines, no_more}
+use Rattle.document.specs.Check.{Reached, Room}
 use Rattle.document.proofs.read_nodes.Given as goal
 
 abbrev pub invariant-loop-here : goal.invariant-loop-here

@@ -1,7 +1,6 @@
 -- `document::with_more_words` meets its contract.
 use mathlib.Core.Path.{subst}
 use native.Mathlib.Omega.{arith}
-use borrow.Author.Rules.{rules}
 use Rattle.document.specs.Check.{NodesRead}
 use Rattle.document.proofs.Walk.{reached_copied}
 use Rattle.document.proofs.with_more_words.Goals as goal

@@ -1,11 +1,7 @@
 -- `halving::count` meets its contract.
-use Prim.Native.Nat.{◌+◌, ◌*◌, ◌-◌, ◌≤◌}
-use mathlib.Core.Path.{◌≡◌, refl, sym, ap, ap₂, ◌∙◌, subst}
-use native.Mathlib.Omega.{arith}
-use Rattle.matrices.proofs.Pairs.{pairs_le}
-use Rattle.layout.specs.Blocks.{BLOCKS}
-use Rattle.halving.specs.Halving.{Counts}
-use Rattle.halving.proofs.Counting.{total, total_more, total_le, total_counts}
+use Prim.Native.Nat.{◌-◌, ◌≤◌}
+use mathlib.Core.Path.{◌≡◌}
+use Rattle.halving.proofs.Counting.{total}
 use Rattle.halving.proofs.count.Given as goal
 
 -- ── The loop's invariant ──

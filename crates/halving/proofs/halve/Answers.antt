@@ -1,5 +1,5 @@
 -- `halving::halve` meets its contract.
-use Prim.Native.Nat.{suc, ◌-◌, ◌≤◌}
+use Prim.Native.Nat.{suc, ◌-◌}
 use mathlib.Core.Path.{◌≡◌, subst}
 use native.Mathlib.Omega.{arith}
 use Rattle.halving.proofs.Blocks.{room_less}

@@ -1,9 +1,6 @@
 -- `halving::halve` meets its contract.
-use Prim.Native.Nat.{suc, ◌-◌, ◌≤◌}
-use mathlib.Core.Path.{◌≡◌, subst}
-use native.Mathlib.Omega.{arith}
-use Rattle.halving.proofs.Blocks.{room_less}
-use Rattle.halving.proofs.Lowering.{Lowered, lowered_none, lowered_step, lowered_all}
+use Prim.Native.Nat.{◌-◌, ◌≤◌}
+use Rattle.halving.proofs.Lowering.{Lowered}
 use Rattle.halving.proofs.halve.Given as goal
 
 abbrev pub invariant-loop-k : goal.invariant-loop-k

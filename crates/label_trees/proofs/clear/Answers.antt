@@ -1,10 +1,10 @@
 -- `label_trees::clear` meets its contract.
-use Prim.Native.Nat.{ℕ, ◌-◌, ◌≤◌, ◌<◌}
+use Prim.Native.Nat.{ℕ, ◌<◌}
 use mathlib.Core.Path.{◌≡◌}
 use native.Mathlib.Omega.{arith}
 use lib.ListN.{get_or}
 use Rattle.label_trees.specs.Trees.{heads}
-use Rattle.label_trees.proofs.Words.{Writing, writing_none, writing_more, holds_none}
+use Rattle.label_trees.proofs.Words.{writing_none, writing_more, holds_none}
 use Rattle.label_trees.proofs.clear.Goals as goal
 
 pub loop-i-init : goal.loop-i-init

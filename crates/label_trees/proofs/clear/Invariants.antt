@@ -1,10 +1,7 @@
 -- `label_trees::clear` meets its contract.
-use Prim.Native.Nat.{ℕ, ◌-◌, ◌≤◌, ◌<◌}
-use mathlib.Core.Path.{◌≡◌}
-use native.Mathlib.Omega.{arith}
-use lib.ListN.{get_or}
+use Prim.Native.Nat.{◌-◌, ◌≤◌}
 use Rattle.label_trees.specs.Trees.{heads}
-use Rattle.label_trees.proofs.Words.{Writing, writing_none, writing_more, holds_none}
+use Rattle.label_trees.proofs.Words.{Writing}
 use Rattle.label_trees.proofs.clear.Given as goal
 
 abbrev pub invariant-loop-i : goal.invariant-loop-i

@@ -1,8 +1,7 @@
 -- `label_trees::copy` meets its contract.
-use Prim.Native.Nat.{◌-◌, ◌≤◌}
 use native.Mathlib.Omega.{arith}
-use lib.ListN.{length, get_or}
-use Rattle.label_trees.proofs.Words.{Writing, writing_none, writing_more}
+use lib.ListN.{get_or}
+use Rattle.label_trees.proofs.Words.{writing_none, writing_more}
 use Rattle.label_trees.proofs.Copying.{copied}
 use Rattle.label_trees.proofs.copy.Goals as goal
 

@@ -1,9 +1,7 @@
 -- `label_trees::copy` meets its contract.
 use Prim.Native.Nat.{◌-◌, ◌≤◌}
-use native.Mathlib.Omega.{arith}
 use lib.ListN.{length, get_or}
-use Rattle.label_trees.proofs.Words.{Writing, writing_none, writing_more}
-use Rattle.label_trees.proofs.Copying.{copied}
+use Rattle.label_trees.proofs.Words.{Writing}
 use Rattle.label_trees.proofs.copy.Given as goal
 
 abbrev pub invariant-loop-i : goal.invariant-loop-i

@@ -5,7 +5,7 @@ use native.Mathlib.Nat.{mod-lt}
 use native.Mathlib.Omega.{arith}
 use lib.ListN.{length}
 use Rattle.label_trees.specs.Trees.{key_at}
-use Rattle.label_trees.proofs.Keys.{stands_length, stands_two, digit_is}
+use Rattle.label_trees.proofs.Keys.{stands_length, digit_is}
 use Rattle.label_trees.proofs.digit_at.Goals as goal
 use Rattle.label_trees.proofs.digit_at.Goals.{then-from-back, else-from-back}
 

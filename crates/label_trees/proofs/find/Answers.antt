@@ -2,10 +2,9 @@
 use Prim.Native.Nat.{ℕ, ◌+◌, ◌*◌, ◌-◌}
 use mathlib.Core.Path.{sym, ap, ◌∙◌}
 use native.Mathlib.Omega.{arith}
-use borrow.Author.Rules.{rules}
-use Rattle.label_trees.specs.Trees.{key_at, held}
+use Rattle.label_trees.specs.Trees.{key_at}
 use Rattle.label_trees.proofs.Keys.{told_yes, told_no}
-use Rattle.label_trees.proofs.Searching.{offset_of_lem, Searching, searching_start, searching_step, searching_end}
+use Rattle.label_trees.proofs.Searching.{offset_of_lem, searching_start, searching_step, searching_end}
 use Rattle.label_trees.proofs.find.Goals as goal
 
 pub first_link-p-requires : goal.first_link-p-requires

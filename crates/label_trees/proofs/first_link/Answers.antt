@@ -1,6 +1,5 @@
 -- `label_trees::first_link` meets its contract.
 use native.Mathlib.Omega.{arith}
-use borrow.Author.Rules.{rules}
 use mathlib.Core.Path.{ap, refl}
 use Prim.Native.Nat.{ℕ, ◌+◌, ◌-◌, ◌/◌}
 use Rattle.label_trees.proofs.Keys.{stands_two, root_is}

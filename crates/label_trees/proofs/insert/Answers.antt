@@ -1,6 +1,5 @@
 -- `label_trees::insert` meets its contract.
 use native.Mathlib.Omega.{arith}
-use borrow.Author.Rules.{rules}
 use lib.ListN.{length-set}
 use Rattle.label_trees.proofs.Inserting.{inserted}
 use Rattle.label_trees.proofs.insert.Goals as goal

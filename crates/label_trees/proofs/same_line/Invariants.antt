@@ -1,10 +1,7 @@
 -- `label_trees::same_line` meets its contract.
 use Prim.Native.Nat.{ℕ, ◌+◌, ◌-◌, ◌≤◌, ◌<◌}
 use mathlib.Core.Path.{◌≡◌}
-use native.Mathlib.Omega.{arith}
-use borrow.Author.Count.{below_more}
 use lib.ListN.{get_or}
-use Rattle.label_trees.proofs.Keys.{stands_length, key_same, key_other}
 use Rattle.label_trees.proofs.same_line.Given as goal
 
 abbrev pub invariant-loop-i : goal.invariant-loop-i

@@ -10,7 +10,6 @@ use Rattle.document_lines.specs.Entries.{Stands}
 use Rattle.table.specs.Links.{Linked}
 use Rattle.table.proofs.Trees.{tree_stands}
 use Rattle.labels.proofs.Inside.{label_inside}
-use borrow.Author.Rules.{rules}
 use Rattle.labels.proofs.has_name.Goals as goal
 
 stands : (c : goal.After-offset-at) (ns : List Node) → Accepts c.args.s.now ns → Linked c.args.s.now ns c.args.t.now → Stands c.args.s.now ns c.args.v c.offset-at.result

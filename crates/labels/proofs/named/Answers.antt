@@ -1,16 +1,9 @@
 -- `labels::named` meets its contract.
-use Prim.Native.Nat.{◌-◌}
-use mathlib.Core.Path.{◌≡◌}
-use mathlib.Core.List.{List}
 use native.Mathlib.Omega.{arith}
 use native.Mathlib.Numerals.{add-one}
-use lib.Seq.{slice}
-use Rattle.document_spec.specs.Library.{Node, at}
-use Rattle.document_spec.specs.Verdict.{Accepts}
-use Rattle.table.specs.Links.{Linked}
 use Rattle.table.specs.Tabled.{Worked}
 use Rattle.table.proofs.Worked.{worked_linked, worked_tree}
-use Rattle.test_bits.proofs.Settling.{Settling, settling_none, settling_step, settling_all}
+use Rattle.test_bits.proofs.Settling.{settling_none, settling_step, settling_all}
 use Rattle.labels.proofs.Kept.{settling_worked}
 use Rattle.labels.proofs.named.Goals as goal
 

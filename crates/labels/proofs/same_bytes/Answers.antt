@@ -1,9 +1,7 @@
 -- `labels::same_bytes` meets its contract.
-use Prim.Native.Nat.{ℕ, ◌+◌, ◌-◌, ◌≤◌, ◌<◌}
-use mathlib.Core.Path.{◌≡◌, refl}
+use mathlib.Core.Path.{refl}
 use mathlib.Core.Bool.{false≢true}
 use native.Mathlib.Omega.{arith}
-use lib.ListN.{get_or}
 use borrow.Author.Count.{below_more}
 use Rattle.labels.proofs.Spans.{slices_long, slices_agree, slices_same}
 use Rattle.labels.proofs.same_bytes.Goals as goal

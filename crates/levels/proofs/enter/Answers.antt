@@ -1,6 +1,5 @@
 -- `levels::enter` meets its contract.
 use native.Mathlib.Omega.{arith}
-use borrow.Author.Rules.{rules}
 use Rattle.layout.specs.Groups.{LEVEL}
 use Rattle.levels.proofs.Levelling.{known}
 use Rattle.levels.proofs.enter.Goals as goal

@@ -1,7 +1,7 @@
 -- `lifting::lift` meets its contract. The length falls from call to call.
 use Prim.Native.Nat.{◌+◌}
 use native.Mathlib.Omega.{arith}
-use Rattle.lifting.proofs.Stretching.{rest_down, hops_less, stretch_loops, stretch_fits, stretch_rest, lift_here, lift_step}
+use Rattle.lifting.proofs.Stretching.{rest_down, hops_less, stretch_fits, stretch_rest, lift_here, lift_step}
 use Rattle.lifting.proofs.+lift.Goals as goal
 
 pub returns-then-len-eq0 : goal.returns-then-len-eq0

@@ -2,7 +2,7 @@
 use Prim.Native.Nat.{ℕ, ◌+◌}
 use mathlib.Core.Path.{ap}
 use native.Mathlib.Omega.{arith}
-use Rattle.lifting.proofs.Stretching.{rest_down, hops_less, stretch_loops, stretch_fits, stretch_rest, lower_here, lower_step}
+use Rattle.lifting.proofs.Stretching.{rest_down, hops_less, stretch_fits, stretch_rest, lower_here, lower_step}
 use Rattle.lifting.proofs.+lower.Goals as goal
 
 -- ── No edge left ──

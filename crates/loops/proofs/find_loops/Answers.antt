@@ -1,9 +1,7 @@
 -- `loops::find_loops` meets its contract.
-use Prim.Native.Nat.{ℕ, ◌+◌, ◌-◌, ◌*◌}
-use mathlib.Core.Path.{◌≡◌, ◌∙◌}
+use mathlib.Core.Path.{◌∙◌}
 use native.Mathlib.Omega.{arith}
 use Rattle.detours.specs.Visits.{Ready}
-use Rattle.loops.specs.Growing.{total, Grown, Settled}
 use Rattle.loops.proofs.Grows.{ready_kept, grown_none, grown_then}
 use Rattle.loops.proofs.Passing.{total_le, ready_of, passed_settled, found}
 use Rattle.loops.proofs.find_loops.Goals as goal

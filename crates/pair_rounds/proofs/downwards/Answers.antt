@@ -1,8 +1,6 @@
 -- `pair_rounds::downwards` meets its contract.
-use Prim.Native.Nat.{◌<◌, ◌-◌}
 use native.Mathlib.Omega.{arith}
-use Rattle.pair_rounds.specs.Rounds.{Passed, Falls}
-use Rattle.pairs.specs.Growing.{Everywhere}
+use Rattle.pair_rounds.specs.Rounds.{Falls}
 use Rattle.pairs.proofs.Framing.{ready_kept}
 use Rattle.pair_rounds.proofs.Passing.{passed_map, passed_none, passed_small, down_more}
 use Rattle.pair_rounds.proofs.downwards.Goals as goal

@@ -2,7 +2,6 @@
 use mathlib.Core.Logic.{inl, inr}
 use native.Mathlib.Omega.{arith}
 use Rattle.pair_rounds.proofs.Passing.{fallen}
-use borrow.Author.Rules.{rules}
 use Rattle.pair_rounds.proofs.fall.Goals as goal
 
 pub pair_at-requires : goal.pair_at-requires

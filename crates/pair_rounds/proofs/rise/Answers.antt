@@ -2,7 +2,6 @@
 use mathlib.Core.Logic.{inr}
 use native.Mathlib.Omega.{arith}
 use Rattle.pair_rounds.proofs.Passing.{risen}
-use borrow.Author.Rules.{rules}
 use Rattle.pair_rounds.proofs.rise.Goals as goal
 
 pub pair_at-requires-2 : goal.pair_at-requires-2

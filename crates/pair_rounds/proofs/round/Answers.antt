@@ -2,7 +2,6 @@
 use native.Mathlib.Omega.{arith}
 use Rattle.pairs.proofs.Framing.{ready_kept}
 use Rattle.pair_rounds.proofs.Passing.{passed_small, both}
-use borrow.Author.Rules.{rules}
 use Rattle.pair_rounds.proofs.round.Goals as goal
 
 pub downwards-down-requires : goal.downwards-down-requires

@@ -1,9 +1,5 @@
 -- `pair_rounds::spread` meets its contract.
-use Prim.Native.Nat.{◌+◌, ◌*◌, ◌-◌}
-use mathlib.Core.Path.{◌≡◌}
 use native.Mathlib.Omega.{arith}
-use Rattle.pairs.specs.Growing.{Grown}
-use Rattle.pair_rounds.specs.Rounds.{total, Still}
 use Rattle.pairs.proofs.Framing.{ready_kept}
 use Rattle.pairs.proofs.Grows.{grown_none, grown_then}
 use Rattle.pair_rounds.proofs.Passing.{round_less, passed_still}

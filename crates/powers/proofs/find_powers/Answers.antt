@@ -1,8 +1,8 @@
 -- `powers::find_powers` meets its contract.
-use Prim.Native.Nat.{◌+◌, ◌-◌, ◌*◌, ◌≤◌}
+use Prim.Native.Nat.{◌+◌, ◌*◌, ◌≤◌}
 use native.Mathlib.Nat.{mul-le-mul_right}
 use native.Mathlib.Omega.{arith}
-use Rattle.powers.proofs.Passing.{Rising, rising_none, rising_step, rising_all}
+use Rattle.powers.proofs.Passing.{rising_none, rising_step, rising_all}
 use Rattle.powers.proofs.find_powers.Goals as goal
 
 pub loop-k-init : goal.loop-k-init

@@ -1,8 +1,6 @@
 -- `powers::find_powers` meets its contract.
-use Prim.Native.Nat.{◌+◌, ◌-◌, ◌*◌, ◌≤◌}
-use native.Mathlib.Nat.{mul-le-mul_right}
-use native.Mathlib.Omega.{arith}
-use Rattle.powers.proofs.Passing.{Rising, rising_none, rising_step, rising_all}
+use Prim.Native.Nat.{◌-◌, ◌≤◌}
+use Rattle.powers.proofs.Passing.{Rising}
 use Rattle.powers.proofs.find_powers.Given as goal
 
 abbrev pub invariant-loop-k : goal.invariant-loop-k

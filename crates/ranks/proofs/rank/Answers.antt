@@ -1,7 +1,6 @@
 -- `ranks::rank` meets its contract.
 use Rattle.value_notes.proofs.Annotated.{annotated}
 use Rattle.ranks.proofs.Ranked.{written}
-use borrow.Author.Rules.{rules}
 use Rattle.ranks.proofs.rank.Goals as goal
 
 pub sort-requires : goal.sort-requires

@@ -1,12 +1,10 @@
 -- `reach::reach` meets its contract.
-use Prim.Native.Nat.{◌*◌, ◌-◌}
 use mathlib.Core.Path.{◌∙◌}
 use native.Mathlib.Omega.{arith}
-use Rattle.layout.specs.Part.{NODES}
 use Rattle.reach.proofs.Totals.{work_room}
 use Rattle.reach.proofs.Adding.{spared_then}
 use Rattle.reach.proofs.Clearing.{cleared_spared, cleared_work}
-use Rattle.reach.proofs.Reaching.{Working, working_start, working_step, working_all}
+use Rattle.reach.proofs.Reaching.{working_start, working_step, working_all}
 use Rattle.reach.proofs.reach.Goals as goal
 
 pub fill-requires : goal.fill-requires

@@ -7,7 +7,6 @@ use Rattle.tokens.specs.Readers.{Reading}
 use Rattle.rule.specs.Check.{Judged}
 use Rattle.tokens.proofs.Halted.{back}
 use Rattle.rule.proofs.Verdicts.{too_long, stuck_judged, deep_judged, goes_on_judged, end_judged}
-use borrow.Author.Rules.{rules}
 use Rattle.rule.proofs.check.Goals as goal
 
 pub returns-then-s-gt-MAX_BYTES : goal.returns-then-s-gt-MAX_BYTES

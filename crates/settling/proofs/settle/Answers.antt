@@ -2,7 +2,6 @@
 use Rattle.pairs.proofs.Framing.{ready_kept}
 use Rattle.settling.proofs.Finding.{ready_of, settled}
 use Rattle.machine.proofs.Comparing.{second_few_lem}
-use borrow.Author.Rules.{rules}
 use Rattle.settling.proofs.settle.Goals as goal
 
 pub start-requires : goal.start-requires

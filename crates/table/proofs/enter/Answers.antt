@@ -1,7 +1,6 @@
 -- `table::enter` meets its contract.
 use native.Mathlib.Omega.{arith}
 use Rattle.layout.proofs.Cells.{wrote_then}
-use borrow.Author.Rules.{rules}
 use Rattle.table.proofs.enter.Goals as goal
 
 pub returns : goal.returns

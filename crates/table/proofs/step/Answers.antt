@@ -5,7 +5,6 @@ use mathlib.Core.Bool.{true, false}
 use native.Mathlib.Omega.{arith}
 use borrow.Author.Tests.{lt-ltb, le-ltb}
 use Rattle.table.proofs.Cells.{hung_then}
-use borrow.Author.Rules.{rules}
 use Rattle.table.proofs.step.Goals as goal
 
 pub put-requires-else-before-depth : goal.put-requires-else-before-depth

@@ -1,6 +1,5 @@
 -- `texts::join` meets its contract.
 use Rattle.texts.proofs.Bounds.{bounds_join}
-use borrow.Author.Rules.{rules}
 use Rattle.texts.proofs.join.Goals as goal
 
 pub returns : goal.returns

@@ -3,7 +3,6 @@ use mathlib.Core.Logic.{inl, inr}
 use Rattle.document_spec.specs.Library.{at}
 use Rattle.texts.proofs.Nodes.{element_blank, attribute_blank, kind_is, entry_speaks, entry_blank}
 use Rattle.texts.proofs.Bounds.{silent_one, spoken_one}
-use borrow.Author.Rules.{rules}
 use Rattle.texts.proofs.own.Goals as goal
 
 pub returns-in-Element : goal.returns-in-Element

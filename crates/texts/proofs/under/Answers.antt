@@ -6,7 +6,6 @@ use native.Mathlib.Omega.{arith}
 use Rattle.layout.specs.Words.{NONE}
 use Rattle.texts.specs.Texts.{Bounds}
 use Rattle.texts.proofs.Told.{under_none, under_some}
-use borrow.Author.Rules.{rules}
 use Rattle.texts.proofs.under.Goals as goal
 
 is-node : {v n : ℕ} → (v < n) ⊎ (v ≡ NONE) → ¬ (v ≡ NONE) → v < n

@@ -4,7 +4,6 @@ use native.Mathlib.Numerals.{add-one}
 use mathlib.Core.Path.{subst}
 use Rattle.tokens.specs.Readers.{Stood}
 use Rattle.tokens.proofs.Bytes.{byte_back, byte_stuck}
-use borrow.Author.Rules.{rules}
 use Rattle.tokens.proofs.closing.Goals as goal
 
 pub returns-then-stands : goal.returns-then-stands

@@ -4,7 +4,6 @@ use Rattle.limits.specs.Limits.{constant_bytes}
 use Rattle.rule_spec.specs.Machine.{quoted}
 use Rattle.tokens.proofs.Halted.{back, halted}
 use Rattle.tokens.proofs.Constants.{constant_halts, constant_reads}
-use borrow.Author.Rules.{rules}
 use borrow.Enum.Refused.{opened}
 use Rattle.tokens.proofs.constant.Goals as goal
 

@@ -1,12 +1,8 @@
 -- `tokens::figures` meets its contract.
-use Prim.Native.Nat.{◌-◌, ◌≤◌, ◌<◌}
-use lib.ListN.{length, get_or, drop}
+use lib.ListN.{get_or}
 use native.Mathlib.Omega.{arith}
-use mathlib.Core.Path.{◌≡◌, sym, ◌∙◌}
-use borrow.Author.Tests.{not-true, not-false}
-use Rattle.limits.specs.Limits.{rule_count}
+use mathlib.Core.Path.{sym, ◌∙◌}
 use Rattle.rule_spec.proofs.Figures.{goesOn_iff}
-use Rattle.tokens.specs.Numbers.{figured, numbered}
 use Rattle.tokens.proofs.Numbers.{in_digits, none_at_end, ended, none_here, first_digit, next_digit, none_next}
 use Rattle.tokens.proofs.figures.Goals as goal
 

@@ -1,13 +1,9 @@
 -- `tokens::figures` meets its contract.
 use Prim.Native.Nat.{◌-◌, ◌≤◌, ◌<◌}
-use lib.ListN.{length, get_or, drop}
-use native.Mathlib.Omega.{arith}
-use mathlib.Core.Path.{◌≡◌, sym, ◌∙◌}
-use borrow.Author.Tests.{not-true, not-false}
+use lib.ListN.{length, drop}
+use mathlib.Core.Path.{◌≡◌}
 use Rattle.limits.specs.Limits.{rule_count}
-use Rattle.rule_spec.proofs.Figures.{goesOn_iff}
 use Rattle.tokens.specs.Numbers.{figured, numbered}
-use Rattle.tokens.proofs.Numbers.{in_digits, none_at_end, ended, none_here, first_digit, next_digit, none_next}
 use Rattle.tokens.proofs.figures.Given as goal
 
 -- ── The loop's invariant ──

@@ -1,8 +1,6 @@
 -- `tokens::goes_on` meets its contract.
 use mathlib.Core.Path.{sym, ◌∙◌}
-use borrow.Author.Tests.{not-true, not-false}
 use Rattle.tokens.proofs.Numbers.{in_digits, no_digit_more, none_behind_zero, within_limit}
-use borrow.Author.Rules.{rules}
 use Rattle.tokens.proofs.goes_on.Goals as goal
 
 pub returns-then-not-fits : goal.returns-then-not-fits

@@ -4,7 +4,6 @@ use mathlib.Core.Path.{refl}
 use Rattle.rule_spec.specs.Machine.{rest}
 use Rattle.tokens.proofs.Places.{at_end_lem, stuck_end}
 use Rattle.tokens.proofs.Names.{name_back, name_stuck}
-use borrow.Author.Rules.{rules}
 use Rattle.tokens.proofs.name.Goals as goal
 
 pub returns-then-at-s : goal.returns-then-at-s

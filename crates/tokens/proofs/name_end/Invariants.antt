@@ -1,10 +1,7 @@
 -- `tokens::name_end` meets its contract.
 use Prim.Native.Nat.{◌-◌, ◌≤◌}
 use lib.ListN.{length}
-use native.Mathlib.Omega.{arith}
-use mathlib.Core.Path.{refl, sym, ◌∙◌}
-use borrow.Author.Tests.{not-true, not-false}
-use Rattle.tokens.proofs.Names.{TailRun, tail_none, tail_more, tail_end, tail_full, tail_stops}
+use Rattle.tokens.proofs.Names.{TailRun}
 use Rattle.tokens.proofs.name_end.Given as goal
 
 abbrev pub invariant-loop-i : goal.invariant-loop-i

@@ -1,7 +1,5 @@
 -- `tokens::number` meets its contract.
-use native.Mathlib.Omega.{arith}
 use Rattle.tokens.proofs.Numbers.{number_stuck, number_back}
-use borrow.Author.Rules.{rules}
 use Rattle.tokens.proofs.number.Goals as goal
 
 pub returns-then-j-at : goal.returns-then-j-at

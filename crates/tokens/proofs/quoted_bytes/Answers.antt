@@ -1,10 +1,7 @@
 -- `tokens::quoted_bytes` meets its contract.
-use Prim.Native.Nat.{◌-◌, ◌≤◌}
-use lib.ListN.{length}
 use native.Mathlib.Omega.{arith}
 use mathlib.Core.Path.{refl, sym, ◌∙◌}
-use borrow.Author.Tests.{not-true, not-false}
-use Rattle.tokens.proofs.Constants.{QuotedRun, quoted_none, quoted_more, quoted_ends, quoted_end, quoted_full, quoted_stops}
+use Rattle.tokens.proofs.Constants.{quoted_none, quoted_more, quoted_ends, quoted_end, quoted_full, quoted_stops}
 use Rattle.tokens.proofs.quoted_bytes.Goals as goal
 
 pub loop-i-init : goal.loop-i-init

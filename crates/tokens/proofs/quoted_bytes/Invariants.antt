@@ -1,10 +1,7 @@
 -- `tokens::quoted_bytes` meets its contract.
 use Prim.Native.Nat.{◌-◌, ◌≤◌}
 use lib.ListN.{length}
-use native.Mathlib.Omega.{arith}
-use mathlib.Core.Path.{refl, sym, ◌∙◌}
-use borrow.Author.Tests.{not-true, not-false}
-use Rattle.tokens.proofs.Constants.{QuotedRun, quoted_none, quoted_more, quoted_ends, quoted_end, quoted_full, quoted_stops}
+use Rattle.tokens.proofs.Constants.{QuotedRun}
 use Rattle.tokens.proofs.quoted_bytes.Given as goal
 
 abbrev pub invariant-loop-i : goal.invariant-loop-i

@@ -7,7 +7,6 @@ use Rattle.xpath.specs.Syntax.{eq, ne}
 use Rattle.tokens.specs.Readers.{Stood}
 use Rattle.tokens.proofs.Places.{stands_at}
 use Rattle.tokens.proofs.Signs.{equal_sign, unequal_sign, unequal_stuck, order_equal, order_alone, no_sign, no_sign_end}
-use borrow.Author.Rules.{rules}
 use Rattle.tokens.proofs.read_sign.Goals as goal
 
 -- ── The end of the rule ──

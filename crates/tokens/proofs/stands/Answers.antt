@@ -1,7 +1,6 @@
 -- `tokens::stands` meets its contract.
 use native.Mathlib.Omega.{arith}
 use Rattle.tokens.proofs.Places.{lacks_end, stood_at}
-use borrow.Author.Rules.{rules}
 use Rattle.tokens.proofs.stands.Goals as goal
 
 pub returns-then-at-s : goal.returns-then-at-s

@@ -2,7 +2,6 @@
 use mathlib.Core.Path.{refl}
 use native.Mathlib.Omega.{arith}
 use Rattle.values.proofs.Cursor.{node_inside, next_inside, next_room, onward_last, onward_inner}
-use borrow.Author.Rules.{rules}
 use Rattle.values.proofs.onward.Goals.{then-u-c, else-u-c}
 use Rattle.values.proofs.onward.Goals as goal
 

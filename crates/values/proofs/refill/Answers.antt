@@ -2,7 +2,6 @@
 use mathlib.Core.Logic.{inl, inr}
 use native.Mathlib.Omega.{arith}
 use Rattle.values.proofs.Cursor.{filled_now, filled_further}
-use borrow.Author.Rules.{rules}
 use Rattle.values.proofs.refill.Goals as goal
 
 pub returns-then-c : goal.returns-then-c

@@ -1,6 +1,5 @@
 -- `values::value_of` meets its contract.
 use Rattle.values.proofs.Cursor.{note_here, note_first, opens_alone, opens_several, note_several}
-use borrow.Author.Rules.{rules}
 use Rattle.values.proofs.value_of.Goals as goal
 
 pub get_note-y-requires : goal.get_note-y-requires

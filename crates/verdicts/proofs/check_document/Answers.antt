@@ -2,7 +2,6 @@
 use mathlib.Core.Path.{sym, subst}
 use Rattle.document_spec.specs.Verdict.{Checked}
 use Rattle.verdicts.proofs.Verdicts.{checked_by}
-use borrow.Author.Rules.{rules}
 use Rattle.verdicts.proofs.check_document.Goals as goal
 
 pub returns : goal.returns

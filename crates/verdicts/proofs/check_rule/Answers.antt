@@ -2,7 +2,6 @@
 use mathlib.Core.Path.{sym, subst}
 use Rattle.rule_spec.specs.Verdict.{Checked}
 use Rattle.verdicts.proofs.RuleVerdicts.{rule_checked_by}
-use borrow.Author.Rules.{rules}
 use Rattle.verdicts.proofs.check_rule.Goals as goal
 
 pub returns : goal.returns

@@ -1,10 +1,7 @@
 -- `verdicts::has_nodes` meets its contract.
 use Prim.Native.Nat.{◌-◌, ◌≤◌}
 use lib.ListN.{length}
-use native.Mathlib.Omega.{arith}
-use borrow.Author.Rules.{rules}
-use Rattle.lists.proofs.Indices.{occurs_at}
-use Rattle.verdicts.proofs.Nodes.{Behind, behind_more, behind_all}
+use Rattle.verdicts.proofs.Nodes.{Behind}
 use Rattle.verdicts.proofs.has_nodes.Given as goal
 
 abbrev pub invariant-loop-i : goal.invariant-loop-i

@@ -1,6 +1,5 @@
 -- `verdicts::judge` meets its contract.
 use Rattle.verdicts.proofs.Judging.{needed_told, by_texts, by_buffers}
-use borrow.Author.Rules.{rules}
 use Rattle.verdicts.proofs.judge.Goals as goal
 
 pub returns-then-t-ne0 : goal.returns-then-t-ne0

@@ -2,7 +2,6 @@
 use native.Mathlib.Omega.{arith}
 use mathlib.Core.Path.{refl}
 use Rattle.verdicts.specs.Judging.{short, few, enough}
-use borrow.Author.Rules.{rules}
 use Rattle.verdicts.proofs.judge_buffers.Goals as goal
 
 pub returns-then-words-needed : goal.returns-then-words-needed

@@ -1,6 +1,5 @@
 -- `verdicts::judge_texts` meets its contract.
 use Rattle.verdicts.proofs.Judging.{by_first, by_second, by_both}
-use borrow.Author.Rules.{rules}
 use Rattle.verdicts.proofs.judge_texts.Goals as goal
 
 pub returns-then-d-ne0 : goal.returns-then-d-ne0

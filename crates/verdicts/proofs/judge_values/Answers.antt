@@ -3,7 +3,6 @@ use mathlib.Core.Path.{subst}
 use Rattle.verdicts.specs.Judging.{Equates, HasNodes}
 use Rattle.verdicts.proofs.Judging.{needed_told, rule_told}
 use Rattle.verdicts.proofs.JudgingValues.{values_texts, values_other, values_buffers, values_node, values_none}
-use borrow.Author.Rules.{rules}
 use Rattle.verdicts.proofs.judge_values.Goals as goal
 
 pub returns-then-t-ne0 : goal.returns-then-t-ne0

@@ -1,7 +1,6 @@
 -- `verdicts::rule_answer` meets its contract.
 use mathlib.Core.Path.{sym, ap}
 use Rattle.verdicts.specs.Answers.{rule_answer_of}
-use borrow.Author.Rules.{rules}
 use Rattle.verdicts.proofs.rule_answer.Goals as goal
 
 pub returns-in-Accepted : goal.returns-in-Accepted

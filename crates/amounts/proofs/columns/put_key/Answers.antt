@@ -1,6 +1,5 @@
 -- `amounts::columns::put_key` meets its contract.
 use Rattle.amounts.proofs.Words.{keyed_wrote}
-use borrow.Author.Rules.{rules}
 use Rattle.amounts.proofs.columns.put_key.Goals as goal
 
 pub returns : goal.returns

@@ -1,13 +1,10 @@
 -- `amounts::keys::node_key` meets its contract.
-use mathlib.Core.Path.{ap}
 use mathlib.Core.List.{List}
-use native.Mathlib.Omega.{arith}
 use Rattle.document_spec.specs.Library.{Node}
 use Rattle.document_spec.specs.Verdict.{Accepts}
-use Rattle.values.specs.Comes.{weight, Filled}
+use Rattle.values.specs.Comes.{weight}
 use Rattle.numerals.specs.Scans.{Fits}
-use Rattle.amounts.proofs.Reading.{ReadTo, read_none, read_filled, read_more, read_all, read_failed}
-use borrow.Author.Tests.{not-false}
+use Rattle.amounts.proofs.Reading.{ReadTo}
 use Rattle.amounts.proofs.keys.node_key.Given as goal
 
 abbrev pub invariant-loop-x : goal.invariant-loop-x

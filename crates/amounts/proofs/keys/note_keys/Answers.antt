@@ -1,10 +1,8 @@
 -- `amounts::keys::note_keys` meets its contract.
-use Prim.Native.Nat.{◌-◌}
 use native.Mathlib.Omega.{arith}
 use native.Mathlib.Numerals.{add-one}
 use Rattle.layout.proofs.Frames.{room_within}
 use Rattle.value_notes.proofs.Annotated.{annotated_behind}
-use Rattle.amounts.specs.Steps.{Keyed}
 use Rattle.amounts.proofs.Keying.{key_fits, keyed_none, keyed_step, keyed_all}
 use Rattle.amounts.proofs.keys.note_keys.Goals as goal
 

@@ -1,9 +1,8 @@
 -- `amounts::number::number` meets its contract.
-use Prim.Native.Nat.{◌-◌}
 use native.Mathlib.Omega.{arith}
 use native.Mathlib.Numerals.{add-one}
 use Rattle.layout.proofs.Frames.{room_within}
-use Rattle.amounts.proofs.Numbering.{Numbering, numbering_none, numbering_within, numbering_small, numbering_last, numbering_below, numbering_step, numbering_all}
+use Rattle.amounts.proofs.Numbering.{numbering_none, numbering_within, numbering_small, numbering_last, numbering_below, numbering_step, numbering_all}
 use Rattle.amounts.proofs.number.number.Goals as goal
 
 pub get-u-requires : goal.get-u-requires

@@ -1,7 +1,6 @@
 -- `amounts::number::rise` meets its contract.
 use native.Mathlib.Omega.{arith}
 use Rattle.amounts.proofs.Numbering.{rise_some, rise_none}
-use borrow.Author.Rules.{rules}
 use Rattle.amounts.proofs.number.rise.Goals as goal
 
 pub returns-then-get_key : goal.returns-then-get_key

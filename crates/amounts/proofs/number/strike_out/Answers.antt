@@ -1,9 +1,7 @@
 -- `amounts::number::strike_out` meets its contract.
-use Prim.Native.Nat.{◌-◌}
 use native.Mathlib.Omega.{arith}
 use native.Mathlib.Numerals.{add-one}
 use Rattle.layout.proofs.Frames.{room_within}
-use Rattle.amounts.specs.Steps.{Struck}
 use Rattle.amounts.proofs.Striking.{struck_none, struck_step, struck_all}
 use Rattle.amounts.proofs.number.strike_out.Goals as goal
 

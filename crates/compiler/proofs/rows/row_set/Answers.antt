@@ -1,12 +1,7 @@
 -- `compiler::rows::row_set` meets its contract.
-use mathlib.Core.Path.{◌≡◌, sym, ◌∙◌}
-use mathlib.Core.Logic.{⊎_elim}
+use mathlib.Core.Path.{sym, ◌∙◌}
 use Rattle.rule_spec.proofs.Bytes.{clash}
-use Prim.Native.Nat.{◌≤◌, ◌-◌}
 use native.Mathlib.Omega.{arith}
-use mathlib.Core.Bool.{true, false}
-use lib.ListN.{get_or}
-use Rattle.compiler.specs.Gathered.{Gathered}
 use Rattle.compiler.proofs.Gathering.{gathered_none, gathered_in, gathered_out, gathered_all}
 use Rattle.compiler.proofs.rows.row_set.Goals as goal
 use Rattle.compiler.proofs.rows.row_set.Goals.{then-row-j, else-row-j}

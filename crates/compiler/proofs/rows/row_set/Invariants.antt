@@ -1,13 +1,9 @@
 -- `compiler::rows::row_set` meets its contract.
-use mathlib.Core.Path.{◌≡◌, sym, ◌∙◌}
-use mathlib.Core.Logic.{⊎_elim}
-use Rattle.rule_spec.proofs.Bytes.{clash}
+use mathlib.Core.Path.{◌≡◌}
 use Prim.Native.Nat.{◌≤◌, ◌-◌}
-use native.Mathlib.Omega.{arith}
 use mathlib.Core.Bool.{true, false}
 use lib.ListN.{get_or}
 use Rattle.compiler.specs.Gathered.{Gathered}
-use Rattle.compiler.proofs.Gathering.{gathered_none, gathered_in, gathered_out, gathered_all}
 use Rattle.compiler.proofs.rows.row_set.Given as goal
 
 abbrev pub invariant-loop-j : goal.invariant-loop-j

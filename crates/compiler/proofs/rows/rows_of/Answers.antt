@@ -1,8 +1,7 @@
 -- `compiler::rows::rows_of` meets its contract.
 use mathlib.Core.Path.{refl}
-use Prim.Native.Nat.{◌≤◌, ◌-◌}
 use native.Mathlib.Omega.{arith}
-use Rattle.compiler.proofs.Gathering.{Rows, rows_none, rows_more}
+use Rattle.compiler.proofs.Gathering.{rows_none, rows_more}
 use Rattle.compiler.proofs.rows.rows_of.Goals as goal
 
 pub loop-i-init : goal.loop-i-init

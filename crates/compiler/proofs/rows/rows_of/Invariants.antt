@@ -1,8 +1,6 @@
 -- `compiler::rows::rows_of` meets its contract.
-use mathlib.Core.Path.{refl}
 use Prim.Native.Nat.{◌≤◌, ◌-◌}
-use native.Mathlib.Omega.{arith}
-use Rattle.compiler.proofs.Gathering.{Rows, rows_none, rows_more}
+use Rattle.compiler.proofs.Gathering.{Rows}
 use Rattle.compiler.proofs.rows.rows_of.Given as goal
 
 abbrev pub invariant-loop-i : goal.invariant-loop-i

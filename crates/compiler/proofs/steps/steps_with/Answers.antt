@@ -1,8 +1,5 @@
 -- `compiler::steps::steps_with` meets its contract.
-use mathlib.Core.Logic.{⊎_elim}
-use Prim.Native.Nat.{◌≤◌, ◌-◌, ◌+◌}
 use native.Mathlib.Omega.{arith}
-use Rattle.compiler.specs.Gathered.{Gathered, Begins}
 use Rattle.compiler.proofs.Gathering.{gathered_none, gathered_in, gathered_out, gathered_all}
 use Rattle.compiler.proofs.steps.steps_with.Goals as goal
 use Rattle.compiler.proofs.steps.steps_with.Goals.{then-s-places, else-s-places}

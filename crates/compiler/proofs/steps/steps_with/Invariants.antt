@@ -1,9 +1,6 @@
 -- `compiler::steps::steps_with` meets its contract.
-use mathlib.Core.Logic.{⊎_elim}
 use Prim.Native.Nat.{◌≤◌, ◌-◌, ◌+◌}
-use native.Mathlib.Omega.{arith}
 use Rattle.compiler.specs.Gathered.{Gathered, Begins}
-use Rattle.compiler.proofs.Gathering.{gathered_none, gathered_in, gathered_out, gathered_all}
 use Rattle.compiler.proofs.steps.steps_with.Given as goal
 
 abbrev pub invariant-loop-i : goal.invariant-loop-i

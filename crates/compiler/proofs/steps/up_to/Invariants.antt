@@ -1,9 +1,6 @@
 -- `compiler::steps::up_to` meets its contract.
-use mathlib.Core.Path.{refl}
 use Prim.Native.Nat.{◌≤◌, ◌-◌, ◌+◌}
-use native.Mathlib.Omega.{arith}
 use Rattle.compiler.specs.Gathered.{Gathered}
-use Rattle.compiler.proofs.Gathering.{gathered_none, gathered_in}
 use Rattle.compiler.proofs.steps.up_to.Given as goal
 
 abbrev pub invariant-loop-j : goal.invariant-loop-j

@@ -1,5 +1,4 @@
 -- `detours::begin::begin` meets its contract.
-use borrow.Author.Rules.{rules}
 use Rattle.detours.proofs.Beginning.{begun}
 use Rattle.detours.proofs.begin.begin.Goals as goal
 

@@ -1,10 +1,7 @@
 -- `detours::begin::draw` meets its contract.
-use Prim.Native.Nat.{◌≤◌, ◌-◌}
 use native.Mathlib.Omega.{arith}
-use Rattle.matrices.specs.Matrices.{Drawing}
 use Rattle.matrices.proofs.Members.{and_iff}
 use Rattle.matrices.proofs.Drawing.{drawing_none, drawing_step, drawing_to}
-use Rattle.detours.specs.Visits.{Steps}
 use Rattle.detours.proofs.begin.draw.Goals as goal
 
 pub loop-i-init : goal.loop-i-init

@@ -1,7 +1,6 @@
 -- `detours::place::above` meets its contract.
 use mathlib.Core.Path.{ap, ◌∙◌}
 use native.Mathlib.Omega.{arith}
-use borrow.Author.Rules.{rules}
 use Rattle.layout.specs.Part.{loop_at}
 use Rattle.detours.proofs.place.above.Goals as goal
 

@@ -1,5 +1,4 @@
 -- `detours::visit::detour` meets its contract.
-use borrow.Author.Rules.{rules}
 use Rattle.detours.proofs.Detours.{detours}
 use Rattle.detours.proofs.visit.detour.Goals as goal
 

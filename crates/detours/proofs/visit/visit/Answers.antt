@@ -1,5 +1,4 @@
 -- `detours::visit::visit` meets its contract.
-use borrow.Author.Rules.{rules}
 use Rattle.detours.proofs.Detours.{visited_none, visited_some}
 use Rattle.detours.proofs.visit.visit.Goals as goal
 

@@ -1,9 +1,6 @@
 -- `detours::visit::widen` meets its contract.
-use Prim.Native.Nat.{◌≤◌, ◌-◌}
 use native.Mathlib.Omega.{arith}
-use Rattle.matrices.specs.Widening.{Widening}
 use Rattle.matrices.proofs.Widening.{widening_none, widening_to}
-use Rattle.detours.specs.Visits.{Widened}
 use Rattle.detours.proofs.Detours.{widening_step}
 use Rattle.detours.proofs.visit.widen.Goals as goal
 

@@ -1,7 +1,6 @@
 -- `document::nodes::begin_labels` meets its contract.
 use mathlib.Core.Path.{refl, sym, subst, subst₂}
 use Rattle.document.specs.Check.{Opened}
-use borrow.Author.Rules.{rules}
 use Rattle.document.proofs.nodes.begin_labels.Goals as goal
 
 pub returns-in-Element : goal.returns-in-Element

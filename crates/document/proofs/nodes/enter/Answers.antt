@@ -8,7 +8,6 @@ use Rattle.label_trees.specs.declared.Added.{Added}
 use Rattle.label_trees.specs.declared.Added.TheVariants.{New, Twice, Full}
 use Rattle.label_trees.specs.Trees.{Adds}
 use Rattle.document.specs.Check.{Enterable, Entered}
-use borrow.Author.Rules.{rules}
 use Rattle.document.proofs.nodes.enter.Goals as goal
 
 -- the words are as many as before

@@ -1,10 +1,8 @@
 -- `document::nodes::kind_step` meets its contract.
 use mathlib.Core.Path.{refl, subst, ◌∙◌}
 use native.Mathlib.Omega.{arith}
-use Rattle.document_lines.specs.Nodes.{Told, KindRule, KindRead}
-use Rattle.document_lines.specs.declared.lines.KindLine.TheVariants.{Is}
+use Rattle.document_lines.specs.Nodes.{Told, KindRule}
 use Rattle.document.proofs.Steps.{kind_form, kind_on, kind_behind, kind_tree}
-use borrow.Author.Rules.{rules}
 use Rattle.document.proofs.nodes.kind_step.Goals as goal
 
 pub returns-in_default : goal.returns-in_default

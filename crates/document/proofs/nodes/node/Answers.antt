@@ -1,11 +1,7 @@
 -- `document::nodes::node` meets its contract.
 use mathlib.Core.Path.{refl, subst}
-use Rattle.lists.specs.Text.{bytes}
-use Rattle.lexer.specs.Reading.{NumberedLine}
-use Rattle.lexer.specs.declared.Numeral.TheVariants.{Value}
 use Rattle.document_lines.specs.Nodes.{Told, DepthRule}
 use Rattle.document.proofs.Steps.{depth_form, depth_on, depth_tree}
-use borrow.Author.Rules.{rules}
 use Rattle.document.proofs.nodes.node.Goals as goal
 
 pub returns-in_default : goal.returns-in_default

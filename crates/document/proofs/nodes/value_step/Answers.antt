@@ -6,7 +6,6 @@ use Rattle.document_lines.specs.Nodes.{Told, kind_of, IsValue}
 use Rattle.document_spec.specs.Library.{ValueRule}
 use Rattle.lexer.specs.declared.Ending.TheVariants.{Next}
 use Rattle.document.proofs.Steps.{value_form, value_length, value_on, value_tree}
-use borrow.Author.Rules.{rules}
 use Rattle.document.proofs.nodes.value_step.Goals as goal
 
 -- the line that was read

@@ -1,7 +1,6 @@
 -- `edge_snippets::rows::across` meets its contract.
 use mathlib.Core.Path.{sym, ◌∙◌}
 use Rattle.edge_snippets.proofs.Crossing.{across_first, across_second}
-use borrow.Author.Rules.{rules}
 use Rattle.edge_snippets.proofs.rows.across.Goals as goal
 
 pub returns-then-has : goal.returns-then-has

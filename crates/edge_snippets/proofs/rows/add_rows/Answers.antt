@@ -1,9 +1,6 @@
 -- `edge_snippets::rows::add_rows` meets its contract.
-use Prim.Native.Nat.{◌≤◌, ◌-◌}
 use native.Mathlib.Omega.{arith}
-use Rattle.matrices.specs.Matrices.{Drawing}
 use Rattle.matrices.proofs.Drawing.{drawing_none, drawing_to}
-use Rattle.edge_snippets.specs.Edges.{Crossed}
 use Rattle.edge_snippets.proofs.Crossing.{crossed_step}
 use Rattle.edge_snippets.proofs.rows.add_rows.Goals as goal
 

@@ -1,7 +1,6 @@
 -- `edge_snippets::rows::widened` meets its contract.
 use mathlib.Core.Path.{sym, ◌∙◌}
 use Rattle.edge_snippets.proofs.Crossing.{widened, not_widened}
-use borrow.Author.Rules.{rules}
 use Rattle.edge_snippets.proofs.rows.widened.Goals as goal
 
 pub returns-then-has : goal.returns-then-has

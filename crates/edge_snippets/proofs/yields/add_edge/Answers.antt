@@ -3,7 +3,6 @@ use native.Mathlib.Omega.{arith}
 use Rattle.lifting.proofs.Stretching.{stretch_short}
 use Rattle.lifting.proofs.Rest.{stretch_kept}
 use Rattle.edge_snippets.proofs.Yielding.{both_gained}
-use borrow.Author.Rules.{rules}
 use Rattle.edge_snippets.proofs.yields.add_edge.Goals as goal
 
 pub exponent-k-requires : goal.exponent-k-requires

@@ -4,7 +4,6 @@ use native.Mathlib.Omega.{arith}
 use Rattle.edge_snippets.proofs.Lengths.{stretch_lower}
 use Rattle.edge_snippets.proofs.Yielding.{low_exponent, part_fits, upper_node, upper_gained}
 use mathlib.Core.Path.{refl}
-use borrow.Author.Rules.{rules}
 use Rattle.edge_snippets.proofs.yields.add_upper.Goals as goal
 
 pub two_to-requires : goal.two_to-requires

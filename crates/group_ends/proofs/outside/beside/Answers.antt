@@ -1,7 +1,6 @@
 -- `group_ends::outside::beside` meets its contract.
 use mathlib.Core.Path.{sym, ◌∙◌}
 use mathlib.Core.Logic.{inl, inr}
-use borrow.Author.Rules.{rules}
 use Rattle.group_ends.proofs.outside.beside.Goals as goal
 
 pub returns-then-left-child : goal.returns-then-left-child

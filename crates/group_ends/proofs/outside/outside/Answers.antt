@@ -1,6 +1,5 @@
 -- `group_ends::outside::outside` meets its contract.
 use Rattle.group_ends.proofs.Around.{outside_found}
-use borrow.Author.Rules.{rules}
 use Rattle.group_ends.proofs.outside.outside.Goals as goal
 
 pub returns : goal.returns

@@ -1,7 +1,6 @@
 -- `group_ends::own::own` meets its contract.
 use mathlib.Core.Path.{sym, ◌∙◌}
 use Rattle.group_ends.proofs.Owning.{own_here, own_none}
-use borrow.Author.Rules.{rules}
 use Rattle.group_ends.proofs.own.own.Goals as goal
 
 pub returns-then-get-r : goal.returns-then-get-r

@@ -1,10 +1,6 @@
 -- `group_ends::rising::clear` meets its contract.
 use Prim.Native.Nat.{◌-◌}
-use mathlib.Core.Path.{◌≡◌, subst}
-use native.Mathlib.Omega.{arith}
-use Rattle.layout.proofs.Frames.{room_within}
 use Rattle.group_ends.specs.Steps.{Cleared}
-use Rattle.group_ends.proofs.Ascending.{cleared_none}
 use Rattle.group_ends.proofs.rising.clear.Given as goal
 
 abbrev pub invariant-loop-v : goal.invariant-loop-v

@@ -1,7 +1,6 @@
 -- `group_ends::rising::clear_from` meets its contract.
 use native.Mathlib.Omega.{arith}
 use Rattle.group_ends.proofs.Ascending.{cleared_step, cleared_block}
-use borrow.Author.Rules.{rules}
 use Rattle.group_ends.proofs.rising.clear_from.Goals as goal
 
 pub returns-then-is_empty : goal.returns-then-is_empty

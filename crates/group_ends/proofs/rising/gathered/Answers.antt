@@ -1,6 +1,5 @@
 -- `group_ends::rising::gathered` meets its contract.
 use Rattle.group_ends.proofs.Ascending.{gathered_found}
-use borrow.Author.Rules.{rules}
 use Rattle.group_ends.proofs.rising.gathered.Goals as goal
 
 pub returns : goal.returns

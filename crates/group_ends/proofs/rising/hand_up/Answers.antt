@@ -3,7 +3,6 @@ use mathlib.Core.Path.{sym, ◌∙◌}
 use native.Mathlib.Omega.{arith}
 use Rattle.powers.proofs.Rest.{sizes_front}
 use Rattle.group_ends.proofs.Ascending.{placed_node, placed_stretch, handed_none, handed_left, handed_right}
-use borrow.Author.Rules.{rules}
 use Rattle.group_ends.proofs.rising.hand_up.Goals as goal
 
 pub climb-c-requires : goal.climb-c-requires

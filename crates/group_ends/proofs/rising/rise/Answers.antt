@@ -1,5 +1,5 @@
 -- `group_ends::rising::rise` meets its contract.
-use Prim.Native.Nat.{suc, ◌-◌, ◌≤◌}
+use Prim.Native.Nat.{suc, ◌-◌}
 use mathlib.Core.Path.{◌≡◌, ◌∙◌, subst}
 use native.Mathlib.Omega.{arith}
 use Rattle.group_ends.specs.Steps.{Rises}

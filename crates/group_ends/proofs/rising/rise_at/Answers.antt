@@ -3,7 +3,6 @@ use mathlib.Core.Path.{sym, ◌∙◌}
 use mathlib.Core.Bool.{false≢true}
 use Rattle.group_ends.proofs.Ascending.{placed_rest, in_rest, rises_skip, rises_step}
 use Rattle.powers.proofs.Kept.{founded_ready}
-use borrow.Author.Rules.{rules}
 use Rattle.group_ends.proofs.rising.rise_at.Goals as goal
 
 pub hand_up-requires : goal.hand_up-requires

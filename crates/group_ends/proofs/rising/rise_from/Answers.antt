@@ -1,6 +1,5 @@
 -- `group_ends::rising::rise_from` meets its contract.
 use Rattle.group_ends.proofs.Ascending.{rises_block}
-use borrow.Author.Rules.{rules}
 use Rattle.group_ends.proofs.rising.rise_from.Goals as goal
 
 pub returns-then-is_empty : goal.returns-then-is_empty

@@ -1,7 +1,6 @@
 -- `group_marks::blocks::is_empty` meets its contract.
 use native.Mathlib.Omega.{arith}
 use borrow.Author.Tests.{ltb-true}
-use borrow.Author.Rules.{rules}
 use Rattle.group_marks.proofs.blocks.is_empty.Goals as goal
 
 pub returns : goal.returns

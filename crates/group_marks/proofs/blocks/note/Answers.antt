@@ -1,6 +1,5 @@
 -- `group_marks::blocks::note` meets its contract.
 use Rattle.group_marks.proofs.Noting.{noting_put}
-use borrow.Author.Rules.{rules}
 use Rattle.group_marks.proofs.blocks.note.Goals as goal
 
 pub returns : goal.returns

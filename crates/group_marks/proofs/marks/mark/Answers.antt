@@ -1,6 +1,5 @@
 -- `group_marks::marks::mark` meets its contract.
 use Rattle.group_marks.proofs.Noting.{marking_put}
-use borrow.Author.Rules.{rules}
 use Rattle.group_marks.proofs.marks.mark.Goals as goal
 
 pub returns : goal.returns

@@ -1,5 +1,5 @@
 -- `group_marks::marks::mark_group` meets its contract.
-use Prim.Native.Nat.{suc, ◌-◌}
+use Prim.Native.Nat.{suc}
 use mathlib.Core.Path.{◌∙◌}
 use native.Mathlib.Omega.{arith}
 use Rattle.layout.specs.Groups.{NEXT}
@@ -8,7 +8,7 @@ use Rattle.table.specs.Links.{Points}
 use Rattle.buckets.specs.Buckets.{Least}
 use Rattle.machine.proofs.Shape.{shape_within}
 use Rattle.buckets.proofs.Least.{buckets_within, next_behind}
-use Rattle.group_marks.proofs.Grouping.{Grouping, grouping_none, grouping_next, grouping_step, grouping_all}
+use Rattle.group_marks.proofs.Grouping.{grouping_none, grouping_next, grouping_step, grouping_all}
 use Rattle.group_marks.proofs.marks.mark_group.Goals as goal
 
 pub fill-requires : goal.fill-requires

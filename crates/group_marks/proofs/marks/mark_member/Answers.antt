@@ -4,7 +4,6 @@ use Rattle.layout.proofs.Frames.{room_within}
 use Rattle.machine.proofs.Shape.{shape_within}
 use Rattle.group_marks.proofs.Noting.{closed_note}
 use Rattle.group_marks.proofs.Raising.{raised_joined}
-use borrow.Author.Rules.{rules}
 use Rattle.group_marks.proofs.marks.mark_member.Goals as goal
 
 pub mark_up-requires : goal.mark_up-requires

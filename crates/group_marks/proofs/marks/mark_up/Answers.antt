@@ -4,7 +4,7 @@ use mathlib.Core.Path.{sym, ap, ◌∙◌, subst}
 use native.Mathlib.Omega.{arith}
 use Rattle.layout.specs.Table.{PARENT}
 use Rattle.layout.proofs.Frames.{before_within, room_within}
-use Rattle.group_marks.proofs.Raising.{Raising, raising_none, raising_step, raising_note, raising_all, height, height_less}
+use Rattle.group_marks.proofs.Raising.{raising_none, raising_step, raising_note, raising_all, height, height_less}
 use Rattle.group_marks.proofs.marks.mark_up.Goals as goal
 
 pub loop-v-init : goal.loop-v-init

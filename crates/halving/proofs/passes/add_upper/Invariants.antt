@@ -1,10 +1,7 @@
 -- `halving::passes::add_upper` meets its contract.
 use Prim.Native.Nat.{◌≤◌, ◌-◌}
-use native.Mathlib.Omega.{arith}
 use Rattle.matrices.specs.Matrices.{Drawing}
-use Rattle.matrices.proofs.Drawing.{drawing_none, drawing_to}
 use Rattle.halving.specs.Passes.{Upper, With}
-use Rattle.halving.proofs.Adding.{upper_step}
 use Rattle.halving.proofs.passes.add_upper.Given as goal
 
 -- ── The loop's invariant ──

@@ -5,7 +5,6 @@ use native.Mathlib.Omega.{arith}
 use Rattle.matrices.specs.Matrices.{Related}
 use Rattle.layout.specs.Blocks.{snippet_at}
 use Rattle.halving.proofs.Growing.{hands_nothing}
-use borrow.Author.Rules.{rules}
 use Rattle.halving.proofs.passes.hand_down.Goals as goal
 
 pub returns-then-is_empty : goal.returns-then-is_empty

@@ -1,5 +1,4 @@
 -- `halving::passes::pass` meets its contract.
-use Prim.Native.Nat.{◌≤◌, ◌-◌}
 use native.Mathlib.Omega.{arith}
 use mathlib.Core.Path.{◌≡◌, subst}
 use Rattle.halving.specs.Passes.{Grown, Handed}

@@ -1,9 +1,6 @@
 -- `halving::passes::pass` meets its contract.
 use Prim.Native.Nat.{◌≤◌, ◌-◌}
-use native.Mathlib.Omega.{arith}
-use mathlib.Core.Path.{◌≡◌, subst}
 use Rattle.halving.specs.Passes.{Grown, Handed}
-use Rattle.halving.proofs.Growing.{handed_none, handed_step}
 use Rattle.halving.proofs.passes.pass.Given as goal
 
 abbrev pub invariant-loop-y : goal.invariant-loop-y

@@ -3,7 +3,6 @@ use mathlib.Core.Path.{sym}
 use native.Mathlib.Omega.{arith}
 use Rattle.halving.proofs.Blocks.{upper_places, lower_places}
 use Rattle.halving.proofs.Growing.{hands_none, hands_placed}
-use borrow.Author.Rules.{rules}
 use Rattle.halving.proofs.passes.split.Goals as goal
 
 pub returns-then-n-h : goal.returns-then-n-h

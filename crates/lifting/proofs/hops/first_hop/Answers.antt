@@ -1,7 +1,6 @@
 -- `lifting::hops::first_hop` meets its contract.
 use native.Mathlib.Omega.{arith}
 use Rattle.lifting.proofs.Stretching.{stretch_short, stretch_low, stretch_fits}
-use borrow.Author.Rules.{rules}
 use Rattle.lifting.proofs.hops.first_hop.Goals as goal
 
 pub exponent-k-requires : goal.exponent-k-requires

@@ -2,7 +2,6 @@
 use mathlib.Core.Logic.{inr}
 use mathlib.Core.Bool.{true, false}
 use native.Mathlib.Omega.{arith}
-use borrow.Author.Rules.{rules}
 use Rattle.loops.proofs.Grows.{climbed}
 use Rattle.loops.proofs.rounds.climb.Goals as goal
 

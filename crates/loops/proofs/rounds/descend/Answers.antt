@@ -2,7 +2,6 @@
 use mathlib.Core.Logic.{inl}
 use mathlib.Core.Bool.{true, false}
 use native.Mathlib.Omega.{arith}
-use borrow.Author.Rules.{rules}
 use Rattle.loops.proofs.Grows.{descended}
 use Rattle.loops.proofs.rounds.descend.Goals as goal
 

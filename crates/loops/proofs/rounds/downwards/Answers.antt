@@ -1,7 +1,7 @@
 -- `loops::rounds::downwards` meets its contract.
-use Prim.Native.Nat.{ℕ, ◌+◌, ◌-◌, ◌≤◌, ◌<◌}
+use Prim.Native.Nat.{◌+◌, ◌<◌}
 use native.Mathlib.Omega.{arith}
-use Rattle.loops.specs.Growing.{Passed, Falls}
+use Rattle.loops.specs.Growing.{Falls}
 use Rattle.loops.proofs.Grows.{ready_kept, grown_none}
 use Rattle.loops.proofs.Passing.{sweep_more, down_cover, total_le}
 use Rattle.loops.proofs.rounds.downwards.Goals as goal

@@ -1,9 +1,6 @@
 -- `loops::rounds::downwards` meets its contract.
-use Prim.Native.Nat.{ℕ, ◌+◌, ◌-◌, ◌≤◌, ◌<◌}
-use native.Mathlib.Omega.{arith}
+use Prim.Native.Nat.{ℕ, ◌-◌, ◌≤◌, ◌<◌}
 use Rattle.loops.specs.Growing.{Passed, Falls}
-use Rattle.loops.proofs.Grows.{ready_kept, grown_none}
-use Rattle.loops.proofs.Passing.{sweep_more, down_cover, total_le}
 use Rattle.loops.proofs.rounds.downwards.Given as goal
 
 abbrev pub invariant-loop-v : goal.invariant-loop-v

@@ -1,6 +1,5 @@
 -- `loops::rounds::round` meets its contract.
 use native.Mathlib.Omega.{arith}
-use borrow.Author.Rules.{rules}
 use Rattle.loops.proofs.Grows.{ready_kept}
 use Rattle.loops.proofs.Passing.{both_ways, total_le}
 use Rattle.loops.proofs.rounds.round.Goals as goal

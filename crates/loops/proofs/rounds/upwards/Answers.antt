@@ -1,7 +1,7 @@
 -- `loops::rounds::upwards` meets its contract.
-use Prim.Native.Nat.{ℕ, ◌-◌, ◌≤◌, ◌<◌}
+use Prim.Native.Nat.{◌-◌, ◌≤◌, ◌<◌}
 use native.Mathlib.Omega.{arith}
-use Rattle.loops.specs.Growing.{Passed, Rises}
+use Rattle.loops.specs.Growing.{Rises}
 use Rattle.loops.proofs.Grows.{ready_kept, grown_none}
 use Rattle.loops.proofs.Passing.{sweep_more, up_cover, total_le}
 use Rattle.loops.proofs.rounds.upwards.Goals as goal

@@ -1,7 +1,5 @@
 -- `loops::start::start` meets its contract.
-use Prim.Native.Nat.{◌≤◌, ◌-◌}
 use native.Mathlib.Omega.{arith}
-use Rattle.loops.specs.Growing.{Started}
 use Rattle.loops.proofs.Grows.{ready_kept}
 use Rattle.loops.proofs.Starting.{started_none, started_step, started_to}
 use Rattle.loops.proofs.start.start.Goals as goal

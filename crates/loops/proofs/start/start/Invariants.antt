@@ -1,9 +1,6 @@
 -- `loops::start::start` meets its contract.
 use Prim.Native.Nat.{◌≤◌, ◌-◌}
-use native.Mathlib.Omega.{arith}
 use Rattle.loops.specs.Growing.{Started}
-use Rattle.loops.proofs.Grows.{ready_kept}
-use Rattle.loops.proofs.Starting.{started_none, started_step, started_to}
 use Rattle.loops.proofs.start.start.Given as goal
 
 abbrev pub invariant-loop-v : goal.invariant-loop-v

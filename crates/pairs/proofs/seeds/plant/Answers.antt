@@ -1,6 +1,5 @@
 -- `pairs::seeds::plant` meets its contract.
 use Rattle.pairs.proofs.Seeding.{planted}
-use borrow.Author.Rules.{rules}
 use Rattle.pairs.proofs.seeds.plant.Goals as goal
 
 pub returns : goal.returns

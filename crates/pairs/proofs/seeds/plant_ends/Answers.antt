@@ -2,7 +2,6 @@
 use mathlib.Core.Logic.{inl, inr}
 use native.Mathlib.Omega.{arith}
 use Rattle.pairs.proofs.Seeding.{seeded}
-use borrow.Author.Rules.{rules}
 use Rattle.pairs.proofs.seeds.plant_ends.Goals as goal
 
 pub loop_at-requires : goal.loop_at-requires

@@ -1,7 +1,6 @@
 -- `pairs::seeds::seed_edge` meets its contract.
 use Rattle.pairs.proofs.Grows.{grown_none}
 use Rattle.pairs.proofs.Seeding.{met_nothing}
-use borrow.Author.Rules.{rules}
 use Rattle.pairs.proofs.seeds.seed_edge.Goals as goal
 
 pub returns-then-is_empty : goal.returns-then-is_empty

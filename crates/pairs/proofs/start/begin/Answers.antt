@@ -1,6 +1,5 @@
 -- `pairs::start::begin` meets its contract.
 use Rattle.pairs.proofs.Starting.{begun}
-use borrow.Author.Rules.{rules}
 use Rattle.pairs.proofs.start.begin.Goals as goal
 
 pub returns : goal.returns

@@ -2,7 +2,6 @@
 use mathlib.Core.Path.{sym, ◌∙◌}
 use mathlib.Core.Bool.{false≢true}
 use Rattle.bits.proofs.SetLaws.{bit_none}
-use borrow.Author.Rules.{rules}
 use Rattle.pairs.proofs.start.if_has.Goals as goal
 
 pub returns-then-has : goal.returns-then-has

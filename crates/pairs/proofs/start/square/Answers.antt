@@ -1,9 +1,6 @@
 -- `pairs::start::square` meets its contract.
-use Prim.Native.Nat.{◌≤◌, ◌-◌}
 use native.Mathlib.Omega.{arith}
-use Rattle.matrices.specs.Matrices.{Drawing}
 use Rattle.matrices.proofs.Drawing.{drawing_none, drawing_step, drawing_to}
-use Rattle.pairs.specs.Growing.{Square}
 use Rattle.pairs.proofs.start.square.Goals as goal
 
 pub loop-a-init : goal.loop-a-init

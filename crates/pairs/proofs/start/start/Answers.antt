@@ -1,7 +1,5 @@
 -- `pairs::start::start` meets its contract.
-use Prim.Native.Nat.{◌≤◌, ◌-◌}
 use native.Mathlib.Omega.{arith}
-use Rattle.pairs.specs.Growing.{Started}
 use Rattle.pairs.proofs.Framing.{ready_kept}
 use Rattle.pairs.proofs.Starting.{started_none, started_step, started_to}
 use Rattle.pairs.proofs.start.start.Goals as goal

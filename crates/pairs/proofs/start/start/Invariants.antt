@@ -1,9 +1,6 @@
 -- `pairs::start::start` meets its contract.
 use Prim.Native.Nat.{◌≤◌, ◌-◌}
-use native.Mathlib.Omega.{arith}
 use Rattle.pairs.specs.Growing.{Started}
-use Rattle.pairs.proofs.Framing.{ready_kept}
-use Rattle.pairs.proofs.Starting.{started_none, started_step, started_to}
 use Rattle.pairs.proofs.start.start.Given as goal
 
 abbrev pub invariant-loop-v : goal.invariant-loop-v

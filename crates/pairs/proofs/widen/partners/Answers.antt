@@ -1,7 +1,6 @@
 -- `pairs::widen::partners` meets its contract.
 use mathlib.Core.Bool.{true, false}
 use Rattle.pairs.proofs.Widening.{partners_of}
-use borrow.Author.Rules.{rules}
 use Rattle.pairs.proofs.widen.partners.Goals as goal
 
 pub returns-then-back : goal.returns-then-back

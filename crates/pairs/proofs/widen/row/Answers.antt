@@ -1,6 +1,5 @@
 -- `pairs::widen::row` meets its contract.
 use Rattle.pairs.proofs.Widening.{over_row}
-use borrow.Author.Rules.{rules}
 use Rattle.pairs.proofs.widen.row.Goals as goal
 
 pub returns : goal.returns

@@ -1,9 +1,6 @@
 -- `pairs::widen::widen` meets its contract.
-use Prim.Native.Nat.{◌≤◌, ◌-◌}
 use native.Mathlib.Omega.{arith}
-use Rattle.matrices.specs.Widening.{Widening}
 use Rattle.matrices.proofs.Widening.{widening_none, widening_to}
-use Rattle.pairs.specs.Growing.{Widened}
 use Rattle.pairs.proofs.Widening.{widen_step}
 use Rattle.pairs.proofs.widen.widen.Goals as goal
 

@@ -1,10 +1,7 @@
 -- `pairs::widen::widen` meets its contract.
 use Prim.Native.Nat.{◌≤◌, ◌-◌}
-use native.Mathlib.Omega.{arith}
 use Rattle.matrices.specs.Widening.{Widening}
-use Rattle.matrices.proofs.Widening.{widening_none, widening_to}
 use Rattle.pairs.specs.Growing.{Widened}
-use Rattle.pairs.proofs.Widening.{widen_step}
 use Rattle.pairs.proofs.widen.widen.Given as goal
 
 abbrev pub invariant-loop-a : goal.invariant-loop-a

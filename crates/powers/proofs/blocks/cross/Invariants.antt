@@ -1,10 +1,7 @@
 -- `powers::blocks::cross` meets its contract.
 use Prim.Native.Nat.{◌≤◌, ◌-◌}
-use native.Mathlib.Omega.{arith}
 use Rattle.matrices.specs.Matrices.{Drawing}
-use Rattle.matrices.proofs.Drawing.{drawing_none, drawing_to}
 use Rattle.powers.specs.Blocks.{Crossed}
-use Rattle.powers.proofs.Crossing.{cross_step}
 use Rattle.powers.proofs.blocks.cross.Given as goal
 
 -- ── The loop's invariant ──

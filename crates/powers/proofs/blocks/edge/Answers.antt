@@ -1,6 +1,5 @@
 -- `powers::blocks::edge` meets its contract.
 use Rattle.powers.proofs.Making.{edge_made}
-use borrow.Author.Rules.{rules}
 use Rattle.powers.proofs.blocks.edge.Goals as goal
 
 pub returns : goal.returns

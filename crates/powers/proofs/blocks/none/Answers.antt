@@ -2,7 +2,6 @@
 use Prim.Native.Nat.{ℕ, ◌+◌}
 use mathlib.Core.Path.{◌≡◌, sym, subst}
 use lib.ListN.{get_or, set}
-use borrow.Author.Rules.{rules}
 use Rattle.layout.specs.Blocks.{upper_at}
 use Rattle.layout.specs.Words.{NONE}
 use Rattle.powers.specs.Blocks.{Only}

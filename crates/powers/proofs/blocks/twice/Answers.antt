@@ -2,7 +2,6 @@
 use Prim.Native.Nat.{◌+◌}
 use mathlib.Core.Logic.{inl}
 use native.Mathlib.Omega.{arith}
-use borrow.Author.Rules.{rules}
 use Rattle.powers.proofs.Places.{block_before}
 use Rattle.powers.proofs.Making.{twice_made}
 use Rattle.powers.proofs.blocks.twice.Goals as goal

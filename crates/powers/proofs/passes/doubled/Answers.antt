@@ -1,7 +1,6 @@
 -- `powers::passes::doubled` meets its contract.
 use native.Mathlib.Omega.{arith}
 use Rattle.powers.proofs.Passing.{doubled_none, doubled_twice}
-use borrow.Author.Rules.{rules}
 use Rattle.powers.proofs.passes.doubled.Goals as goal
 
 pub returns-then-n-h : goal.returns-then-n-h

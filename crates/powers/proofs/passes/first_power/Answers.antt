@@ -1,7 +1,6 @@
 -- `powers::passes::first_power` meets its contract.
 use native.Mathlib.Omega.{arith}
 use Rattle.powers.proofs.Passing.{found_left, found_right, found_root}
-use borrow.Author.Rules.{rules}
 use Rattle.powers.proofs.passes.first_power.Goals as goal
 
 pub returns-then-n-x : goal.returns-then-n-x

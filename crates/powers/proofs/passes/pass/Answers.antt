@@ -1,7 +1,6 @@
 -- `powers::passes::pass` meets its contract.
-use Prim.Native.Nat.{◌+◌, ◌-◌, ◌≤◌}
+use Prim.Native.Nat.{◌+◌}
 use native.Mathlib.Omega.{arith}
-use Rattle.powers.specs.Blocks.{Passed}
 use Rattle.powers.proofs.Places.{fits_of}
 use Rattle.powers.proofs.Passing.{passed_none, passed_step, passed_to}
 use Rattle.powers.proofs.passes.pass.Goals as goal

@@ -1,9 +1,6 @@
 -- `powers::passes::pass` meets its contract.
-use Prim.Native.Nat.{◌+◌, ◌-◌, ◌≤◌}
-use native.Mathlib.Omega.{arith}
+use Prim.Native.Nat.{◌-◌, ◌≤◌}
 use Rattle.powers.specs.Blocks.{Passed}
-use Rattle.powers.proofs.Places.{fits_of}
-use Rattle.powers.proofs.Passing.{passed_none, passed_step, passed_to}
 use Rattle.powers.proofs.passes.pass.Given as goal
 
 abbrev pub invariant-loop-y : goal.invariant-loop-y

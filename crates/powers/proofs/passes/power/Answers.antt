@@ -4,7 +4,6 @@ use mathlib.Core.Path.{sym}
 use native.Mathlib.Omega.{arith}
 use Rattle.powers.proofs.Places.{fits_to}
 use Rattle.powers.proofs.Passing.{found_to, found_doubled}
-use borrow.Author.Rules.{rules}
 use Rattle.powers.proofs.passes.power.Goals as goal
 
 pub doubled-requires : goal.doubled-requires

@@ -4,7 +4,6 @@ use Prim.Native.Nat.{ℕ}
 use Rattle.bits.specs.Sets.{bit, and}
 use native.Mathlib.Omega.{arith}
 use Rattle.rank_sets.proofs.Ended.{meets_ended}
-use borrow.Author.Rules.{rules}
 use Rattle.rank_sets.proofs.ends.ends_at.Goals as goal
 
 pub returns : goal.returns

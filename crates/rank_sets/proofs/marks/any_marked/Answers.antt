@@ -1,12 +1,6 @@
 -- `rank_sets::marks::any_marked` meets its contract.
-use Prim.Native.Nat.{ℕ, ◌-◌, ◌<◌}
-use mathlib.Core.Path.{◌≡◌}
 use borrow.Author.Count.{below_none, below_more}
 use native.Mathlib.Omega.{arith}
-use Rattle.layout.specs.Part.{MARK}
-use Rattle.layout.specs.Table.{RANK}
-use Rattle.layout.specs.Words.{word}
-use Rattle.rank_sets.specs.Ends.{Ended}
 use Rattle.rank_sets.proofs.Telling.{tells_yes, tells_no, denied}
 use Rattle.rank_sets.proofs.marks.any_marked.Goals as goal
 

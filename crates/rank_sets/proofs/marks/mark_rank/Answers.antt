@@ -7,7 +7,6 @@ use native.Mathlib.Omega.{arith}
 use Rattle.layout.specs.Part.{MARK}
 use Rattle.layout.specs.Words.{cell, Wrote}
 use Rattle.rank_sets.proofs.Telling.{denied}
-use borrow.Author.Rules.{rules}
 use Rattle.rank_sets.proofs.marks.mark_rank.Goals as goal
 
 pub put-requires : goal.put-requires

@@ -1,8 +1,7 @@
 -- `rank_sets::marks::mark_ranks` meets its contract.
-use Prim.Native.Nat.{◌-◌, ◌≤◌}
 use native.Mathlib.Omega.{arith}
 use Rattle.rank_sets.proofs.Steady.{held_space, held_small}
-use Rattle.rank_sets.proofs.Marking.{Marking, marking_none, marking_step, marking_all}
+use Rattle.rank_sets.proofs.Marking.{marking_none, marking_step, marking_all}
 use Rattle.rank_sets.proofs.marks.mark_ranks.Goals as goal
 
 pub loop-w-init : goal.loop-w-init

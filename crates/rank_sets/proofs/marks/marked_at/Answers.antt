@@ -6,7 +6,6 @@ use native.Mathlib.Omega.{arith}
 use Rattle.layout.specs.Part.{MARK}
 use Rattle.layout.specs.Words.{word}
 use Rattle.rank_sets.proofs.Telling.{tells_no, denied}
-use borrow.Author.Rules.{rules}
 use Rattle.rank_sets.proofs.marks.marked_at.Goals as goal
 
 pub get-requires : goal.get-requires

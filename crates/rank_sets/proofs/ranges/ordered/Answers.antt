@@ -6,7 +6,6 @@ use lib.Dec.{ltb}
 use Rattle.rule_spec.proofs.Bytes.{lt_iff}
 use Rattle.rank_sets.specs.Ranges.{Across}
 use Rattle.rank_sets.proofs.Telling.{tells_no, denied}
-use borrow.Author.Rules.{rules}
 use Rattle.rank_sets.proofs.ranges.ordered.Goals as goal
 
 -- ── What is returned for each operator ──

@@ -1,13 +1,9 @@
 -- `rank_sets::ranges::rank_range` meets its contract.
 use Prim.Native.Nat.{◌-◌, ◌≤◌}
-use mathlib.Core.Path.{◌≡◌, subst}
-use native.Mathlib.Numerals.{add-one}
-use native.Mathlib.Omega.{arith}
 use Rattle.layout.specs.Table.{RANK}
 use Rattle.layout.specs.Words.{word}
 use Rattle.rank_sets.specs.Ends.{Ended}
 use Rattle.rank_sets.specs.Ranges.{WithRank, Ranged}
-use Rattle.rank_sets.proofs.Ranged.{ranged_none}
 use Rattle.rank_sets.proofs.ranges.rank_range.Given as goal
 
 abbrev pub invariant-loop-w : goal.invariant-loop-w

@@ -1,7 +1,6 @@
 -- `rank_sets::ranges::under` meets its contract.
 use Prim.Native.Nat.{◌+◌}
 use Rattle.rule_spec.proofs.Bytes.{lt_iff}
-use borrow.Author.Rules.{rules}
 use Rattle.rank_sets.proofs.ranges.under.Goals as goal
 
 pub returns : goal.returns

@@ -1,7 +1,6 @@
 -- `rank_sets::ranges::widened` meets its contract.
 use Rattle.rank_sets.proofs.Telling.{denied}
 use Rattle.rank_sets.proofs.Ranged.{ranged_skip, ranged_with}
-use borrow.Author.Rules.{rules}
 use native.Mathlib.Omega.{arith}
 use Rattle.rank_sets.proofs.ranges.widened.Goals as goal
 

@@ -11,7 +11,6 @@ use Rattle.string_order.specs.declared.Order.TheVariants.{Less, Same, Greater}
 use Rattle.string_order.specs.Ordered.{Ordered}
 use Rattle.value_order.specs.Less.{is_smaller}
 use Rattle.ranks.proofs.Rises.{rises, rises_told, twins_same}
-use borrow.Author.Rules.{rules}
 use Rattle.ranks.proofs.number.rise.Goals as goal
 
 pub returns-then-get : goal.returns-then-get

@@ -2,7 +2,6 @@
 use Prim.Native.Nat.{◌<◌}
 use mathlib.Core.Path.{sym, subst}
 use Rattle.reach.proofs.Reaching.{added_after}
-use borrow.Author.Rules.{rules}
 use Rattle.reach.proofs.expand.expand.Goals as goal
 
 pub spread-requires : goal.spread-requires

@@ -2,7 +2,6 @@
 use mathlib.Core.Path.{sym, ◌∙◌}
 use mathlib.Core.Bool.{false≢true}
 use Rattle.bits.proofs.SetLaws.{bit_none}
-use borrow.Author.Rules.{rules}
 use Rattle.reach.proofs.expand.if_linked.Goals as goal
 
 pub returns-then-get-v : goal.returns-then-get-v

@@ -1,6 +1,5 @@
 -- `reach::expand::spread` meets its contract.
 use Rattle.reach.proofs.Spreading.{Ways, added_onward}
-use borrow.Author.Rules.{rules}
 use Rattle.reach.proofs.expand.spread.Goals as goal
 
 pub returns : goal.returns

@@ -4,7 +4,6 @@ use lib.ListN.{length-set}
 use Rattle.layout.specs.Part.{SEEN, NODES, POSITIONS}
 use Rattle.layout.specs.Words.{cell}
 use Rattle.layout.proofs.Cells.{wrote_one, wrote_then}
-use borrow.Author.Rules.{rules}
 use Rattle.reach.proofs.list.enter.Goals as goal
 
 pub bounds-p-n-2 : goal.bounds-p-n-2

@@ -4,7 +4,6 @@ use native.Mathlib.Omega.{arith}
 use Rattle.layout.specs.Part.{NODES}
 use Rattle.layout.specs.Words.{cell}
 use Rattle.reach.proofs.Totals.{work_room}
-use borrow.Author.Rules.{rules}
 use Rattle.reach.proofs.list.entry_at.Goals as goal
 
 room : (c : goal.Start) → c.args.h < 16 * c.args.n

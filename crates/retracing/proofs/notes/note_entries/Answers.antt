@@ -1,7 +1,6 @@
 -- `retracing::notes::note_entries` meets its contract.
-use Prim.Native.Nat.{◌-◌}
 use native.Mathlib.Omega.{arith}
-use Rattle.retracing.proofs.Noting.{Noting, noting_none, noting_step, noting_all}
+use Rattle.retracing.proofs.Noting.{noting_none, noting_step, noting_all}
 use Rattle.retracing.proofs.notes.note_entries.Goals as goal
 
 pub loop-h-init : goal.loop-h-init

@@ -1,7 +1,6 @@
 -- `retracing::notes::note_entries` meets its contract.
 use Prim.Native.Nat.{◌-◌}
-use native.Mathlib.Omega.{arith}
-use Rattle.retracing.proofs.Noting.{Noting, noting_none, noting_step, noting_all}
+use Rattle.retracing.proofs.Noting.{Noting}
 use Rattle.retracing.proofs.notes.note_entries.Given as goal
 
 abbrev pub invariant-loop-h : goal.invariant-loop-h

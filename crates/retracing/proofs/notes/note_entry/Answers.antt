@@ -3,7 +3,6 @@ use Prim.Native.Nat.{◌<◌}
 use mathlib.Core.Path.{sym, subst}
 use native.Mathlib.Omega.{arith}
 use Rattle.retracing.proofs.Noting.{notes_put, notes_tested, put_long}
-use borrow.Author.Rules.{rules}
 use Rattle.retracing.proofs.notes.note_entry.Goals as goal
 
 pub put_if-requires : goal.put_if-requires

@@ -1,7 +1,6 @@
 -- `retracing::notes::put_if` meets its contract.
 use mathlib.Core.Path.{refl}
 use Rattle.retracing.specs.Notes.{put, skip}
-use borrow.Author.Rules.{rules}
 use Rattle.retracing.proofs.notes.put_if.Goals as goal
 
 pub returns-then-b : goal.returns-then-b

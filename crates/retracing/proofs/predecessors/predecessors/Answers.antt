@@ -1,7 +1,5 @@
 -- `retracing::predecessors::predecessors` meets its contract.
-use Prim.Native.Nat.{◌-◌}
-use Rattle.retracing.proofs.Preceding.{Preceding, preceding_none, preceding_step, preceding_all}
-use borrow.Author.Rules.{rules}
+use Rattle.retracing.proofs.Preceding.{preceding_none, preceding_step, preceding_all}
 use Rattle.retracing.proofs.predecessors.predecessors.Goals as goal
 
 pub loop-i-init : goal.loop-i-init

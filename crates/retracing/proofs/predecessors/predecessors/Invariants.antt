@@ -1,7 +1,6 @@
 -- `retracing::predecessors::predecessors` meets its contract.
 use Prim.Native.Nat.{◌-◌}
-use Rattle.retracing.proofs.Preceding.{Preceding, preceding_none, preceding_step, preceding_all}
-use borrow.Author.Rules.{rules}
+use Rattle.retracing.proofs.Preceding.{Preceding}
 use Rattle.retracing.proofs.predecessors.predecessors.Given as goal
 
 abbrev pub invariant-loop-i : goal.invariant-loop-i

@@ -1,7 +1,6 @@
 -- `retracing::predecessors::with_row` meets its contract.
 use native.Mathlib.Omega.{arith}
 use Rattle.retracing.proofs.Preceding.{common_none, common_some, row_skipped, row_taken}
-use borrow.Author.Rules.{rules}
 use Rattle.retracing.proofs.predecessors.with_row.Goals as goal
 
 pub returns-then-meet-eq0 : goal.returns-then-meet-eq0

@@ -1,7 +1,6 @@
 -- `retracing::retrace::downward` meets its contract.
 use native.Mathlib.Omega.{arith}
 use Rattle.reach.proofs.Spreading.{either}
-use borrow.Author.Rules.{rules}
 use Rattle.retracing.proofs.retrace.downward.Goals as goal
 
 pub returns-then-n-v : goal.returns-then-n-v

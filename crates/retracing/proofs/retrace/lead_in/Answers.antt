@@ -1,6 +1,5 @@
 -- `retracing::retrace::lead_in` meets its contract.
 use Rattle.retracing.proofs.Retracing.{Ways, added_leads}
-use borrow.Author.Rules.{rules}
 use Rattle.retracing.proofs.retrace.lead_in.Goals as goal
 
 pub returns : goal.returns

@@ -2,7 +2,6 @@
 use Prim.Native.Nat.{◌<◌}
 use mathlib.Core.Path.{sym, subst}
 use Rattle.retracing.proofs.Retracing.{added_entry}
-use borrow.Author.Rules.{rules}
 use Rattle.retracing.proofs.retrace.retrace.Goals as goal
 
 pub lead_in-requires : goal.lead_in-requires

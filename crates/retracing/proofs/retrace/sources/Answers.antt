@@ -1,7 +1,6 @@
 -- `retracing::retrace::sources` meets its contract.
 use mathlib.Core.Logic.Iff
 use Rattle.retracing.proofs.Preceding.{sources, sources_none}
-use borrow.Author.Rules.{rules}
 use Rattle.retracing.proofs.retrace.sources.Goals as goal
 
 pub returns-then-w-eq0 : goal.returns-then-w-eq0

@@ -1,6 +1,5 @@
 -- `retracing::seeds::seed` meets its contract.
 use Rattle.retracing.proofs.Seeding.{seeded_one}
-use borrow.Author.Rules.{rules}
 use Rattle.retracing.proofs.seeds.seed.Goals as goal
 
 pub returns : goal.returns

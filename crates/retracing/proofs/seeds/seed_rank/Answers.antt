@@ -1,7 +1,6 @@
 -- `retracing::seeds::seed_rank` meets its contract.
-use Prim.Native.Nat.{◌-◌}
 use native.Mathlib.Omega.{arith}
-use Rattle.retracing.proofs.Seeding.{Seeding, seeding_start, seeding_on, seeding_step, seeding_all}
+use Rattle.retracing.proofs.Seeding.{seeding_start, seeding_on, seeding_step, seeding_all}
 use Rattle.retracing.proofs.seeds.seed_rank.Goals as goal
 
 pub get-w-requires : goal.get-w-requires

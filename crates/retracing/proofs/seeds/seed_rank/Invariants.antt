@@ -1,7 +1,6 @@
 -- `retracing::seeds::seed_rank` meets its contract.
 use Prim.Native.Nat.{◌-◌}
-use native.Mathlib.Omega.{arith}
-use Rattle.retracing.proofs.Seeding.{Seeding, seeding_start, seeding_on, seeding_step, seeding_all}
+use Rattle.retracing.proofs.Seeding.{Seeding}
 use Rattle.retracing.proofs.seeds.seed_rank.Given as goal
 
 abbrev pub invariant-loop-w : goal.invariant-loop-w

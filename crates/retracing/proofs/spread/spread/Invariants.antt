@@ -1,9 +1,6 @@
 -- `retracing::spread::spread` meets its contract.
 use Prim.Native.Nat.{◌*◌, ◌-◌}
-use mathlib.Core.Path.{◌∙◌}
-use native.Mathlib.Omega.{arith}
-use Rattle.reach.proofs.Totals.{work_room}
-use Rattle.retracing.proofs.Spreading.{Backing, backing_start, backing_step, backing_all}
+use Rattle.retracing.proofs.Spreading.{Backing}
 use Rattle.retracing.proofs.spread.spread.Given as goal
 
 abbrev pub invariant-loop-h : goal.invariant-loop-h

@@ -1,7 +1,5 @@
 -- `settling::answers::answer` meets its contract.
-use Prim.Native.Nat.{◌≤◌, ◌-◌}
 use native.Mathlib.Omega.{arith}
-use Rattle.settling.specs.Settled.{Answering}
 use Rattle.settling.proofs.Answering.{answering_none, answering_ready, answering_step, answering_to}
 use Rattle.settling.proofs.answers.answer.Goals as goal
 

@@ -1,8 +1,6 @@
 -- `settling::answers::answer` meets its contract.
 use Prim.Native.Nat.{◌≤◌, ◌-◌}
-use native.Mathlib.Omega.{arith}
 use Rattle.settling.specs.Settled.{Answering}
-use Rattle.settling.proofs.Answering.{answering_none, answering_ready, answering_step, answering_to}
 use Rattle.settling.proofs.answers.answer.Given as goal
 
 abbrev pub invariant-loop-v : goal.invariant-loop-v

@@ -5,7 +5,6 @@ use native.Mathlib.Omega.{arith}
 use lib.ListN.{get_or}
 use Rattle.bits.specs.Sets.{bit, one}
 use Rattle.settling.proofs.Answering.{wrote_as}
-use borrow.Author.Rules.{rules}
 use Rattle.settling.proofs.answers.answer_at.Goals as goal
 
 pub put-requires : goal.put-requires

@@ -2,7 +2,6 @@
 use mathlib.Core.Path.{sym, ap, ◌∙◌}
 use native.Mathlib.Omega.{arith}
 use Rattle.bits.specs.Sets.{one}
-use borrow.Author.Rules.{rules}
 use Rattle.settling.proofs.answers.one_if_has.Goals as goal
 
 pub returns-then-has : goal.returns-then-has

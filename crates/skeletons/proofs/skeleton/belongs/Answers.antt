@@ -3,7 +3,6 @@ use mathlib.Core.Path.{refl, sym, ◌∙◌}
 use mathlib.Core.Bool.{false≢true}
 use mathlib.Core.Logic.{inl}
 use Rattle.skeletons.proofs.Judging.{skeleton_words, skeleton_rest}
-use borrow.Author.Rules.{rules}
 use Rattle.skeletons.proofs.skeleton.belongs.Goals as goal
 
 pub returns-then-get-r : goal.returns-then-get-r

@@ -4,7 +4,7 @@ use mathlib.Core.Path.{sym, ◌∙◌, subst}
 use mathlib.Core.Bool.{false≢true}
 use native.Mathlib.Omega.{arith}
 use Rattle.group_marks.proofs.Raising.{height, height_less}
-use Rattle.skeletons.proofs.Climbing.{Climbing, climbing_none, climbing_step, climbing_met, climbing_top}
+use Rattle.skeletons.proofs.Climbing.{climbing_none, climbing_step, climbing_met, climbing_top}
 use Rattle.skeletons.proofs.skeleton.climb.Goals as goal
 
 pub parent-x-requires : goal.parent-x-requires

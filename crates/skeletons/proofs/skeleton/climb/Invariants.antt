@@ -1,10 +1,6 @@
 -- `skeletons::skeleton::climb` meets its contract.
-use Prim.Native.Nat.{◌<◌}
-use mathlib.Core.Path.{sym, ◌∙◌, subst}
-use mathlib.Core.Bool.{false≢true}
-use native.Mathlib.Omega.{arith}
-use Rattle.group_marks.proofs.Raising.{height, height_less}
-use Rattle.skeletons.proofs.Climbing.{Climbing, climbing_none, climbing_step, climbing_met, climbing_top}
+use Rattle.group_marks.proofs.Raising.{height}
+use Rattle.skeletons.proofs.Climbing.{Climbing}
 use Rattle.skeletons.proofs.skeleton.climb.Given as goal
 
 abbrev pub invariant-loop-x : goal.invariant-loop-x

@@ -2,7 +2,6 @@
 use mathlib.Core.Path.{refl}
 use mathlib.Core.Bool.{false≢true}
 use Rattle.skeletons.proofs.Judging.{empty_block}
-use borrow.Author.Rules.{rules}
 use Rattle.skeletons.proofs.skeleton.is_skeleton.Goals as goal
 
 pub returns-then-is_empty : goal.returns-then-is_empty

@@ -2,11 +2,11 @@
 use mathlib.Core.Path.{◌≡◌}
 use mathlib.Core.Bool.{true}
 use Prim.Native.Nat.{◌-◌, ◌≤◌}
-use Rattle.string_order.specs.Ordered.{BLOCK, Common}
+use Rattle.string_order.specs.Ordered.{block, Common}
 use Rattle.string_order.proofs.blocks.same_block.Given as goal
 
 abbrev pub invariant-loop-k : goal.invariant-loop-k
-invariant-loop-k l = (l.k ≤ BLOCK) × (l.all ≡ true → Common l.x l.i l.y l.j l.k)
+invariant-loop-k l = (l.k ≤ block) × (l.all ≡ true → Common l.x l.i l.y l.j l.k)
 
 abbrev pub decreases-loop-k : goal.decreases-loop-k
-decreases-loop-k l = BLOCK - l.k
+decreases-loop-k l = block - l.k

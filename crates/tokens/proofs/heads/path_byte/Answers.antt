@@ -1,6 +1,5 @@
 -- `tokens::heads::path_byte` meets its contract.
 use Rattle.tokens.proofs.FirstBytes.{no_path}
-use borrow.Author.Rules.{rules}
 use Rattle.tokens.proofs.heads.path_byte.Goals as goal
 
 pub returns-in-76 : goal.returns-in-76

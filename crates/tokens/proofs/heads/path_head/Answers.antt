@@ -1,7 +1,6 @@
 -- `tokens::heads::path_head` meets its contract.
 use native.Mathlib.Omega.{arith}
 use Rattle.tokens.proofs.FirstBytes.{path_end, path_begins, path_stuck, path_met}
-use borrow.Author.Rules.{rules}
 use borrow.Enum.Refused.{opened}
 use Rattle.tokens.proofs.heads.path_head.Goals as goal
 

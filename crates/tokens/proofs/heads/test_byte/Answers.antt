@@ -1,6 +1,5 @@
 -- `tokens::heads::test_byte` meets its contract.
 use Rattle.tokens.proofs.FirstBytes.{no_test}
-use borrow.Author.Rules.{rules}
 use Rattle.tokens.proofs.heads.test_byte.Goals as goal
 
 pub returns-in_default : goal.returns-in_default

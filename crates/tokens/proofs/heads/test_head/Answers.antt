@@ -1,7 +1,6 @@
 -- `tokens::heads::test_head` meets its contract.
 use native.Mathlib.Omega.{arith}
 use Rattle.tokens.proofs.FirstBytes.{test_end, test_begins, test_stuck, test_met}
-use borrow.Author.Rules.{rules}
 use borrow.Enum.Refused.{opened}
 use Rattle.tokens.proofs.heads.test_head.Goals as goal
 

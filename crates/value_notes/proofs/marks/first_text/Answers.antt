@@ -2,7 +2,6 @@
 use Rattle.document_spec.specs.Library.{at}
 use Rattle.texts.proofs.Nodes.{element_text, attribute_text, kind_is, entry_some, entry_none}
 use Rattle.value_notes.proofs.Nexts.{next_here, next_passed}
-use borrow.Author.Rules.{rules}
 use Rattle.value_notes.proofs.marks.first_text.Goals as goal
 
 pub returns-in-Element : goal.returns-in-Element

@@ -4,7 +4,6 @@ use mathlib.Core.Bool.{false}
 use native.Mathlib.Omega.{arith}
 use Rattle.table.proofs.Trees.{tree_small}
 use Rattle.value_notes.proofs.Marking.{child_word, under_node}
-use borrow.Author.Rules.{rules}
 use Rattle.value_notes.proofs.marks.gather.Goals as goal
 
 pub under-z-requires : goal.under-z-requires

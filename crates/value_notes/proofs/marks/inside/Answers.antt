@@ -3,7 +3,6 @@ use Prim.Native.Nat.{suc}
 use mathlib.Core.Bool.{true}
 use Rattle.table.proofs.Trees.{tree_small}
 use Rattle.value_notes.proofs.Marking.{child_word, inner_of}
-use borrow.Author.Rules.{rules}
 use Rattle.value_notes.proofs.marks.inside.Goals as goal
 
 pub under-requires : goal.under-requires

@@ -1,5 +1,4 @@
 -- `value_notes::marks::look` meets its contract.
-use borrow.Author.Rules.{rules}
 use Rattle.value_notes.proofs.marks.look.Goals as goal
 
 pub note_of-note-requires : goal.note_of-note-requires

@@ -11,7 +11,6 @@ use Rattle.value_notes.specs.Notes.{Seen}
 use Rattle.value_notes.proofs.Extents.{node_in}
 use Rattle.value_notes.proofs.Nexts.{next_small}
 use Rattle.value_notes.proofs.Marking.{told_small, ahead_wrote, marked_step}
-use borrow.Author.Rules.{rules}
 use Rattle.value_notes.proofs.marks.mark.Goals as goal
 
 pub read_entry-e-requires : goal.read_entry-e-requires

@@ -4,7 +4,7 @@ use mathlib.Core.Path.{◌≡◌, subst}
 use native.Mathlib.Omega.{arith}
 use Rattle.value_notes.specs.Values.{Next}
 use Rattle.value_notes.specs.Notes.{Marked}
-use Rattle.value_notes.proofs.Marking.{Filling, filling_none, filling_step}
+use Rattle.value_notes.proofs.Marking.{filling_none, filling_step}
 use Rattle.value_notes.proofs.marks.mark_all.Goals as goal
 
 pub loop-v-init : goal.loop-v-init

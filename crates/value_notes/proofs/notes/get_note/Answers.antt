@@ -1,6 +1,5 @@
 -- `value_notes::notes::get_note` meets its contract.
 use Rattle.value_notes.proofs.Columns.{note_of}
-use borrow.Author.Rules.{rules}
 use Rattle.value_notes.proofs.notes.get_note.Goals as goal
 
 pub returns : goal.returns

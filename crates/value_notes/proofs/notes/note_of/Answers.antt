@@ -3,7 +3,6 @@ use Rattle.texts.proofs.Nodes.{kind_is}
 use Rattle.value_notes.proofs.Values.{attribute_value, text_value}
 use Rattle.value_notes.proofs.Noting.{own_of}
 use Rattle.value_notes.proofs.Extents.{node_in}
-use borrow.Author.Rules.{rules}
 use Rattle.value_notes.proofs.notes.note_of.Goals as goal
 
 pub element_note-requires : goal.element_note-requires

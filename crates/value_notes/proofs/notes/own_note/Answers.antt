@@ -1,6 +1,5 @@
 -- `value_notes::notes::own_note` meets its contract.
 use Rattle.value_notes.proofs.Noting.{own_valued}
-use borrow.Author.Rules.{rules}
 use Rattle.value_notes.proofs.notes.own_note.Goals as goal
 
 pub returns : goal.returns

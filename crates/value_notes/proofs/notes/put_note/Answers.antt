@@ -1,6 +1,5 @@
 -- `value_notes::notes::put_note` meets its contract.
 use Rattle.value_notes.proofs.Columns.{noted_wrote}
-use borrow.Author.Rules.{rules}
 use Rattle.value_notes.proofs.notes.put_note.Goals as goal
 
 pub returns : goal.returns

@@ -7,7 +7,6 @@ use Rattle.document_spec.specs.Verdict.{Accepts}
 use Rattle.values.specs.Comes.{Comes, weight}
 use Rattle.value_order.specs.Along.{Along, Shared}
 use Rattle.value_order.proofs.Moving.{ready_filled, along_none, along_then, Facing, facing_decided, facing_moved, looked_common}
-use borrow.Author.Rules.{rules}
 use Rattle.value_order.proofs.comparison.compare.Goals as goal
 
 level : (c : goal.After-refill-j) (ns : List Library.Node) (bs cs : List ℕ) → Accepts c.args.s.now ns → Comes c.args.s.now ns c.args.x bs → Comes c.args.s.now ns c.args.y cs → Facing c.args.s.now c.args.s.now ns bs cs c.refill-i.result c.refill-j.result × (weight c.args.s.now c.refill-i.result ≤ weight c.args.s.now c.loop-o.i)

@@ -1,13 +1,10 @@
 -- `value_order::comparison::compare` meets its contract.
-use Prim.Native.Nat.{ℕ, ◌≤◌}
+use Prim.Native.Nat.{ℕ}
 use mathlib.Core.List.{List}
-use native.Mathlib.Omega.{arith}
 use Rattle.document_spec.specs.Library as Library
 use Rattle.document_spec.specs.Verdict.{Accepts}
 use Rattle.values.specs.Comes.{Comes, weight}
-use Rattle.value_order.specs.Along.{Along, Shared}
-use Rattle.value_order.proofs.Moving.{ready_filled, along_none, along_then, Facing, facing_decided, facing_moved, looked_common}
-use borrow.Author.Rules.{rules}
+use Rattle.value_order.specs.Along.{Along}
 use Rattle.value_order.proofs.comparison.compare.Given as goal
 
 abbrev pub invariant-loop-o : goal.invariant-loop-o

@@ -1,8 +1,6 @@
 -- `value_order::comparison::compare_with` meets its contract.
 use Rattle.document_spec.specs.Binary.{compared_of}
 use Rattle.table.proofs.Trees.{tree_small}
-use borrow.Author.Rules.{rules}
-use borrow.Author.Tests.{eqb-true}
 use Rattle.value_order.proofs.comparison.compare_with.Goals as goal
 
 pub returns-then-x-y-2 : goal.returns-then-x-y-2

@@ -9,9 +9,8 @@ use Rattle.document_spec.specs.Library as Library
 use Rattle.document_spec.specs.Verdict.{Accepts}
 use Rattle.values.specs.Comes.{Comes, weight}
 use Rattle.values.proofs.Cursor.{nothing_left}
-use Rattle.value_order.specs.Along.{Along, Shared}
+use Rattle.value_order.specs.Along.{Shared}
 use Rattle.value_order.proofs.Moving.{ready_filled, along_none, Facing, facing_decided, facing_moved, looked_common}
-use borrow.Author.Rules.{rules}
 use Rattle.value_order.proofs.constant.compare_constant.Goals as goal
 
 -- ── With a byte at hand ──

@@ -1,17 +1,11 @@
 -- `value_order::constant::compare_constant` meets its contract.
 use Prim.Native.Nat.{ℕ, ◌≤◌}
-use mathlib.Core.Path.{refl}
-use mathlib.Core.Logic.{inl}
 use mathlib.Core.List.{List}
 use lib.Seq.{slice}
-use native.Mathlib.Omega.{arith}
 use Rattle.document_spec.specs.Library as Library
 use Rattle.document_spec.specs.Verdict.{Accepts}
 use Rattle.values.specs.Comes.{Comes, weight}
-use Rattle.values.proofs.Cursor.{nothing_left}
-use Rattle.value_order.specs.Along.{Along, Shared}
-use Rattle.value_order.proofs.Moving.{ready_filled, along_none, Facing, facing_decided, facing_moved, looked_common}
-use borrow.Author.Rules.{rules}
+use Rattle.value_order.specs.Along.{Along}
 use Rattle.value_order.proofs.constant.compare_constant.Given as goal
 
 abbrev pub invariant-loop-o : goal.invariant-loop-o

@@ -1,6 +1,5 @@
 -- `value_order::cursors::behind` meets its contract.
 use Rattle.value_order.proofs.Moving.{moved}
-use borrow.Author.Rules.{rules}
 use Rattle.value_order.proofs.cursors.behind.Goals as goal
 
 pub returns : goal.returns

@@ -1,6 +1,5 @@
 -- `value_order::cursors::is_between` meets its contract.
 use native.Mathlib.Omega.{arith}
-use borrow.Author.Rules.{rules}
 use borrow.Author.Tests.{leb-true}
 use Rattle.value_order.proofs.cursors.is_between.Goals as goal
 

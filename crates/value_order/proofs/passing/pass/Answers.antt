@@ -1,17 +1,10 @@
 -- `value_order::passing::pass` meets its contract.
-use Prim.Native.Nat.{ℕ, ◌-◌, ◌≤◌, ◌<◌}
+use Prim.Native.Nat.{◌≤◌, ◌<◌}
 use mathlib.Core.Path.{refl, ap}
-use mathlib.Core.List.{List}
 use native.Mathlib.Omega.{arith}
-use Rattle.document_spec.specs.Library as Library
-use Rattle.document_spec.specs.Verdict.{Accepts}
-use Rattle.values.specs.Comes.{Comes, weight}
-use Rattle.value_order.specs.Along.{Along}
-use Rattle.value_order.specs.Twins.{Prepared}
 use Rattle.value_order.proofs.Moving.{along_none}
 use Rattle.value_order.proofs.SameTexts.{texts_passed}
 use Rattle.values.proofs.Cursor.{node_inside, next, next_inside}
-use borrow.Author.Tests.{eqb-false, not-false}
 use Rattle.value_order.proofs.passing.pass.Goals as goal
 
 pub loop-a-init : goal.loop-a-init

@@ -1,7 +1,6 @@
 -- `value_order::passing::same_text` meets its contract.
 use mathlib.Core.Path.{sym, ◌∙◌}
 use Rattle.value_order.proofs.SameTexts.{same_text}
-use borrow.Author.Rules.{rules}
 use borrow.Author.Tests.{eqb-true}
 use Rattle.value_order.proofs.passing.same_text.Goals as goal
 

@@ -2,7 +2,6 @@
 use mathlib.Core.Path.{sym, ◌∙◌}
 use native.Mathlib.Omega.{arith}
 use Rattle.value_order.proofs.Moving.{ended_less, bytes_decide}
-use borrow.Author.Rules.{rules}
 use Rattle.value_order.proofs.stretches.look.Goals as goal
 
 pub returns-then-y : goal.returns-then-y

@@ -1,0 +1,10 @@
+-- `counting::forget::forget` meets its contract.
+use Prim.Native.Nat.{◌-◌}
+use Rattle.counting.proofs.Forgetting.{Forgetting}
+use Rattle.counting.proofs.forget.forget.Given as goal
+
+abbrev pub invariant-loop-h : goal.invariant-loop-h
+invariant-loop-h l = Forgetting l.n l.h l.initial.p l.p
+
+abbrev pub decreases-loop-h : goal.decreases-loop-h
+decreases-loop-h l = l.len - l.h

@@ -1,0 +1,21 @@
+-- `driver::settle_tests` meets its contract.
+use Prim.Native.Nat.{◌+◌, ◌-◌}
+use native.Mathlib.Omega.{arith}
+use mathlib.Core.Path.{◌≡◌, refl, ◌∙◌}
+use mathlib.Core.List.{List}
+use lib.ListN.{length, take}
+use Rattle.xpath.specs.Syntax.{Test}
+use Rattle.document_spec.specs.Library.{Node}
+use Rattle.test_numbers.proofs.Counts.{tests_few}
+use Rattle.test_numbers.proofs.Orders.{order_short, order_number}
+use Rattle.driver.specs.Tasks.{Queue}
+use Rattle.driver.proofs.Totals.{Driven, driven_none, number_room, next_task, driven_step, driven_small, drives}
+use Rattle.driver.proofs.settle_tests.Given as goal
+
+-- ── The loop's invariant ──
+abbrev pub invariant-loop-i : goal.invariant-loop-i
+invariant-loop-i l =
+    (length l.t ≡ length l.initial.t) × ((ns : List Node) (T : Test) → Queue l.s l.rule ns T l.n l.initial.t l.offsets l.order → Driven l.e ns l.n T (take l.i l.order) l.initial.t l.t l.snippets)
+
+abbrev pub decreases-loop-i : goal.decreases-loop-i
+decreases-loop-i l = length l.order - l.i

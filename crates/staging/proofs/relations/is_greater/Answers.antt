@@ -1,0 +1,14 @@
+-- `staging::relations::is_greater` meets its contract.
+use mathlib.Core.Path.{sym, ◌∙◌}
+use native.Mathlib.Omega.{arith}
+use Rattle.staging.proofs.Signs.{told_yes, told_no, apart}
+use Rattle.staging.proofs.relations.is_greater.Goals as goal
+
+pub returns-in-Less : goal.returns-in-Less
+returns-in-Less c = told_no (λ e. apart (sym c.in-Less.is ∙ e) (λ z. omega arith))
+
+pub returns-in-Same : goal.returns-in-Same
+returns-in-Same c = told_no (λ e. apart (sym c.in-Same.is ∙ e) (λ z. omega arith))
+
+pub returns-in-Greater : goal.returns-in-Greater
+returns-in-Greater c = told_yes c.in-Greater.is
