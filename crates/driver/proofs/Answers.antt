@@ -34,12 +34,12 @@ and_true true b = (λ e. (refl, e), λ h. h.1)
 and_true false b = (λ e. clash e, λ h. clash h.0)
 
 -- the tests in the brackets of two paths are settled, so the set at a node holds the positions whose test holds there
-brackets_hold : {ns : List Node} {n k : ℕ} {t t₁ : List ℕ} {m : Machine} {numbers : List ℕ} (P R : XPath)
+brackets_hold : (ns : List Node) {n k : ℕ} {t t₁ : List ℕ} {m : Machine} {numbers : List ℕ} (P R : XPath)
     → ((e : ℕ) → e < length (path_tests P ++ path_tests R) → Tells ns n (k + e) (test (path_tests P ++ path_tests R) e) t)
     → Apart n t t₁ → IsMachine P R m → Brackets P R k numbers
     → (v j : ℕ) → v < n → j < 16
     → (and (bit m.brackets j) (held t₁ n (get_or numbers j 0) v) ≡ true) ↔ ((U : Test) × IsStep P R j (stay U) × Holds (tree_of ns) U v)
-brackets_hold {ns} {n} {k} {t} {t₁} {m} {numbers} P R settled apart machine brackets v j l h = (
+brackets_hold ns {n} {k} {t} {t₁} {m} {numbers} P R settled apart machine brackets v j l h = (
   (λ e.
       let (a, b) = (and_true (bit m.brackets j) (held t₁ n (get_or numbers j 0) v)).0 e in
       let (U, g) = (machine.brackets j h).0 a in
@@ -82,4 +82,4 @@ module _ {s : List ℕ} {ns : List Node} {n : ℕ} {t : List ℕ} (scene : Scene
       → ((c v : ℕ) → c ≤ STAYS → c ≢ RANK → v < n → word p n c v ≡ word t₂ n (COLUMNS + c) v)
       → Drawn P R (tree_of ns) n p
   drawn_paths {k} p P R settled machine brackets copied stayed same =
-      drawn p scene copied stayed same P R (brackets_hold {ns = ns} {k = k} P R settled (within_apart some_nodes (omega arith) (omega arith) copied.within) machine brackets)
+      drawn p scene copied stayed same P R (brackets_hold ns {k = k} P R settled (within_apart some_nodes (omega arith) (omega arith) copied.within) machine brackets)

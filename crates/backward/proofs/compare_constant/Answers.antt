@@ -3,7 +3,6 @@ use native.Mathlib.Omega.{arith}
 use Rattle.reach.proofs.Clearing.{cleared_work}
 use Rattle.retracing.proofs.Linked.{linked_same}
 use Rattle.backward.proofs.Hitting.{hits_answered}
-use borrow.Author.Rules.{rules}
 use Rattle.backward.proofs.compare_constant.Goals as goal
 
 pub spread_hits-requires : goal.spread_hits-requires

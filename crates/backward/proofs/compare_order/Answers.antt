@@ -3,7 +3,6 @@ use native.Mathlib.Omega.{arith}
 use Rattle.rank_sets.proofs.Steady.{held_at, held_space}
 use Rattle.retracing.proofs.Linked.{linked_same}
 use Rattle.backward.proofs.Ranking.{bucketed_held, order_answered}
-use borrow.Author.Rules.{rules}
 use Rattle.backward.proofs.compare_order.Goals as goal
 
 pub sweep-requires : goal.sweep-requires

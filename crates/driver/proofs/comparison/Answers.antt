@@ -5,7 +5,6 @@ use Rattle.driver.proofs.Frames.{scratch_room}
 use Rattle.driver.proofs.Answers.{some_nodes}
 use Rattle.driver.proofs.Arms.{number_small}
 use Rattle.driver.proofs.Settling.{taken}
-use borrow.Author.Rules.{rules}
 use Rattle.driver.proofs.comparison.Goals as goal
 
 pub take-requires : goal.take-requires

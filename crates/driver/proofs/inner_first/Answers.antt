@@ -1,10 +1,9 @@
 -- `driver::inner_first` meets its contract.
-use Prim.Native.Nat.{ℕ, suc, ◌+◌, ◌-◌, ◌<◌}
+use Prim.Native.Nat.{◌-◌}
 use native.Mathlib.Omega.{arith}
-use mathlib.Core.Path.{◌≡◌, refl}
-use lib.ListN.{length, get_or, length-set}
+use mathlib.Core.Path.{refl}
+use lib.ListN.{length-set}
 use Rattle.test_numbers.proofs.Orders.{falling_step}
-use borrow.Author.Rules.{rules}
 use Rattle.driver.proofs.inner_first.Goals as goal
 
 pub loop-k-init : goal.loop-k-init

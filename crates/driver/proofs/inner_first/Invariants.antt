@@ -1,10 +1,7 @@
 -- `driver::inner_first` meets its contract.
 use Prim.Native.Nat.{ℕ, suc, ◌+◌, ◌-◌, ◌<◌}
-use native.Mathlib.Omega.{arith}
-use mathlib.Core.Path.{◌≡◌, refl}
-use lib.ListN.{length, get_or, length-set}
-use Rattle.test_numbers.proofs.Orders.{falling_step}
-use borrow.Author.Rules.{rules}
+use mathlib.Core.Path.{◌≡◌}
+use lib.ListN.{length, get_or}
 use Rattle.driver.proofs.inner_first.Given as goal
 
 -- ── The loop's invariant ──

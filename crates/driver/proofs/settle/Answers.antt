@@ -1,15 +1,13 @@
 -- `driver::settle` meets its contract.
-use Prim.Native.Nat.{ℕ, ◌+◌, ◌≤◌, ◌<◌}
+use Prim.Native.Nat.{◌+◌, ◌≤◌}
 use native.Mathlib.Omega.{arith}
-use mathlib.Core.Path.{◌≡◌, sym, ap, subst}
+use mathlib.Core.Path.{sym, ap, subst}
 use lib.ListN.{length}
-use Rattle.xpath.specs.Syntax.{Test}
 use Rattle.document_spec.specs.Binary.{tree_of}
 use Rattle.test_numbers.specs.Tests.{tests_of, test}
 use Rattle.test_numbers.specs.Owned.{own}
 use Rattle.driver.proofs.Totals.{adds_none}
 use Rattle.driver.proofs.Arms.{shaped, test_begins, number_small, room, tabled, name_spans, named_decided, not_decided, not_small, and_small, and_decided, or_small, or_decided}
-use borrow.Author.Rules.{rules}
 use Rattle.driver.proofs.settle.Goals as goal
 
 -- ── The kind of the test, and a name ──

@@ -4,7 +4,6 @@ use mathlib.Core.Path.{sym}
 use lib.Seq.{length-take-le}
 use Rattle.test_numbers.proofs.Orders.{falling_each}
 use Rattle.driver.proofs.Totals.{listed_few, falling_queue}
-use borrow.Author.Rules.{rules}
 use Rattle.driver.proofs.settle_rule.Goals as goal
 
 pub inner_first-requires : goal.inner_first-requires
@@ -23,6 +22,6 @@ settle_tests-requires c =
 
 pub returns : goal.returns
 returns c ns T scene accepts =
-    let order = c.inner_first in let listed = c.tests_of-count.ensures T accepts in let (some, few) = listed_few accepts listed in let e = order.auto.0 in let f = c.tests_of-count.auto.offsets in
-    let queue = falling_queue order.new.0 scene accepts listed (omega arith) (omega arith) order.ensures c.tests_of-count.result (omega arith) in
-    (c.settle_tests.ensures ns T queue).whole (falling_each T order.new.0 (omega arith) order.ensures listed.all)
+    let order = c.inner_first in let listed = c.tests_of-count.ensures T accepts in let (some, few) = listed_few accepts listed in let e = order.auto.order in let f = c.tests_of-count.auto.offsets in
+    let queue = falling_queue order.new.order scene accepts listed (omega arith) (omega arith) order.ensures c.tests_of-count.result (omega arith) in
+    (c.settle_tests.ensures ns T queue).whole (falling_each T order.new.order (omega arith) order.ensures listed.all)

@@ -1,15 +1,10 @@
 -- `driver::settle_tests` meets its contract.
-use Prim.Native.Nat.{◌+◌, ◌-◌}
+use Prim.Native.Nat.{◌+◌}
 use native.Mathlib.Omega.{arith}
-use mathlib.Core.Path.{◌≡◌, refl, ◌∙◌}
-use mathlib.Core.List.{List}
-use lib.ListN.{length, take}
-use Rattle.xpath.specs.Syntax.{Test}
-use Rattle.document_spec.specs.Library.{Node}
+use mathlib.Core.Path.{refl, ◌∙◌}
 use Rattle.test_numbers.proofs.Counts.{tests_few}
 use Rattle.test_numbers.proofs.Orders.{order_short, order_number}
-use Rattle.driver.specs.Tasks.{Queue}
-use Rattle.driver.proofs.Totals.{Driven, driven_none, number_room, next_task, driven_step, driven_small, drives}
+use Rattle.driver.proofs.Totals.{driven_none, number_room, next_task, driven_step, driven_small, drives}
 use Rattle.driver.proofs.settle_tests.Goals as goal
 
 -- ── Entering the loop ──
@@ -52,7 +47,7 @@ loop-i-smaller c = let h = c.loop-i-test.true in omega arith
 pub loop-i-preserved : goal.loop-i-preserved
 loop-i-preserved c =
     let i = c.loop-i in let h = c.loop-i-test.true in let d = c.settle-own in (
-      d.auto.1.1.1.0 ∙ i.invariant.0,
+      d.auto.t ∙ i.invariant.0,
       λ ns T queue. let done = i.invariant.1 ns T queue in driven_step queue i.i done h (d.ensures ns T (next_task queue i.i done h)),
     )
 

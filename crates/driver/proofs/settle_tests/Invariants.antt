@@ -1,15 +1,12 @@
 -- `driver::settle_tests` meets its contract.
-use Prim.Native.Nat.{◌+◌, ◌-◌}
-use native.Mathlib.Omega.{arith}
-use mathlib.Core.Path.{◌≡◌, refl, ◌∙◌}
+use Prim.Native.Nat.{◌-◌}
+use mathlib.Core.Path.{◌≡◌}
 use mathlib.Core.List.{List}
 use lib.ListN.{length, take}
 use Rattle.xpath.specs.Syntax.{Test}
 use Rattle.document_spec.specs.Library.{Node}
-use Rattle.test_numbers.proofs.Counts.{tests_few}
-use Rattle.test_numbers.proofs.Orders.{order_short, order_number}
 use Rattle.driver.specs.Tasks.{Queue}
-use Rattle.driver.proofs.Totals.{Driven, driven_none, number_room, next_task, driven_step, driven_small, drives}
+use Rattle.driver.proofs.Totals.{Driven}
 use Rattle.driver.proofs.settle_tests.Given as goal
 
 -- ── The loop's invariant ──

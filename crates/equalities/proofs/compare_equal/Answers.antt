@@ -1,5 +1,4 @@
 -- `equalities::compare_equal` meets its contract.
-use borrow.Author.Rules.{rules}
 use native.Mathlib.Omega.{arith}
 use Rattle.equalities.proofs.Composition.{prepared_base, gathered_some, edges_fit, evaluated}
 use Rattle.equalities.proofs.compare_equal.Goals as goal

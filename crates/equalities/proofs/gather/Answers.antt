@@ -1,6 +1,5 @@
 -- `equalities::gather` meets its contract.
 use Rattle.equalities.proofs.Composition.{gathered}
-use borrow.Author.Rules.{rules}
 use Rattle.equalities.proofs.gather.Goals as goal
 
 pub returns : goal.returns

@@ -1,5 +1,4 @@
 -- `equalities::prepare` meets its contract.
-use borrow.Author.Rules.{rules}
 use native.Mathlib.Omega.{arith}
 use Rattle.equalities.proofs.Composition.{looped, prepared}
 use Rattle.equalities.proofs.prepare.Goals as goal

@@ -2,7 +2,6 @@
 use mathlib.Core.Path.{sym}
 use lib.Seq.{length-take-le}
 use Rattle.evaluators.proofs.Snippeting.{posed_shape, powered_listed, groups_asked, groups_nodes, groups_once, equal_asked, equal_compared}
-use borrow.Author.Rules.{rules}
 use Rattle.evaluators.proofs.by_groups.Goals as goal
 
 pub prepare-b-requires : goal.prepare-b-requires

@@ -10,7 +10,6 @@ use Rattle.evaluators.specs.Evaluators.{Compared}
 use Rattle.evaluators.specs.declared.Evaluator.TheVariants.{Snippets}
 use Rattle.evaluators.proofs.Staging.{drawn_space, equal_posed}
 use Rattle.evaluators.proofs.Snippeting.{other_compared}
-use borrow.Author.Rules.{rules}
 use Rattle.evaluators.proofs.by_snippets.Goals as goal
 
 pub by_groups-requires : goal.by_groups-requires

@@ -3,7 +3,6 @@ use mathlib.Core.Path.{refl, sym, ◌∙◌}
 use Rattle.machine.proofs.Comparing.{meets_holds}
 use Rattle.evaluators.proofs.Staging.{drawn_space, equal_small, answered_as}
 use Rattle.machine.proofs.Comparing.{second_few_lem}
-use borrow.Author.Rules.{rules}
 use Rattle.evaluators.proofs.by_walks.Goals as goal
 
 pub compare_paths-requires : goal.compare_paths-requires

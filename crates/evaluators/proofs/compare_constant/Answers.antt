@@ -2,7 +2,6 @@
 use Rattle.machine.proofs.Comparing.{hits_holds}
 use Rattle.retracing.proofs.Linked.{linked_drawn}
 use Rattle.evaluators.proofs.Staging.{drawn_space, answered_as}
-use borrow.Author.Rules.{rules}
 use Rattle.evaluators.proofs.compare_constant.Goals as goal
 
 pub compare_constant-requires : goal.compare_constant-requires

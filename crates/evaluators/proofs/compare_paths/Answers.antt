@@ -1,7 +1,6 @@
 -- `evaluators::compare_paths` meets its contract.
 use mathlib.Core.Path.{sym, subst}
 use Rattle.evaluators.specs.Evaluators.{Compared}
-use borrow.Author.Rules.{rules}
 use Rattle.evaluators.proofs.compare_paths.Goals as goal
 
 pub returns-in-Plain : goal.returns-in-Plain

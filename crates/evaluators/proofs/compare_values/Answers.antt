@@ -1,6 +1,5 @@
 -- `evaluators::compare_values` meets its contract.
 use Rattle.evaluators.proofs.Snippeting.{posed_shape, equal_asked, values_compared}
-use borrow.Author.Rules.{rules}
 use Rattle.evaluators.proofs.compare_values.Goals as goal
 
 pub prepare-b-requires : goal.prepare-b-requires

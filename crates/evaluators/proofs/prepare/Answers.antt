@@ -1,7 +1,6 @@
 -- `evaluators::prepare` meets its contract.
 use Rattle.layout.proofs.Frames.{room_within}
 use Rattle.evaluators.proofs.Snippeting.{part_room, powered}
-use borrow.Author.Rules.{rules}
 use Rattle.evaluators.proofs.prepare.Goals as goal
 
 pub levels-l-requires : goal.levels-l-requires

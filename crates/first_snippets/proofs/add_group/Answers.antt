@@ -4,7 +4,6 @@ use Rattle.layout.proofs.Rest.{rest_within}
 use Rattle.powers.proofs.Rest.{stage_shape, sizes_front}
 use Rattle.group_ends.proofs.Rest.{given_rest}
 use Rattle.first_snippets.proofs.Adding.{given_marked, group_added}
-use borrow.Author.Rules.{rules}
 use Rattle.first_snippets.proofs.add_group.Goals as goal
 
 pub mark_group-requires : goal.mark_group-requires

@@ -1,6 +1,5 @@
 -- `first_snippets::add_rank` meets its contract.
 use Rattle.first_snippets.proofs.Adding.{grounds_of, rank_added, rank_alone}
-use borrow.Author.Rules.{rules}
 use Rattle.first_snippets.proofs.add_rank.Goals as goal
 
 pub add_group-requires : goal.add_group-requires

@@ -1,10 +1,8 @@
 -- `first_snippets::add_values` meets its contract.
-use Prim.Native.Nat.{◌-◌}
 use native.Mathlib.Omega.{arith}
-use lib.ListN.{length}
 use Rattle.powers.proofs.Rest.{sizes_front}
 use Rattle.first_snippets.proofs.Adding.{base_rest}
-use Rattle.first_snippets.proofs.Lists.{Taking, node_at, rank_at, taking_none, taking_step, taking_all}
+use Rattle.first_snippets.proofs.Lists.{node_at, rank_at, taking_none, taking_step, taking_all}
 use Rattle.first_snippets.proofs.add_values.Goals as goal
 
 pub loop-i-init : goal.loop-i-init

@@ -4,7 +4,6 @@ use mathlib.Core.Bool.{false≢true}
 use native.Mathlib.Omega.{arith}
 use borrow.Author.Tests.{lt-ltb}
 use Rattle.first_snippets.proofs.Adding.{none_alone, first_somewhere, first_alone}
-use borrow.Author.Rules.{rules}
 use Rattle.first_snippets.proofs.is_shared.Goals as goal
 
 pub returns-then-w-n : goal.returns-then-w-n

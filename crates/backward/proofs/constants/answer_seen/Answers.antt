@@ -1,12 +1,12 @@
 -- `backward::constants::answer_seen` meets its contract.
-use Prim.Native.Nat.{ℕ, ◌-◌}
+use Prim.Native.Nat.{ℕ}
 use mathlib.Core.Path.{◌≡◌, sym, ap, ◌∙◌}
 use native.Mathlib.Omega.{arith}
 use Rattle.bits.specs.Sets.{bit}
 use Rattle.layout.specs.Part.{SEEN}
 use Rattle.layout.specs.Words.{cell, word}
 use Rattle.reach.specs.Work.{Seen}
-use Rattle.backward.proofs.Telling.{Telling, telling_none, telling_step, telling_space, telling_all}
+use Rattle.backward.proofs.Telling.{telling_none, telling_step, telling_space, telling_all}
 use Rattle.backward.proofs.constants.answer_seen.Goals as goal
 
 pub loop-v-init : goal.loop-v-init

@@ -1,7 +1,6 @@
 -- `backward::constants::spread_hit` meets its contract.
 use mathlib.Core.Path.{sym, ◌∙◌}
 use Rattle.backward.proofs.Hitting.{hit_taken, hit_missed}
-use borrow.Author.Rules.{rules}
 use Rattle.backward.proofs.constants.spread_hit.Goals as goal
 
 pub returns-then-get-eq1 : goal.returns-then-get-eq1

@@ -1,7 +1,6 @@
 -- `backward::constants::spread_hits` meets its contract.
-use Prim.Native.Nat.{◌-◌}
 use native.Mathlib.Omega.{arith}
-use Rattle.backward.proofs.Hitting.{Hitting, hitting_none, hitting_step, hitting_all}
+use Rattle.backward.proofs.Hitting.{hitting_none, hitting_step, hitting_all}
 use Rattle.backward.proofs.constants.spread_hits.Goals as goal
 
 pub loop-w-init : goal.loop-w-init

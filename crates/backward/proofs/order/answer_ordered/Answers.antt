@@ -1,12 +1,11 @@
 -- `backward::order::answer_ordered` meets its contract.
-use Prim.Native.Nat.{◌-◌}
 use mathlib.Core.Path.{◌≡◌, ◌∙◌, subst₂}
 use mathlib.Core.Logic.{◌↔◌}
 use mathlib.Core.Bool.{true}
 use native.Mathlib.Omega.{arith}
 use Rattle.rank_sets.specs.Ranges.{Across}
 use Rattle.backward.specs.Sweeps.{range_of}
-use Rattle.backward.proofs.Telling.{Telling, telling_none, telling_step, telling_space, telling_range, telling_all}
+use Rattle.backward.proofs.Telling.{telling_none, telling_step, telling_space, telling_range, telling_all}
 use Rattle.backward.proofs.order.answer_ordered.Goals as goal
 
 pub loop-v-init : goal.loop-v-init

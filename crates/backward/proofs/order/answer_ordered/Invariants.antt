@@ -1,12 +1,8 @@
 -- `backward::order::answer_ordered` meets its contract.
 use Prim.Native.Nat.{◌-◌}
-use mathlib.Core.Path.{◌≡◌, ◌∙◌, subst₂}
-use mathlib.Core.Logic.{◌↔◌}
-use mathlib.Core.Bool.{true}
-use native.Mathlib.Omega.{arith}
 use Rattle.rank_sets.specs.Ranges.{Across}
 use Rattle.backward.specs.Sweeps.{range_of}
-use Rattle.backward.proofs.Telling.{Telling, telling_none, telling_step, telling_space, telling_range, telling_all}
+use Rattle.backward.proofs.Telling.{Telling}
 use Rattle.backward.proofs.order.answer_ordered.Given as goal
 
 abbrev pub invariant-loop-v : goal.invariant-loop-v

@@ -2,7 +2,6 @@
 use Prim.Native.Nat.{ℕ}
 use mathlib.Core.Path.{ap₂}
 use Rattle.rank_sets.specs.declared.ranges.Range.{Range}
-use borrow.Author.Rules.{rules}
 use Rattle.backward.proofs.order.range_at.Goals as goal
 
 pub returns : goal.returns

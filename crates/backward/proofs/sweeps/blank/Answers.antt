@@ -1,6 +1,5 @@
 -- `backward::sweeps::blank` meets its contract.
 use Rattle.backward.proofs.Filling.{blanked}
-use borrow.Author.Rules.{rules}
 use Rattle.backward.proofs.sweeps.blank.Goals as goal
 
 pub returns : goal.returns

@@ -1,8 +1,7 @@
 -- `backward::sweeps::fall` meets its contract.
-use Prim.Native.Nat.{◌≤◌}
 use native.Mathlib.Omega.{arith}
 use Rattle.layout.specs.Sweeps.{ABOVE}
-use Rattle.backward.proofs.Ranking.{Falling, falling_none, falling_step, falling_all, spared_buckets}
+use Rattle.backward.proofs.Ranking.{falling_none, falling_step, falling_all, spared_buckets}
 use Rattle.backward.proofs.sweeps.fall.Goals as goal
 
 pub loop-r-init : goal.loop-r-init

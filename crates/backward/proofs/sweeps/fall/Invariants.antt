@@ -1,8 +1,6 @@
 -- `backward::sweeps::fall` meets its contract.
 use Prim.Native.Nat.{◌≤◌}
-use native.Mathlib.Omega.{arith}
-use Rattle.layout.specs.Sweeps.{ABOVE}
-use Rattle.backward.proofs.Ranking.{Falling, falling_none, falling_step, falling_all, spared_buckets}
+use Rattle.backward.proofs.Ranking.{Falling}
 use Rattle.backward.proofs.sweeps.fall.Given as goal
 
 abbrev pub invariant-loop-r : goal.invariant-loop-r

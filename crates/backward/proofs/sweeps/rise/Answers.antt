@@ -1,8 +1,7 @@
 -- `backward::sweeps::rise` meets its contract.
-use Prim.Native.Nat.{◌-◌, ◌≤◌}
 use native.Mathlib.Omega.{arith}
 use Rattle.layout.specs.Sweeps.{LEAST}
-use Rattle.backward.proofs.Ranking.{Rising, rising_none, rising_step, rising_all, spared_buckets}
+use Rattle.backward.proofs.Ranking.{rising_none, rising_step, rising_all, spared_buckets}
 use Rattle.backward.proofs.sweeps.rise.Goals as goal
 
 pub loop-r-init : goal.loop-r-init

@@ -2,7 +2,6 @@
 use native.Mathlib.Omega.{arith}
 use Rattle.layout.specs.Sweeps.{LEAST}
 use Rattle.backward.proofs.Ranking.{spared_ready, ready_again, ranges_all}
-use borrow.Author.Rules.{rules}
 use Rattle.backward.proofs.sweeps.sweep.Goals as goal
 
 pub rise-requires : goal.rise-requires

@@ -4,11 +4,13 @@ use Rattle.document_spec.specs.Binary.{tree_of}
 use Rattle.driver.proofs.Frames.{scratch_room}
 use Rattle.driver.proofs.Answers.{some_nodes}
 use Rattle.driver.proofs.Lending.{paths_posed, paths_long, paths_compared}
-use borrow.Author.Rules.{rules}
 use Rattle.driver.proofs.comparisons.between_paths.Goals as goal
 
 pub slice_bounds-compare_paths-count : goal.slice_bounds-compare_paths-count
 slice_bounds-compare_paths-count c = let r = scratch_room c.args.n (some_nodes c.requires.2.task.scene) in let e = c.needed-end.ensures in omega arith
+
+pub slice_bounds-compare_paths-start : goal.slice_bounds-compare_paths-start
+slice_bounds-compare_paths-start c = let r = scratch_room c.args.n (some_nodes c.requires.2.task.scene) in let e = c.needed-end.ensures in omega arith
 
 pub compare_paths-requires : goal.compare_paths-requires
 compare_paths-requires c =

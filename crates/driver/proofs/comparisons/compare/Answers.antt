@@ -10,7 +10,6 @@ use Rattle.driver.specs.Tasks.{Constant}
 use Rattle.driver.proofs.Arms.{test_begins}
 use Rattle.driver.proofs.Totals.{adds_none}
 use Rattle.driver.proofs.Operands.{second_inside, is_paths, is_constant, constant_ends}
-use borrow.Author.Rules.{rules}
 use Rattle.driver.proofs.comparisons.compare.Goals as goal
 
 -- ── Where the second operand stands ──

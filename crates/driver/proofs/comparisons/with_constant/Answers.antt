@@ -5,7 +5,6 @@ use Rattle.driver.proofs.Answers.{some_nodes}
 use Rattle.driver.proofs.Arms.{number_small}
 use Rattle.driver.proofs.Asked.{constant_ready}
 use Rattle.driver.proofs.Lending.{draw_room, drawn_scene, constant_asked, constant_compared}
-use borrow.Author.Rules.{rules}
 use Rattle.driver.proofs.comparisons.with_constant.Goals as goal
 
 pub overflow_add-k : goal.overflow_add-k
@@ -21,6 +20,9 @@ draw_hits-requires c =
 
 pub slice_bounds-compare_constant-count : goal.slice_bounds-compare_constant-count
 slice_bounds-compare_constant-count c = let r = scratch_room c.args.n (some_nodes c.requires.2.task.scene) in let e = c.needed-end.ensures in omega arith
+
+pub slice_bounds-compare_constant-start : goal.slice_bounds-compare_constant-start
+slice_bounds-compare_constant-start c = let r = scratch_room c.args.n (some_nodes c.requires.2.task.scene) in let e = c.needed-end.ensures in omega arith
 
 pub compare_constant-requires : goal.compare_constant-requires
 compare_constant-requires c =

@@ -7,7 +7,6 @@ use Rattle.driver.proofs.Arms.{test_begins, number_small}
 use Rattle.driver.proofs.Settling.{taken}
 use Rattle.driver.proofs.Asked.{count_is, count_ready}
 use Rattle.driver.proofs.Lending.{lent_apart, path_apart, count_asked, count_answers}
-use borrow.Author.Rules.{rules}
 use Rattle.driver.proofs.counts.count.Goals as goal
 
 -- ── Drawing the part ──
@@ -22,6 +21,9 @@ draw_path-m-requires c = let p = c.requires in (p.0, p.1, p.4.1, count_ready p.3
 
 pub slice_bounds-count_nodes-count : goal.slice_bounds-count_nodes-count
 slice_bounds-count_nodes-count c = let r = scratch_room c.args.n (some_nodes c.requires.3.scene) in let e = c.needed-end.ensures in omega arith
+
+pub slice_bounds-count_nodes-start : goal.slice_bounds-count_nodes-start
+slice_bounds-count_nodes-start c = let r = scratch_room c.args.n (some_nodes c.requires.3.scene) in let e = c.needed-end.ensures in omega arith
 
 pub count_nodes-requires : goal.count_nodes-requires
 count_nodes-requires c =

@@ -2,7 +2,6 @@
 use mathlib.Core.Path.{refl}
 use Rattle.driver.proofs.Asked.{has_brackets_alone, path_drawn}
 use Rattle.driver.proofs.Lending.{draw_room}
-use borrow.Author.Rules.{rules}
 use Rattle.driver.proofs.paths.draw_path.Goals as goal
 
 pub draw-requires : goal.draw-requires

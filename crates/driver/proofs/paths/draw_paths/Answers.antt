@@ -4,7 +4,6 @@ use mathlib.Core.Path.{refl, ◌∙◌}
 use Rattle.driver.proofs.Arms.{number_small}
 use Rattle.driver.proofs.Asked.{two_paths, two_numbered, has_brackets}
 use Rattle.driver.proofs.Lending.{draw_room, paths_drawn}
-use borrow.Author.Rules.{rules}
 use Rattle.driver.proofs.paths.draw_paths.Goals as goal
 
 pub machine_of-m-requires : goal.machine_of-m-requires

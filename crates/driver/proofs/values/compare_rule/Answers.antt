@@ -7,7 +7,6 @@ use Rattle.driver.proofs.Answers.{some_nodes}
 use Rattle.driver.proofs.Arms.{test_begins}
 use Rattle.driver.proofs.Lending.{paths_posed, paths_long, paths_apart, lent_apart}
 use Rattle.driver.proofs.ByValues.{rule_paths, rule_compared}
-use borrow.Author.Rules.{rules}
 use Rattle.driver.proofs.values.compare_rule.Goals as goal
 
 -- ── Drawing the part ──
@@ -19,6 +18,9 @@ draw_paths-m-requires c = let (s, ns, P, R, task) = c.requires.0 in (s, ns, comp
 
 pub slice_bounds-compare_values-count : goal.slice_bounds-compare_values-count
 slice_bounds-compare_values-count c = let r = scratch_room c.args.n (some_nodes c.requires.0.4.scene) in let e = c.needed-end.ensures in omega arith
+
+pub slice_bounds-compare_values-start : goal.slice_bounds-compare_values-start
+slice_bounds-compare_values-start c = let r = scratch_room c.args.n (some_nodes c.requires.0.4.scene) in let e = c.needed-end.ensures in omega arith
 
 pub compare_values-own-requires : goal.compare_values-own-requires
 compare_values-own-requires c =

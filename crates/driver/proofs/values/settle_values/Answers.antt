@@ -7,7 +7,6 @@ use Rattle.xpath.specs.Syntax.{compare, eq}
 use Rattle.test_numbers.proofs.Counts.{tests_some}
 use Rattle.driver.proofs.Totals.{listed_few}
 use Rattle.driver.proofs.ByValues.{inner_queue, rule_task, evaluated_by, sum_small}
-use borrow.Author.Rules.{rules}
 use Rattle.driver.proofs.values.settle_values.Goals as goal
 
 pub inner_first-requires : goal.inner_first-requires
@@ -27,26 +26,26 @@ slice_bounds-settle_tests-length c =
 pub settle_tests-inner-requires : goal.settle_tests-inner-requires
 settle_tests-inner-requires c =
     let (ns, P, R, scene, accepts) = c.requires.0 in let order = c.inner_first in
-    (ns, compare eq P R, inner_queue scene accepts (c.tests_of-count.ensures (compare eq P R) accepts) c.tests_of-count.auto.offsets order.new.0 order.auto.0 order.ensures)
+    (ns, compare eq P R, inner_queue scene accepts (c.tests_of-count.ensures (compare eq P R) accepts) c.tests_of-count.auto.offsets order.new.order order.auto.order order.ensures)
 
 -- ── The rule itself ──
 pub compare_rule-own-requires : goal.compare_rule-own-requires
 compare_rule-own-requires c =
     let ((ns, P, R, scene, accepts), nodes) = c.requires in let tests = c.tests_of-count in let listed = tests.ensures (compare eq P R) accepts in let order = c.inner_first in
-    let drives = c.settle_tests-inner.ensures ns (compare eq P R) (inner_queue scene accepts listed tests.auto.1.0 order.new.0 order.auto.0 order.ensures) in
-    ((c.args.s.now, ns, P, R, rule_task scene accepts listed tests.auto.1.0 order.new.0 order.auto.0 order.ensures drives), nodes)
+    let drives = c.settle_tests-inner.ensures ns (compare eq P R) (inner_queue scene accepts listed tests.auto.offsets order.new.order order.auto.order order.ensures) in
+    ((c.args.s.now, ns, P, R, rule_task scene accepts listed tests.auto.offsets order.new.order order.auto.order order.ensures drives), nodes)
 
 pub overflow_add-result : goal.overflow_add-result
 overflow_add-result c =
     let ((ns, P, R, scene, accepts), nodes) = c.requires in let tests = c.tests_of-count in let listed = tests.ensures (compare eq P R) accepts in let order = c.inner_first in
-    let drives = c.settle_tests-inner.ensures ns (compare eq P R) (inner_queue scene accepts listed tests.auto.1.0 order.new.0 order.auto.0 order.ensures) in
-    let compares = c.compare_rule-own.ensures c.args.s.now ns P R (rule_task scene accepts listed tests.auto.1.0 order.new.0 order.auto.0 order.ensures drives) in
-    let l = sum_small scene accepts listed tests.auto.1.0 order.new.0 order.auto.0 order.ensures drives compares in
+    let drives = c.settle_tests-inner.ensures ns (compare eq P R) (inner_queue scene accepts listed tests.auto.offsets order.new.order order.auto.order order.ensures) in
+    let compares = c.compare_rule-own.ensures c.args.s.now ns P R (rule_task scene accepts listed tests.auto.offsets order.new.order order.auto.order order.ensures drives) in
+    let l = sum_small scene accepts listed tests.auto.offsets order.new.order order.auto.order order.ensures drives compares in
     omega arith
 
 pub returns : goal.returns
 returns c ns P R scene accepts =
     let tests = c.tests_of-count in let listed = tests.ensures (compare eq P R) accepts in let order = c.inner_first in
-    let drives = c.settle_tests-inner.ensures ns (compare eq P R) (inner_queue scene accepts listed tests.auto.1.0 order.new.0 order.auto.0 order.ensures) in
-    evaluated_by scene accepts listed tests.auto.1.0 order.new.0 order.auto.0 order.ensures drives
-    (c.compare_rule-own.ensures c.args.s.now ns P R (rule_task scene accepts listed tests.auto.1.0 order.new.0 order.auto.0 order.ensures drives))
+    let drives = c.settle_tests-inner.ensures ns (compare eq P R) (inner_queue scene accepts listed tests.auto.offsets order.new.order order.auto.order order.ensures) in
+    evaluated_by scene accepts listed tests.auto.offsets order.new.order order.auto.order order.ensures drives
+    (c.compare_rule-own.ensures c.args.s.now ns P R (rule_task scene accepts listed tests.auto.offsets order.new.order order.auto.order order.ensures drives))

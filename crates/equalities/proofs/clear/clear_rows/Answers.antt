@@ -1,7 +1,5 @@
 -- `equalities::clear::clear_rows` meets its contract.
-use Prim.Native.Nat.{◌≤◌, ◌-◌}
 use native.Mathlib.Omega.{arith}
-use Rattle.equalities.specs.Steps.{Zeroed}
 use Rattle.equalities.proofs.Clearing.{zeroed_none, zeroed_step, zeroed_to}
 use Rattle.equalities.proofs.clear.clear_rows.Goals as goal
 

@@ -1,5 +1,5 @@
 -- `equalities::clear::clear_snippets` meets its contract.
-use Prim.Native.Nat.{◌*◌, ◌≤◌, ◌-◌}
+use Prim.Native.Nat.{◌*◌}
 use mathlib.Core.Path.{◌≡◌, subst}
 use native.Mathlib.Omega.{arith}
 use Rattle.equalities.specs.Steps.{Cleared}

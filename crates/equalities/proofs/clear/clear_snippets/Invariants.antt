@@ -1,9 +1,6 @@
 -- `equalities::clear::clear_snippets` meets its contract.
-use Prim.Native.Nat.{◌*◌, ◌≤◌, ◌-◌}
-use mathlib.Core.Path.{◌≡◌, subst}
-use native.Mathlib.Omega.{arith}
+use Prim.Native.Nat.{◌≤◌, ◌-◌}
 use Rattle.equalities.specs.Steps.{Cleared}
-use Rattle.equalities.proofs.Clearing.{cleared_none, cleared_step}
 use Rattle.equalities.proofs.clear.clear_snippets.Given as goal
 
 abbrev pub invariant-loop-i : goal.invariant-loop-i

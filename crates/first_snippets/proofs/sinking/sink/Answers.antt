@@ -1,5 +1,4 @@
 -- `first_snippets::sinking::sink` meets its contract.
-use Prim.Native.Nat.{◌-◌, ◌≤◌}
 use mathlib.Core.Path.{◌≡◌, subst}
 use native.Mathlib.Omega.{arith}
 use Rattle.first_snippets.specs.Steps.{Sank}

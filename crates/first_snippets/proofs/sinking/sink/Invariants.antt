@@ -1,11 +1,6 @@
 -- `first_snippets::sinking::sink` meets its contract.
 use Prim.Native.Nat.{◌-◌, ◌≤◌}
-use mathlib.Core.Path.{◌≡◌, subst}
-use native.Mathlib.Omega.{arith}
 use Rattle.first_snippets.specs.Steps.{Sank}
-use Rattle.layout.proofs.Rest.{rest_more}
-use Rattle.group_ends.proofs.Rest.{given_rest}
-use Rattle.first_snippets.proofs.Descending.{sank_none}
 use Rattle.first_snippets.proofs.sinking.sink.Given as goal
 
 abbrev pub invariant-loop-v : goal.invariant-loop-v

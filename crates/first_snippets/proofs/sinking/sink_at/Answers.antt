@@ -4,7 +4,6 @@ use mathlib.Core.Bool.{false≢true}
 use native.Mathlib.Omega.{arith}
 use Rattle.group_ends.proofs.Ascending.{given_placed}
 use Rattle.first_snippets.proofs.Descending.{sinks_skip, sinks_by, sinks_top}
-use borrow.Author.Rules.{rules}
 use Rattle.first_snippets.proofs.sinking.sink_at.Goals as goal
 
 pub sink_by-requires : goal.sink_by-requires

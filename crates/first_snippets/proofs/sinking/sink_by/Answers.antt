@@ -4,7 +4,6 @@ use Rattle.powers.proofs.Rest.{sizes_front}
 use Rattle.lifting.proofs.Rest.{stretch_kept}
 use Rattle.group_ends.proofs.Ascending.{placed_node, placed_stretch}
 use Rattle.first_snippets.proofs.Descending.{put_rest, sinks_edge}
-use borrow.Author.Rules.{rules}
 use Rattle.first_snippets.proofs.sinking.sink_by.Goals as goal
 
 pub lower-above-requires : goal.lower-above-requires

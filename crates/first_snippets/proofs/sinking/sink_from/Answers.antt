@@ -1,7 +1,6 @@
 -- `first_snippets::sinking::sink_from` meets its contract.
 use native.Mathlib.Omega.{arith}
 use Rattle.first_snippets.proofs.Descending.{sank_step, sank_block}
-use borrow.Author.Rules.{rules}
 use Rattle.first_snippets.proofs.sinking.sink_from.Goals as goal
 
 pub returns-then-is_empty : goal.returns-then-is_empty
