@@ -1,4 +1,6 @@
 // The evaluations: the inputs are judged, and where they are accepted the rule is settled in the scratch and its nodes are marked.
+#![tactic(auto)]
+
 pub mod values;
 
 ghost use Rattle.std.specs.Prelude.{◌≤◌, ◌<◌, ◌≡◌, List, length};
