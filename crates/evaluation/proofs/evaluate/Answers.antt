@@ -1,7 +1,6 @@
 -- `evaluation::evaluate` meets its contract.
 use Rattle.verdicts.proofs.Judging.{judged_accepted}
 use Rattle.evaluation.proofs.Calls.{call_refused, call_accepted}
-use borrow.Author.Rules.{rules}
 use Rattle.evaluation.proofs.evaluate.Goals as goal
 
 pub returns-then-j-ne0 : goal.returns-then-j-ne0

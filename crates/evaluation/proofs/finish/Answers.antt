@@ -1,6 +1,5 @@
 -- `evaluation::finish` meets its contract.
 use Rattle.evaluation.proofs.Selecting.{table_room, finished}
-use borrow.Author.Rules.{rules}
 use Rattle.evaluation.proofs.finish.Goals as goal
 
 pub mark-selected-requires : goal.mark-selected-requires

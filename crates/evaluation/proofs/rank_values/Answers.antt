@@ -1,7 +1,6 @@
 -- `evaluation::rank_values` meets its contract.
 use Rattle.table.proofs.Trees.{tree_size}
 use Rattle.evaluation.proofs.Ranking.{written_annotated, written_within}
-use borrow.Author.Rules.{rules}
 use Rattle.evaluation.proofs.rank_values.Goals as goal
 
 pub rank_amounts-requires : goal.rank_amounts-requires

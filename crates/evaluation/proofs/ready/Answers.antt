@@ -1,6 +1,5 @@
 -- `evaluation::ready` meets its contract.
 use Rattle.evaluation.proofs.Selecting.{table_room, needed, tabled, readied}
-use borrow.Author.Rules.{rules}
 use Rattle.evaluation.proofs.ready.Goals as goal
 
 pub build-requires : goal.build-requires

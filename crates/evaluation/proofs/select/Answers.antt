@@ -1,6 +1,5 @@
 -- `evaluation::select` meets its contract.
 use Rattle.evaluation.proofs.Selecting.{size_one, enough, finish_asked, selected}
-use borrow.Author.Rules.{rules}
 use Rattle.evaluation.proofs.select.Goals as goal
 
 pub ready-requires : goal.ready-requires

@@ -1,7 +1,6 @@
 -- `evaluation::values::evaluate_values` meets its contract.
 use Rattle.verdicts.proofs.JudgingValues.{values_accepted}
 use Rattle.evaluation.proofs.Calls.{values_refused, values_evaluated}
-use borrow.Author.Rules.{rules}
 use Rattle.evaluation.proofs.values.evaluate_values.Goals as goal
 
 pub returns-then-j-ne0 : goal.returns-then-j-ne0

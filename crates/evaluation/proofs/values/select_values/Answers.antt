@@ -3,7 +3,6 @@ use mathlib.Core.Path.{subst}
 use Prim.Native.Nat.{◌<◌}
 use Rattle.lists.specs.Lists.{All}
 use Rattle.evaluation.proofs.Selecting.{size_one, enough, finish_asked, values_selected}
-use borrow.Author.Rules.{rules}
 use Rattle.evaluation.proofs.values.select_values.Goals as goal
 
 pub ready-requires : goal.ready-requires
