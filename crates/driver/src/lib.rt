@@ -2,10 +2,10 @@
 // Which evaluation it is goes along as an argument, and shows only where `evaluators` answers a comparison.
 #![tactic(auto)]
 
+pub mod by_values;
 mod comparisons;
 mod counts;
 mod paths;
-pub mod values;
 
 ghost use Rattle.std.specs.Prelude.{List, ◌≤◌, length};
 ghost use Rattle.xpath.specs.Syntax.{Test};

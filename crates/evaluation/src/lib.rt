@@ -1,7 +1,7 @@
 // The evaluations: the inputs are judged, and where they are accepted the rule is settled in the scratch and its nodes are marked.
 #![tactic(auto)]
 
-pub mod values;
+pub mod by_values;
 
 ghost use Rattle.std.specs.Prelude.{◌≤◌, ◌<◌, ◌≡◌, List, length};
 ghost use Rattle.limits.specs.Limits.{document_nodes, scratch_words};

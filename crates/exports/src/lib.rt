@@ -63,5 +63,5 @@ pub extern "C" fn yurzhoad_evaluate_values(
 ) -> Evaluation
     ensures { ValuesEvaluation document.now rule.now values.now scratch.old marks.old (outcome_of result) scratch.new marks.new }
 {
-    evaluation::values::evaluate_values(document, rule, values, scratch, marks)
+    evaluation::by_values::evaluate_values(document, rule, values, scratch, marks)
 }

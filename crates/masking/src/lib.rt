@@ -1,1 +1,3 @@
+#![tactic(auto)]
+
 // Definitions and proofs alone: see specs/ and proofs/.

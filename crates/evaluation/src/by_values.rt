@@ -6,7 +6,7 @@ ghost use Rattle.evaluation_spec.specs.Values.{ValuesAccepted, ValuesEvaluation}
 ghost use Rattle.evaluation.specs.Outcomes.{outcome_of, ValuesSelection};
 
 use crate::{Evaluation, Picked, finish, ready};
-use driver::values::settle_values;
+use driver::by_values::settle_values;
 use verdicts::judge_values;
 
 // Marks the nodes at which the values in the list settle an accepted equality, and leaves zeros in the scratch.

@@ -1,4 +1,4 @@
--- `driver::values::settle_values` meets its contract.
+-- `driver::by_values::settle_values` meets its contract.
 use Prim.Native.Nat.{◌-◌}
 use native.Mathlib.Omega.{arith}
 use mathlib.Core.Path.{sym}
@@ -7,7 +7,7 @@ use Rattle.xpath.specs.Syntax.{compare, eq}
 use Rattle.test_numbers.proofs.Counts.{tests_some}
 use Rattle.driver.proofs.Totals.{listed_few}
 use Rattle.driver.proofs.ByValues.{inner_queue, rule_task, evaluated_by, sum_small}
-use Rattle.driver.proofs.values.settle_values.Goals as goal
+use Rattle.driver.proofs.by_values.settle_values.Goals as goal
 
 pub inner_first-requires : goal.inner_first-requires
 inner_first-requires c = let (ns, P, R, scene, accepts) = c.requires.0 in let l = listed_few accepts (c.tests_of-count.ensures (compare eq P R) accepts) in omega arith

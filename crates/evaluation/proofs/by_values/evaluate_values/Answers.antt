@@ -1,7 +1,7 @@
--- `evaluation::values::evaluate_values` meets its contract.
+-- `evaluation::by_values::evaluate_values` meets its contract.
 use Rattle.verdicts.proofs.JudgingValues.{values_accepted}
 use Rattle.evaluation.proofs.Calls.{values_refused, values_evaluated}
-use Rattle.evaluation.proofs.values.evaluate_values.Goals as goal
+use Rattle.evaluation.proofs.by_values.evaluate_values.Goals as goal
 
 pub returns-then-j-ne0 : goal.returns-then-j-ne0
 returns-then-j-ne0 c = values_refused c.judge_values-j.ensures c.if-j-ne0.true

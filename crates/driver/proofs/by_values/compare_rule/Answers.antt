@@ -1,4 +1,4 @@
--- `driver::values::compare_rule` meets its contract.
+-- `driver::by_values::compare_rule` meets its contract.
 use native.Mathlib.Omega.{arith}
 use Rattle.xpath.specs.Syntax.{compare, eq}
 use Rattle.document_spec.specs.Binary.{tree_of}
@@ -7,7 +7,7 @@ use Rattle.driver.proofs.Answers.{some_nodes}
 use Rattle.driver.proofs.Arms.{test_begins}
 use Rattle.driver.proofs.Lending.{paths_posed, paths_long, paths_apart, lent_apart}
 use Rattle.driver.proofs.ByValues.{rule_paths, rule_compared}
-use Rattle.driver.proofs.values.compare_rule.Goals as goal
+use Rattle.driver.proofs.by_values.compare_rule.Goals as goal
 
 -- ── Drawing the part ──
 pub parted-c-requires : goal.parted-c-requires

@@ -1,9 +1,9 @@
--- `evaluation::values::select_values` meets its contract.
+-- `evaluation::by_values::select_values` meets its contract.
 use mathlib.Core.Path.{subst}
 use Prim.Native.Nat.{◌<◌}
 use Rattle.lists.specs.Lists.{All}
 use Rattle.evaluation.proofs.Selecting.{size_one, enough, finish_asked, values_selected}
-use Rattle.evaluation.proofs.values.select_values.Goals as goal
+use Rattle.evaluation.proofs.by_values.select_values.Goals as goal
 
 pub ready-requires : goal.ready-requires
 ready-requires c =
