@@ -28,10 +28,16 @@ fn rows() -> Vec<Row> {
         .collect()
 }
 
-/// The name as the definitions write it, which begins with a small letter.
+/// The name as the definitions write it: its words small, with `_` between them.
 fn written(ground: Ground) -> String {
-    let name = format!("{ground:?}");
-    name[..1].to_lowercase() + &name[1..]
+    let mut written = String::new();
+    for letter in format!("{ground:?}").chars() {
+        if letter.is_uppercase() && !written.is_empty() {
+            written.push('_');
+        }
+        written.extend(letter.to_lowercase());
+    }
+    written
 }
 
 /// The definitions have the grounds in the order in which they came; here they
