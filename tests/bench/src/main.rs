@@ -1,8 +1,8 @@
 //! Times the proved checks of documents and rules, both evaluations, and what
 //! the crate `yurzhoad` costs around them.
 //!
-//! Run it in this workspace, after `rt staticlib exports` in the repository's
-//! root, on a machine that does nothing else:
+//! Run it in this workspace, after `rt lib` in crates/exports, on a machine
+//! that does nothing else:
 //!
 //! ```text
 //! cargo run --release --offline -p bench
