@@ -19,12 +19,10 @@ fn with_members(row: [bool; Rule::MAX_POSITIONS], b: u16) -> [bool; Rule::MAX_PO
     ensures { (j : ℕ) → j < positions → get_or result j false ≡ or (get_or row j false) (bit b j) }
 {
     let mut r = row;
-    let mut j: usize = 0;
-    while j < Rule::MAX_POSITIONS {
+    for j in 0..Rule::MAX_POSITIONS {
         if crate::has(b, j as u16) {
             r[j] = true;
         }
-        j += 1;
     }
     r
 }
@@ -34,13 +32,11 @@ pub fn joined(f: Square, a: u16, b: u16) -> Square
     ensures { (i j : ℕ) → i < positions → j < positions → cell result i j ≡ or (cell f i j) (and (bit a i) (bit b j)) }
 {
     let mut g = f;
-    let mut i: usize = 0;
-    while i < Rule::MAX_POSITIONS {
+    for i in 0..Rule::MAX_POSITIONS {
         if crate::has(a, i as u16) {
             let row = g[i];
             g[i] = with_members(row, b);
         }
-        i += 1;
     }
     g
 }

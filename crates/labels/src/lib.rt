@@ -24,12 +24,10 @@ fn same_bytes(s: &[u8], from: usize, to: usize, rule: &[u8], start: usize, end: 
     if to - from != m {
         return false;
     }
-    let mut i = 0;
-    while i < m {
+    for i in 0..m {
         if s[from + i] != rule[start + i] {
             return false;
         }
-        i += 1;
     }
     true
 }
@@ -50,10 +48,8 @@ pub fn named(s: &[u8], rule: &[u8], t: &mut [u16], n: usize, k: usize, from: usi
     requires { Tabled s.now n t.old × (k < rule_tests) × (from ≤ to) × (to ≤ length rule.now) }
     ensures { (ns : List Library.Node) → Accepts s.now ns → Linked s.now ns t.old → Settled n k (λ v. (at ns v).label ≡ slice from to rule.now) t.old t.new }
 {
-    let mut v = 0;
-    while v < n {
+    for v in 0..n {
         let x = has_name(s, rule, t, n, v, from, to);
         note(t, n, k, v, x);
-        v += 1;
     }
 }

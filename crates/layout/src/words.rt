@@ -60,9 +60,7 @@ pub fn fill(t: &mut [u16], n: usize, c: usize, x: usize)
     requires { (c < COLUMNS) × Room n t.old × (x < word_values) }
     ensures { Filled n c x n t.old t.new }
 {
-    let mut v = 0;
-    while v < n {
+    for v in 0..n {
         put(t, n, c, v, x);
-        v += 1;
     }
 }

@@ -25,12 +25,10 @@ pub fn any_hit(p: &[u16], n: usize, last: u16) -> bool
     requires { Room n p.now }
     ensures { (result ≡ true) ↔ ((w : ℕ) × (w < n) × Ended n last p.now w × (word p.now n HIT w ≡ 1)) }
 {
-    let mut w = 0;
-    while w < n {
+    for w in 0..n {
         if hit_at(p, n, last, w) {
             return true;
         }
-        w += 1;
     }
     false
 }

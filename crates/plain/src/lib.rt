@@ -67,11 +67,9 @@ pub fn compare_paths(p: &mut [u16], n: usize, m: Machine, o: Operator)
     requires { Space n p.old × (o ≡ Equal → SmallRanks n p.old) × (m.second < positions) }
     ensures { (q : Op) → o ≡ operator q → Answered n (Meets m n p.old q) p.old p.new }
 {
-    let mut v = 0;
-    while v < n {
+    for v in 0..n {
         let b = meets_at(p, n, m, v, o);
         answer(p, n, v, b);
-        v += 1;
     }
 }
 
@@ -80,10 +78,8 @@ pub fn compare_constant(p: &mut [u16], n: usize, m: Machine)
     requires { Space n p.old }
     ensures { Answered n (Hits m n p.old) p.old p.new }
 {
-    let mut v = 0;
-    while v < n {
+    for v in 0..n {
         let b = hits_at(p, n, m, v);
         answer(p, n, v, b);
-        v += 1;
     }
 }

@@ -26,10 +26,8 @@ pub fn mark_ranks(p: &mut [u16], n: usize, last: u16)
     requires { Space n p.old × SmallRanks n p.old × Clear n p.old }
     ensures { Marked n last p.old p.new }
 {
-    let mut w = 0;
-    while w < n {
+    for w in 0..n {
         mark_rank(p, n, last, w);
-        w += 1;
     }
 }
 
@@ -50,12 +48,10 @@ pub fn any_marked(p: &[u16], n: usize, last: u16) -> bool
     requires { Room n p.now × SmallRanks n p.now }
     ensures { (result ≡ true) ↔ ((w : ℕ) × (w < n) × Ended n last p.now w × (word p.now n MARK (word p.now n RANK w) ≡ 1)) }
 {
-    let mut w = 0;
-    while w < n {
+    for w in 0..n {
         if marked_at(p, n, last, w) {
             return true;
         }
-        w += 1;
     }
     false
 }

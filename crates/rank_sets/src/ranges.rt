@@ -56,10 +56,8 @@ pub fn rank_range(p: &[u16], n: usize, last: u16) -> Range
         least: Table::NONE,
         above: 0,
     };
-    let mut w = 0;
-    while w < n {
+    for w in 0..n {
         a = widened(p, n, last, w, a);
-        w += 1;
     }
     a
 }

@@ -13,12 +13,6 @@ loop-k-init c = (omega arith, closing_none _ _)
 pub join-requires : goal.join-requires
 join-requires c = omega arith
 
-pub overflow_add-k : goal.overflow_add-k
-overflow_add-k c = omega arith
-
-pub loop-k-smaller : goal.loop-k-smaller
-loop-k-smaller c = omega arith
-
 pub loop-k-preserved : goal.loop-k-preserved
 loop-k-preserved c = (omega arith, closing_step (omega arith) c.loop-k.invariant.1 c.join.ensures)
 

@@ -44,12 +44,6 @@ pub bounds-p-at-in-loop-i-2 : goal.bounds-p-at-in-loop-i-2
 bounds-p-at-in-loop-i-2 c = omega arith
 
 -- ── One turn of the loop ──
-pub overflow_add-i : goal.overflow_add-i
-overflow_add-i c = omega arith
-
-pub loop-i-smaller : goal.loop-i-smaller
-loop-i-smaller c = omega arith
-
 pub loop-i-preserved : goal.loop-i-preserved
 loop-i-preserved c =
     let l = c.loop-i.invariant in

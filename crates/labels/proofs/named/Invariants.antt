@@ -12,6 +12,3 @@ use Rattle.labels.proofs.named.Given as goal
 abbrev pub invariant-loop-v : goal.invariant-loop-v
 invariant-loop-v l =
     (ns : List Node) → Accepts l.s ns → Linked l.s ns l.initial.t → Settling l.n l.k (λ u. (at ns u).label ≡ slice l.from l.to l.rule) l.v l.initial.t l.t
-
-abbrev pub decreases-loop-v : goal.decreases-loop-v
-decreases-loop-v l = l.n - l.v

@@ -40,12 +40,6 @@ returns-then-s-from c =
     (λ h. absurd (false≢true h), λ h. let l = slices_agree x.s.now x.rule.now x.from x.to x.start x.end h c.loop-i.i (omega arith) (omega arith) in absurd (omega arith))
 
 -- ── One turn of the loop ──
-pub overflow_add-i : goal.overflow_add-i
-overflow_add-i c = omega arith
-
-pub loop-i-smaller : goal.loop-i-smaller
-loop-i-smaller c = omega arith
-
 pub loop-i-preserved : goal.loop-i-preserved
 loop-i-preserved c = (omega arith, below_more _ _ c.loop-i.invariant.1 c.if-s-from.false)
 

@@ -7,6 +7,3 @@ use Rattle.labels.proofs.same_bytes.Given as goal
 -- ── The loop's invariant ──
 abbrev pub invariant-loop-i : goal.invariant-loop-i
 invariant-loop-i l = (l.i ≤ l.m) × ((k : ℕ) → k < l.i → get_or l.s (l.from + k) 0 ≡ get_or l.rule (l.start + k) 0)
-
-abbrev pub decreases-loop-i : goal.decreases-loop-i
-decreases-loop-i l = l.m - l.i

@@ -19,12 +19,6 @@ bounds-p-at c = omega arith
 pub union-all-requires : goal.union-all-requires
 union-all-requires c = tt
 
-pub overflow_add-i : goal.overflow_add-i
-overflow_add-i c = omega arith
-
-pub loop-i-smaller : goal.loop-i-smaller
-loop-i-smaller c = omega arith
-
 pub loop-i-preserved : goal.loop-i-preserved
 loop-i-preserved c = (omega arith, covers_more c.loop-i.invariant.1 c.union-all.ensures)
 

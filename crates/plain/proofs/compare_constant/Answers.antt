@@ -17,12 +17,6 @@ hits_at-b-requires c = (held_space c.loop-v.invariant.0 c.requires, c.loop-v-tes
 pub answer-requires : goal.answer-requires
 answer-requires c = (held_space (held_then c.loop-v.invariant.0 c.hits_at-b.ensures.0.held) c.requires, c.loop-v-test.true)
 
-pub overflow_add-v : goal.overflow_add-v
-overflow_add-v c = let l = c.loop-v-test.true in omega arith
-
-pub loop-v-smaller : goal.loop-v-smaller
-loop-v-smaller c = let l = c.loop-v-test.true in omega arith
-
 pub loop-v-preserved : goal.loop-v-preserved
 loop-v-preserved c = let h = c.loop-v.invariant.0 in let l = c.loop-v-test.true in let b = c.hits_at-b in let w = c.answer.ensures in (
   held_then (held_then h b.ensures.0.held) (held_answer l w),

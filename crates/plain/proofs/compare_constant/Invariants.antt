@@ -7,6 +7,3 @@ use Rattle.plain.proofs.compare_constant.Given as goal
 
 abbrev pub invariant-loop-v : goal.invariant-loop-v
 invariant-loop-v l = Held l.n l.initial.p l.p × Answers l.n (Hits l.m l.n l.initial.p) l.v l.p
-
-abbrev pub decreases-loop-v : goal.decreases-loop-v
-decreases-loop-v l = l.n - l.v

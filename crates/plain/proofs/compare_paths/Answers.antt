@@ -17,12 +17,6 @@ meets_at-b-requires c = let x = c.requires in let h = c.loop-v.invariant.0 in (h
 pub answer-requires : goal.answer-requires
 answer-requires c = (held_space (held_then c.loop-v.invariant.0 c.meets_at-b.ensures.0.held) c.requires.0, c.loop-v-test.true)
 
-pub overflow_add-v : goal.overflow_add-v
-overflow_add-v c = let l = c.loop-v-test.true in omega arith
-
-pub loop-v-smaller : goal.loop-v-smaller
-loop-v-smaller c = let l = c.loop-v-test.true in omega arith
-
 pub loop-v-preserved : goal.loop-v-preserved
 loop-v-preserved c = let h = c.loop-v.invariant.0 in let l = c.loop-v-test.true in let b = c.meets_at-b in let w = c.answer.ensures in (
   held_then (held_then h b.ensures.0.held) (held_answer l w),

@@ -28,12 +28,6 @@ read_entry-e-requires c = let h = c.loop-v.invariant in (h.nodes, c.loop-v.v, st
 pub step-requires : goal.step-requires
 step-requires c = step_asks c.loop-v.invariant c.loop-v-test.true c.read_entry-e.ensures
 
-pub overflow_add-v : goal.overflow_add-v
-overflow_add-v c = omega arith
-
-pub loop-v-smaller : goal.loop-v-smaller
-loop-v-smaller c = omega arith
-
 pub loop-v-preserved : goal.loop-v-preserved
 loop-v-preserved c = rw add-one (building_step c.loop-v.invariant c.loop-v-test.true c.read_entry-e.ensures c.step.ensures)
 

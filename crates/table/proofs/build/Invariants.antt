@@ -5,6 +5,3 @@ use Rattle.table.proofs.build.Given as goal
 
 abbrev pub invariant-loop-v : goal.invariant-loop-v
 invariant-loop-v l = Building l.s l.n l.v l.at l.before l.initial.t l.t
-
-abbrev pub decreases-loop-v : goal.decreases-loop-v
-decreases-loop-v l = l.n - l.v

@@ -8,6 +8,3 @@ use Rattle.test_passes.proofs.deny.Given as goal
 
 abbrev pub invariant-loop-v : goal.invariant-loop-v
 invariant-loop-v l = Settling l.n l.k (λ u. ¬ (held l.initial.t l.n l.a u ≡ true)) l.v l.initial.t l.t
-
-abbrev pub decreases-loop-v : goal.decreases-loop-v
-decreases-loop-v l = l.n - l.v

@@ -33,12 +33,6 @@ offset_bounds-g-i-then-has c = omega arith
 pub bounds-g-i-then-has : goal.bounds-g-i-then-has
 bounds-g-i-then-has c = omega arith
 
-pub overflow_add-i : goal.overflow_add-i
-overflow_add-i c = omega arith
-
-pub loop-i-smaller : goal.loop-i-smaller
-loop-i-smaller c = omega arith
-
 pub loop-i-preserved : goal.loop-i-preserved
 loop-i-preserved c =
     let i = c.loop-i.i in

@@ -24,12 +24,6 @@ has-requires c = omega arith
 pub bounds-r-j : goal.bounds-r-j
 bounds-r-j c = omega arith
 
-pub overflow_add-j : goal.overflow_add-j
-overflow_add-j c = omega arith
-
-pub loop-j-smaller : goal.loop-j-smaller
-loop-j-smaller c = omega arith
-
 pub loop-j-preserved : goal.loop-j-preserved
 loop-j-preserved c =
     let i = c.loop-j.invariant in

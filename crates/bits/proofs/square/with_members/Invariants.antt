@@ -8,6 +8,3 @@ use Rattle.bits.proofs.square.with_members.Given as goal
 
 abbrev pub invariant-loop-j : goal.invariant-loop-j
 invariant-loop-j l = (l.j ≤ 16) × (length l.initial.r ≡ 16) × Done false (λ k x. or x (bit l.b k)) l.initial.r l.j l.r
-
-abbrev pub decreases-loop-j : goal.decreases-loop-j
-decreases-loop-j l = 16 - l.j

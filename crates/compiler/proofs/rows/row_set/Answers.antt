@@ -18,12 +18,6 @@ overflow_cast-j c = omega arith
 pub insert-w-requires : goal.insert-w-requires
 insert-w-requires c = omega arith
 
-pub overflow_add-j : goal.overflow_add-j
-overflow_add-j c = omega arith
-
-pub loop-j-smaller : goal.loop-j-smaller
-loop-j-smaller c = omega arith
-
 pub loop-j-preserved : goal.loop-j-preserved
 loop-j-preserved c =
     let g = c.loop-j.invariant.1 in (

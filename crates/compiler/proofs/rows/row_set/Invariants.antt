@@ -8,6 +8,3 @@ use Rattle.compiler.proofs.rows.row_set.Given as goal
 
 abbrev pub invariant-loop-j : goal.invariant-loop-j
 invariant-loop-j l = (l.j ≤ 16) × Gathered (λ k. get_or l.row k false ≡ true) l.j l.w
-
-abbrev pub decreases-loop-j : goal.decreases-loop-j
-decreases-loop-j l = 16 - l.j

@@ -22,12 +22,6 @@ offset_bounds-rows-i c = omega arith
 pub bounds-rows-i : goal.bounds-rows-i
 bounds-rows-i c = omega arith
 
-pub overflow_add-i : goal.overflow_add-i
-overflow_add-i c = omega arith
-
-pub loop-i-smaller : goal.loop-i-smaller
-loop-i-smaller c = omega arith
-
 pub loop-i-preserved : goal.loop-i-preserved
 loop-i-preserved c = let i = c.loop-i.invariant in (omega arith, rows_more _ _ _ (omega arith) c.row_set.ensures i.1)
 

@@ -22,12 +22,6 @@ overflow_cast-i c = let n = c.requires.few in omega arith
 pub insert-w-requires : goal.insert-w-requires
 insert-w-requires c = let n = c.requires.few in omega arith
 
-pub overflow_add-i : goal.overflow_add-i
-overflow_add-i c = let n = c.requires.few in omega arith
-
-pub loop-i-smaller : goal.loop-i-smaller
-loop-i-smaller c = omega arith
-
 pub loop-i-preserved : goal.loop-i-preserved
 loop-i-preserved c =
     let (p, l, g) = c.loop-i.invariant in (

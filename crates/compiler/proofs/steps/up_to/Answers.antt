@@ -13,12 +13,6 @@ overflow_cast-j c = omega arith
 pub insert-w-requires : goal.insert-w-requires
 insert-w-requires c = omega arith
 
-pub overflow_add-j : goal.overflow_add-j
-overflow_add-j c = omega arith
-
-pub loop-j-smaller : goal.loop-j-smaller
-loop-j-smaller c = omega arith
-
 pub loop-j-preserved : goal.loop-j-preserved
 loop-j-preserved c = (omega arith, gathered_in _ _ c.loop-j.invariant.1 _ c.insert-w.ensures refl (omega arith))
 

@@ -14,12 +14,6 @@ put-requires c =
     let p = c.requires in
     (p.0, c.loop-v-test.true, room_within c.loop-v.invariant.within p.1, p.2)
 
-pub overflow_add-v : goal.overflow_add-v
-overflow_add-v c = omega arith
-
-pub loop-v-smaller : goal.loop-v-smaller
-loop-v-smaller c = omega arith
-
 pub loop-v-preserved : goal.loop-v-preserved
 loop-v-preserved c = filled_step c.loop-v.invariant c.loop-v-test.true c.put.ensures
 

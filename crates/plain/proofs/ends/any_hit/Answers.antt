@@ -13,12 +13,6 @@ hit_at-requires c = (c.loop-w-test.true, c.requires)
 pub returns-then-hit_at : goal.returns-then-hit_at
 returns-then-hit_at c = let e = c.hit_at.ensures.0 c.if-hit_at.true in tells_yes (c.loop-w.w, c.loop-w-test.true, e.0, e.1)
 
-pub overflow_add-w : goal.overflow_add-w
-overflow_add-w c = omega arith
-
-pub loop-w-smaller : goal.loop-w-smaller
-loop-w-smaller c = omega arith
-
 pub loop-w-preserved : goal.loop-w-preserved
 loop-w-preserved c = below_more _ _ c.loop-w.invariant (denied c.hit_at.ensures c.if-hit_at.false)
 

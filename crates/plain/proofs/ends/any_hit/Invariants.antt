@@ -8,6 +8,3 @@ use Rattle.plain.proofs.ends.any_hit.Given as goal
 
 abbrev pub invariant-loop-w : goal.invariant-loop-w
 invariant-loop-w l = (k : ℕ) → k < l.w → ¬ (Ended l.n l.last l.p k × (word l.p l.n HIT k ≡ 1))
-
-abbrev pub decreases-loop-w : goal.decreases-loop-w
-decreases-loop-w l = l.n - l.w

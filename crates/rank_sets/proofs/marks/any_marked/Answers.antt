@@ -13,12 +13,6 @@ marked_at-requires c = let r = c.requires in (r.0, r.1, c.loop-w-test.true)
 pub returns-then-marked_at : goal.returns-then-marked_at
 returns-then-marked_at c = let e = c.marked_at.ensures.0 c.if-marked_at.true in tells_yes (c.loop-w.w, c.loop-w-test.true, e.0, e.1)
 
-pub overflow_add-w : goal.overflow_add-w
-overflow_add-w c = omega arith
-
-pub loop-w-smaller : goal.loop-w-smaller
-loop-w-smaller c = omega arith
-
 pub loop-w-preserved : goal.loop-w-preserved
 loop-w-preserved c = below_more _ _ c.loop-w.invariant (denied c.marked_at.ensures c.if-marked_at.false)
 

@@ -9,6 +9,3 @@ use Rattle.rank_sets.proofs.marks.any_marked.Given as goal
 
 abbrev pub invariant-loop-w : goal.invariant-loop-w
 invariant-loop-w l = (k : ℕ) → k < l.w → ¬ (Ended l.n l.last l.p k × (word l.p l.n MARK (word l.p l.n RANK k) ≡ 1))
-
-abbrev pub decreases-loop-w : goal.decreases-loop-w
-decreases-loop-w l = l.n - l.w
