@@ -1,4 +1,4 @@
-use Prim.Native.Nat.{◌≤◌, ◌-◌}
+use Prim.Native.Nat.{◌≤◌}
 use Rattle.bits.proofs.SquareLaws.{Joining}
 use Rattle.bits.proofs.square.joined.Given as goal
 
