@@ -1,5 +1,5 @@
 -- `matrices::before` meets its contract.
-use Prim.Native.Nat.{◌≤◌, ◌-◌}
+use Prim.Native.Nat.{◌≤◌}
 use Rattle.matrices.proofs.Preceding.{Preceding}
 use Rattle.matrices.proofs.before.Given as goal
 

@@ -1,5 +1,5 @@
 -- `matrices::compose` meets its contract.
-use Prim.Native.Nat.{◌≤◌, ◌-◌}
+use Prim.Native.Nat.{◌≤◌}
 use Rattle.matrices.specs.Matrices.{Related, Drawing, Composed}
 use Rattle.matrices.proofs.compose.Given as goal
 

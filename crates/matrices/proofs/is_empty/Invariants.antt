@@ -1,5 +1,5 @@
 -- `matrices::is_empty` meets its contract.
-use Prim.Native.Nat.{◌≤◌, ◌-◌}
+use Prim.Native.Nat.{◌≤◌}
 use Rattle.matrices.proofs.Emptiness.{Covers}
 use Rattle.matrices.proofs.is_empty.Given as goal
 

@@ -1,6 +1,6 @@
 -- `matrices::size` meets its contract.
 use mathlib.Core.Path.{◌≡◌}
-use Prim.Native.Nat.{◌≤◌, ◌-◌}
+use Prim.Native.Nat.{◌≤◌}
 use Rattle.matrices.specs.Matrices.{pairs}
 use Rattle.matrices.proofs.size.Given as goal
 
