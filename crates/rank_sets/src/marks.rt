@@ -36,11 +36,7 @@ fn marked_at(p: &[u16], n: usize, last: u16, w: usize) -> bool
     requires { Room n p.now × SmallRanks n p.now × (w < n) }
     ensures { (result ≡ true) ↔ (Ended n last p.now w × (word p.now n MARK (word p.now n RANK w) ≡ 1)) }
 {
-    if ends_at(p, n, last, w) {
-        let r = get(p, n, Table::RANK, w);
-        return get(p, n, Part::MARK, r) == 1;
-    }
-    false
+    ends_at(p, n, last, w) && get(p, n, Part::MARK, get(p, n, Table::RANK, w)) == 1
 }
 
 // Whether the walk ends at a node whose rank is marked.
@@ -48,10 +44,5 @@ pub fn any_marked(p: &[u16], n: usize, last: u16) -> bool
     requires { Room n p.now × SmallRanks n p.now }
     ensures { (result ≡ true) ↔ ((w : ℕ) × (w < n) × Ended n last p.now w × (word p.now n MARK (word p.now n RANK w) ≡ 1)) }
 {
-    for w in 0..n {
-        if marked_at(p, n, last, w) {
-            return true;
-        }
-    }
-    false
+    (0..n).any(|w| marked_at(p, n, last, w))
 }

@@ -18,18 +18,6 @@ pub struct Range {
     pub above: usize,
 }
 
-fn smaller(x: usize, y: usize) -> usize
-    ensures { (result ≤ x) × (result ≤ y) × ((result ≡ x) ⊎ (result ≡ y)) }
-{
-    if x < y { x } else { y }
-}
-
-fn greater(x: usize, y: usize) -> usize
-    ensures { (x ≤ result) × (y ≤ result) × ((result ≡ x) ⊎ (result ≡ y)) }
-{
-    if x < y { y } else { x }
-}
-
 // The range with the rank of node `w`, if the walk ends there and `w` has a rank.
 fn widened(p: &[u16], n: usize, last: u16, w: usize, a: Range) -> Range
     requires { (w < n) × Room n p.now × Ranged w (WithRank n (word p.now n RANK) (Ended n last p.now)) (word p.now n RANK) a }
@@ -39,8 +27,8 @@ fn widened(p: &[u16], n: usize, last: u16, w: usize, a: Range) -> Range
         let r = get(p, n, Table::RANK, w);
         if r < n {
             return Range {
-                least: smaller(a.least, r),
-                above: greater(a.above, r + 1),
+                least: a.least.min(r),
+                above: a.above.max(r + 1),
             };
         }
     }

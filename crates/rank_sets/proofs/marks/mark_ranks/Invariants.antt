@@ -1,5 +1,5 @@
 -- `rank_sets::marks::mark_ranks` meets its contract.
-use Prim.Native.Nat.{◌-◌, ◌≤◌}
+use Prim.Native.Nat.{◌≤◌}
 use Rattle.rank_sets.proofs.Marking.{Marking}
 use Rattle.rank_sets.proofs.marks.mark_ranks.Given as goal
 

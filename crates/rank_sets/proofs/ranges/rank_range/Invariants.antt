@@ -1,5 +1,5 @@
 -- `rank_sets::ranges::rank_range` meets its contract.
-use Prim.Native.Nat.{◌-◌, ◌≤◌}
+use Prim.Native.Nat.{◌≤◌}
 use Rattle.layout.specs.Table.{RANK}
 use Rattle.layout.specs.Words.{word}
 use Rattle.rank_sets.specs.Ends.{Ended}
