@@ -11,7 +11,7 @@ use layout::Table;
 use layout::words::get;
 use rule_parts::kinds::Operator;
 
-// The least rank, and one more than the greatest; 65535 and 0 where there is none.
+// The least rank, and one more than the greatest; 65535 and 0 where there is none, so that the first rank widens a range like any other.
 #[derive(Clone, Copy)]
 pub struct Range {
     pub least: usize,
