@@ -2,6 +2,7 @@
 use Prim.Native.Nat.{ℕ, ◌<◌}
 use lib.ListN.{length, get_or}
 use Rattle.std.specs.Bool.{MatchBool}
+use Rattle.std.proofs.lemmas.Bool.{iff_false}
 use Rattle.std.specs.List.{range_with_len, AllWithin, HoldsAt}
 use Rattle.std.proofs.lemmas.List.FromFn.{length-range_with_len, get_or-range_with_len}
 use native.Mathlib.Omega.{arith}
@@ -17,7 +18,7 @@ module _ {A : Type 0} where
   tells_no f = (λ e. absurd (false≢true e), λ h. absurd (f h))
 
   pub denied : {b : Bool} → (b ≡ true) ↔ A → b ≡ false → ¬ A
-  denied t e a = false≢true (sym e ∙ t.1 a)
+  denied t e = iff_false t e
 
 -- whether P holds of a number below n, as a search through the numbers from 0 on tells it
 pub any_below : {P : ℕ → Type 0} (n : ℕ) (r : Bool) → MatchBool r ((k : ℕ) × (k < length (range_with_len 0 n)) × HoldsAt P (range_with_len 0 n) k) (AllWithin (λ w. ¬ P w) (range_with_len 0 n) 0 (length (range_with_len 0 n)))

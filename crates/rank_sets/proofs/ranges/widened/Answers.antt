@@ -1,5 +1,5 @@
 -- `rank_sets::ranges::widened` meets its contract.
-use Rattle.rank_sets.proofs.Telling.{denied}
+use Rattle.std.proofs.lemmas.Bool.{iff_false}
 use Rattle.rank_sets.proofs.Ranged.{ranged_skip, ranged_with}
 use native.Mathlib.Omega.{arith}
 use Rattle.rank_sets.proofs.ranges.widened.Goals as goal
@@ -14,4 +14,4 @@ pub returns-else-r-n : goal.returns-else-r-n
 returns-else-r-n c = let q = c.get-r.ensures.0 in let l = c.if-r-n.false in ranged_skip c.requires.2 (λ (e, k). omega arith)
 
 pub returns-else-ends_at : goal.returns-else-ends_at
-returns-else-ends_at c = ranged_skip c.requires.2 (λ (e, k). denied c.ends_at.ensures c.if-ends_at.false e)
+returns-else-ends_at c = ranged_skip c.requires.2 (λ (e, k). iff_false c.ends_at.ensures c.if-ends_at.false e)
