@@ -1,5 +1,4 @@
 -- `table::build` meets its contract.
-use Prim.Native.Nat.{◌-◌}
 use Rattle.table.proofs.Building.{Building}
 use Rattle.table.proofs.build.Given as goal
 
