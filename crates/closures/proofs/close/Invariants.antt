@@ -1,5 +1,5 @@
 -- `closures::close` meets its contract.
-use Prim.Native.Nat.{◌≤◌, ◌-◌}
+use Prim.Native.Nat.{◌≤◌}
 use Rattle.closures.proofs.Warshall.{Closing}
 use Rattle.closures.proofs.close.Given as goal
 

@@ -1,6 +1,6 @@
 -- `closures::join` meets its contract.
 use mathlib.Core.Path.{◌≡◌}
-use Prim.Native.Nat.{◌≤◌, ◌+◌, ◌-◌}
+use Prim.Native.Nat.{◌≤◌, ◌+◌}
 use lib.ListN.{get_or}
 use Rattle.matrices.specs.Matrices.{Related, Drawing}
 use Rattle.closures.specs.Closures.{Through}

@@ -1,5 +1,5 @@
 -- `closures::reflect` meets its contract.
-use Prim.Native.Nat.{◌≤◌, ◌-◌}
+use Prim.Native.Nat.{◌≤◌}
 use Rattle.matrices.specs.Matrices.{Related, Drawing}
 use Rattle.closures.specs.Closures.{Reflexive}
 use Rattle.closures.proofs.reflect.Given as goal
