@@ -9,15 +9,6 @@ use Rattle.compiler.proofs.rows.row_set.Goals.{then-row-j, else-row-j}
 pub loop-j-init : goal.loop-j-init
 loop-j-init c = (omega arith, gathered_none _ _ (λ j l. absurd (let z : ⊥ = omega arith in z)))
 
-pub bounds-row-j : goal.bounds-row-j
-bounds-row-j c = omega arith
-
-pub overflow_cast-j : goal.overflow_cast-j
-overflow_cast-j c = omega arith
-
-pub insert-w-requires : goal.insert-w-requires
-insert-w-requires c = omega arith
-
 pub loop-j-preserved : goal.loop-j-preserved
 loop-j-preserved c =
     let g = c.loop-j.invariant.1 in (
