@@ -27,10 +27,9 @@ pub fn joined(f: Square, a: u16, b: u16) -> Square
     ensures { (i j : ℕ) → i < positions → j < positions → cell result i j ≡ or (cell f i j) (and (bit a i) (bit b j)) }
 {
     let mut g = f;
-    for i in 0..Rule::MAX_POSITIONS {
+    for (i, row) in g.iter_mut().enumerate() {
         if crate::has(a, i as u16) {
-            let row = g[i];
-            g[i] = with_members(row, b);
+            *row = with_members(*row, b);
         }
     }
     g
