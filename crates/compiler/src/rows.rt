@@ -14,8 +14,8 @@ fn row_set(row: [bool; Rule::MAX_POSITIONS]) -> u16
     ensures { Gathered (λ j. get_or row j false ≡ true) positions result }
 {
     let mut w = 0;
-    for j in 0..Rule::MAX_POSITIONS {
-        if row[j] {
+    for (j, follows) in row.iter().enumerate() {
+        if *follows {
             w = insert(w, j as u16);
         }
     }

@@ -7,4 +7,4 @@ use Rattle.compiler.specs.Gathered.{Gathered}
 use Rattle.compiler.proofs.rows.row_set.Given as goal
 
 abbrev pub invariant-loop-j : goal.invariant-loop-j
-invariant-loop-j l = (l.j ≤ 16) × Gathered (λ k. get_or l.row k false ≡ true) l.j l.w
+invariant-loop-j l = (l.j ≤ 16) × Gathered (λ k. get_or l.fn.row k false ≡ true) l.j l.w
