@@ -45,10 +45,8 @@ pub fn note_keys(s: &[u8], t: &mut [u16], n: usize)
     requires { Annotated s.now n t.old }
     ensures { Keyed s.now n n t.old t.new }
 {
-    let mut v = 0;
-    while v < n {
+    for v in 0..n {
         let k = node_key(s, t, n, v);
         put_key(t, n, v, k);
-        v += 1;
     }
 }

@@ -32,13 +32,11 @@ pub fn number(t: &mut [u16], n: usize)
 {
     let mut u = get(t, n, Ranking::ORDER, 0);
     let mut r = 0;
-    let mut i = 0;
-    while i < n {
+    for i in 0..n {
         let v = get(t, n, Ranking::ORDER, i);
         r += rise(t, n, u, v);
         put(t, n, Table::AMOUNT, v, r);
         u = v;
-        i += 1;
     }
 }
 
@@ -58,10 +56,8 @@ pub fn strike_out(t: &mut [u16], n: usize)
     requires { Room n t.old }
     ensures { Struck n n t.old t.new }
 {
-    let mut v = 0;
-    while v < n {
+    for v in 0..n {
         let r = shown(t, n, v);
         put(t, n, Table::AMOUNT, v, r);
-        v += 1;
     }
 }

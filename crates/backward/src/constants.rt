@@ -30,10 +30,8 @@ pub fn spread_hits(p: &mut [u16], n: usize, m: Machine)
     ensures { (len : ℕ) × Added (Ends m n p.old (IsHit p.old n)) n NODES 0 len p.old p.new }
 {
     let mut len = 0;
-    let mut w = 0;
-    while w < n {
+    for w in 0..n {
         len = spread_hit(p, n, m, w, len);
-        w += 1;
     }
 }
 
@@ -42,10 +40,8 @@ pub fn answer_seen(p: &mut [u16], n: usize)
     requires { Space n p.old }
     ensures { Answered n (λ v. Seen p.old n v 0) p.old p.new }
 {
-    let mut v = 0;
-    while v < n {
+    for v in 0..n {
         let seen = get(p, n, Part::SEEN, v);
         answer(p, n, v, has(seen as u16, 0));
-        v += 1;
     }
 }

@@ -29,11 +29,9 @@ pub fn answer_ordered(p: &mut [u16], n: usize, o: Operator)
     requires { Space n p.old }
     ensures { Answered n (λ v. Across o (range_of p.old n 0 v) (range_of p.old n 1 v)) p.old p.new }
 {
-    let mut v = 0;
-    while v < n {
+    for v in 0..n {
         let a = range_at(p, n, 0, v);
         let b = range_at(p, n, 1, v);
         answer(p, n, v, ordered(a, b, o));
-        v += 1;
     }
 }

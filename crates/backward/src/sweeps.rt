@@ -30,10 +30,8 @@ fn rise(p: &mut [u16], n: usize, m: Machine)
     ensures { Risen m n p.old p.new }
 {
     let mut len = 0;
-    let mut r = 0;
-    while r < n {
+    for r in 0..n {
         len = seed_rank(p, n, m, r, len, Sweeps::LEAST, r);
-        r += 1;
     }
 }
 

@@ -5,6 +5,7 @@ ghost use Rattle.bits.specs.Sets.{bit, or, and};
 ghost use Rattle.bits.specs.Square.{cell};
 
 use limits::Rule;
+use std::array;
 
 pub type Square = [[bool; Rule::MAX_POSITIONS]; Rule::MAX_POSITIONS];
 
@@ -18,15 +19,7 @@ pub fn empty() -> Square
 fn with_members(row: [bool; Rule::MAX_POSITIONS], b: u16) -> [bool; Rule::MAX_POSITIONS]
     ensures { (j : ℕ) → j < positions → get_or result j false ≡ or (get_or row j false) (bit b j) }
 {
-    let mut r = row;
-    let mut j: usize = 0;
-    while j < Rule::MAX_POSITIONS {
-        if crate::has(b, j as u16) {
-            r[j] = true;
-        }
-        j += 1;
-    }
-    r
+    array::from_fn(|j| row[j] || crate::has(b, j as u16))
 }
 
 // The relation with every pair of a member of a and a member of b added.
@@ -34,13 +27,10 @@ pub fn joined(f: Square, a: u16, b: u16) -> Square
     ensures { (i j : ℕ) → i < positions → j < positions → cell result i j ≡ or (cell f i j) (and (bit a i) (bit b j)) }
 {
     let mut g = f;
-    let mut i: usize = 0;
-    while i < Rule::MAX_POSITIONS {
+    for (i, row) in g.iter_mut().enumerate() {
         if crate::has(a, i as u16) {
-            let row = g[i];
-            g[i] = with_members(row, b);
+            *row = with_members(*row, b);
         }
-        i += 1;
     }
     g
 }

@@ -15,10 +15,8 @@ fn reflect(p: &mut [u16], at: usize)
     requires { at + positions ≤ length p.old }
     ensures { Drawing (Reflexive (Related p.old at)) at positions p.old p.new }
 {
-    let mut i: usize = 0;
-    while i < Rule::MAX_POSITIONS {
+    for i in 0..Rule::MAX_POSITIONS {
         p[at + i] = insert(p[at + i], i as u16);
-        i += 1;
     }
 }
 
@@ -39,10 +37,8 @@ fn join(p: &mut [u16], at: usize, k: usize)
     ensures { Drawing (Through (Related p.old at) k) at positions p.old p.new }
 {
     let added = p[at + k];
-    let mut i: usize = 0;
-    while i < Rule::MAX_POSITIONS {
+    for i in 0..Rule::MAX_POSITIONS {
         p[at + i] = widened(p[at + i], k as u16, added);
-        i += 1;
     }
 }
 
@@ -52,9 +48,7 @@ pub fn close(p: &mut [u16], at: usize)
     ensures { Redrawn at p.old p.new × ((i j : ℕ) → i < positions → j < positions → Related p.new at i j ↔ Chain (λ i j. Related p.old at i j) i j) }
 {
     reflect(p, at);
-    let mut k = 0;
-    while k < Rule::MAX_POSITIONS {
+    for k in 0..Rule::MAX_POSITIONS {
         join(p, at, k);
-        k += 1;
     }
 }

@@ -14,12 +14,10 @@ fn row_set(row: [bool; Rule::MAX_POSITIONS]) -> u16
     ensures { Gathered (λ j. get_or row j false ≡ true) positions result }
 {
     let mut w = 0;
-    let mut j: usize = 0;
-    while j < Rule::MAX_POSITIONS {
-        if row[j] {
+    for (j, follows) in row.iter().enumerate() {
+        if *follows {
             w = insert(w, j as u16);
         }
-        j += 1;
     }
     w
 }
@@ -28,11 +26,5 @@ fn row_set(row: [bool; Rule::MAX_POSITIONS]) -> u16
 pub fn rows_of(f: Square) -> [u16; Rule::MAX_POSITIONS]
     ensures { (i j : ℕ) → i < positions → j < positions → (bit (get_or result i 0) j ≡ true) ↔ (cell f i j ≡ true) }
 {
-    let mut rows = [0; Rule::MAX_POSITIONS];
-    let mut i: usize = 0;
-    while i < Rule::MAX_POSITIONS {
-        rows[i] = row_set(f[i]);
-        i += 1;
-    }
-    rows
+    f.map(row_set)
 }

@@ -13,12 +13,10 @@ pub fn steps_with(s: &[u8], places: [usize; Rule::MAX_POSITIONS], n: usize, byte
     ensures { Gathered (Begins s.now places byte) (n + 1) result }
 {
     let mut w = 0;
-    let mut i: usize = 1;
-    while i <= n {
+    for i in 1..=n {
         if s[places[i]] == byte {
             w = insert(w, i as u16);
         }
-        i += 1;
     }
     w
 }
@@ -29,10 +27,8 @@ pub fn up_to(n: usize) -> u16
     ensures { (j : ℕ) → (bit result j ≡ true) ↔ (j ≤ n) }
 {
     let mut w = 0;
-    let mut j: usize = 0;
-    while j <= n {
+    for j in 0..=n {
         w = insert(w, j as u16);
-        j += 1;
     }
     w
 }

@@ -21,11 +21,9 @@ pub fn forget(p: &mut [u16], n: usize, len: usize)
     requires { Walked n len p.old }
     ensures { Forgot n p.old p.new }
 {
-    let mut h = 0;
-    while h < len {
+    for h in 0..len {
         let u = node_at(p, n, h);
         put(p, n, Part::SEEN, u, 0);
         put(p, n, Part::FOUND, u, 0);
-        h += 1;
     }
 }

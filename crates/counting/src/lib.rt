@@ -36,11 +36,9 @@ fn count_by_walks(p: &mut [u16], n: usize, m: Machine, k: usize)
 {
     fill(p, n, Part::SEEN, 0);
     fill(p, n, Part::FOUND, 0);
-    let mut v = 0;
-    while v < n {
+    for v in 0..n {
         let b = several_at(p, n, m, v, k);
         answer(p, n, v, b);
-        v += 1;
     }
 }
 

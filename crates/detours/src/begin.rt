@@ -17,10 +17,8 @@ fn draw(p: &mut [u16], rows: [u16; Rule::MAX_POSITIONS], at: usize, w: u16)
     requires { at + positions ≤ length p.old }
     ensures { Drawing (Steps rows w) at positions p.old p.new }
 {
-    let mut i: usize = 0;
-    while i < Rule::MAX_POSITIONS {
+    for i in 0..Rule::MAX_POSITIONS {
         p[at + i] = meet(rows[i], w);
-        i += 1;
     }
 }
 

@@ -31,11 +31,9 @@ fn widen(p: &mut [u16], m: Machine, over: usize, at: usize, leave: u16, back: u1
     ensures { Widening (Widened m p.old over at leave back) at positions p.old p.new result }
 {
     let mut r: usize = 0;
-    let mut i: usize = 0;
-    while i < Rule::MAX_POSITIONS {
+    for i in 0..Rule::MAX_POSITIONS {
         let w = detour(p, m, over, leave, back, i);
         r += add(p, at + i, w);
-        i += 1;
     }
     r
 }

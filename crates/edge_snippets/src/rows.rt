@@ -36,9 +36,7 @@ pub fn add_rows(p: &mut [u16], at: usize, rows: u16, set: u16, first: u16)
     requires { at + positions ≤ length p.old }
     ensures { Drawing (Crossed p.old at rows set first) at positions p.old p.new }
 {
-    let mut i: usize = 0;
-    while i < Rule::MAX_POSITIONS {
+    for i in 0..Rule::MAX_POSITIONS {
         p[at + i] = widened(p[at + i], rows, set, first, i as u16);
-        i += 1;
     }
 }

@@ -12,10 +12,8 @@ fn clear_rows(p: &mut [u16], at: usize)
     requires { at + positions ≤ length p.old }
     ensures { Zeroed at positions p.old p.new }
 {
-    let mut i: usize = 0;
-    while i < Rule::MAX_POSITIONS {
+    for i in 0..Rule::MAX_POSITIONS {
         p[at + i] = 0;
-        i += 1;
     }
 }
 
@@ -25,9 +23,7 @@ pub fn clear_snippets(p: &mut [u16], n: usize, b: usize)
     ensures { Cleared n (b * n) p.old p.new }
 {
     let blocks = b * n;
-    let mut i: usize = 0;
-    while i < blocks {
+    for i in 0..blocks {
         clear_rows(p, Blocks::COLUMN * n + Blocks::WORDS * i + Blocks::SNIPPETS);
-        i += 1;
     }
 }

@@ -54,10 +54,8 @@ pub fn add_values(p: &mut [u16], n: usize, b: usize, m: Machine, first: u16, val
     requires { Base m n b p.old × All (λ w. w < n) values.now }
     ensures { AddedBy values.now m n b first p.old p.new }
 {
-    let mut i: usize = 0;
-    while i < values.len() {
+    for i in 0..values.len() {
         let r = get(p, n, Table::RANK, values[i] as usize);
         add_rank(p, n, b, m, first, r);
-        i += 1;
     }
 }

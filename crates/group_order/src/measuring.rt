@@ -13,11 +13,9 @@ pub fn measure(p: &mut [u16], n: usize)
     ensures { Sized n n p.old p.new }
 {
     fill(p, n, Sizes::SIZE, 0);
-    let mut v = 0;
-    while v < n {
+    for v in 0..n {
         let r = get(p, n, Table::RANK, v);
         let size = get(p, n, Sizes::SIZE, r);
         put(p, n, Sizes::SIZE, r, size + 1);
-        v += 1;
     }
 }

@@ -29,10 +29,8 @@ pub fn count(p: &[u16], n: usize, b: usize) -> usize
 {
     let blocks = b * n;
     let mut r = 0;
-    let mut i = 0;
-    while i < blocks {
+    for i in 0..blocks {
         r += size(p, Blocks::COLUMN * n + Blocks::WORDS * i + Blocks::SNIPPETS);
-        i += 1;
     }
     r
 }

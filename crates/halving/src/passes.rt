@@ -18,12 +18,10 @@ fn add_upper(p: &mut [u16], source: usize, down: usize, to: usize)
     requires { Apart source to × Apart down to × (source + positions ≤ length p.old) × (down + positions ≤ length p.old) × (to + positions ≤ length p.old) }
     ensures { Drawing (With p.old to (Upper p.old source down)) to positions p.old p.new }
 {
-    let mut i: usize = 0;
-    while i < Rule::MAX_POSITIONS {
+    for i in 0..Rule::MAX_POSITIONS {
         let w = p[source + i];
         let new = before(p, down, w);
         p[to + i] = union(p[to + i], new);
-        i += 1;
     }
 }
 
@@ -32,12 +30,10 @@ fn add_lower(p: &mut [u16], source: usize, up: usize, to: usize)
     requires { Apart source to × Apart up to × (source + positions ≤ length p.old) × (up + positions ≤ length p.old) × (to + positions ≤ length p.old) }
     ensures { Drawing (With p.old to (Lower p.old source up)) to positions p.old p.new }
 {
-    let mut i: usize = 0;
-    while i < Rule::MAX_POSITIONS {
+    for i in 0..Rule::MAX_POSITIONS {
         let w = p[up + i];
         let new = image(p, source, w);
         p[to + i] = union(p[to + i], new);
-        i += 1;
     }
 }
 
@@ -75,9 +71,7 @@ pub fn pass(p: &mut [u16], n: usize, k: usize)
     requires { BlockRoom n (k + 2) p.old }
     ensures { Grown n k (Handed n k p.old n) p.old p.new }
 {
-    let mut y = 0;
-    while y < n {
+    for y in 0..n {
         hand_down(p, n, k, y);
-        y += 1;
     }
 }

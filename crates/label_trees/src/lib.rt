@@ -53,12 +53,10 @@ fn same_line(s: &[u8], o: usize, from: usize, to: usize) -> bool
     ensures { Told (key_at s.now o ≡ key_at s.now from) result }
 {
     let n = to - from;
-    let mut i = 0;
-    while i < n {
+    for i in 0..n {
         if s[o + i] != s[from + i] {
             return false;
         }
-        i += 1;
     }
     true
 }
@@ -114,10 +112,8 @@ pub fn clear(t: &mut [u32])
     ensures empty { held t.new ≡ 0 }
     ensures holds { (s : List ℕ) → Holds s t.new }
 {
-    let mut i = 0;
-    while i < Trees::HEADS {
+    for i in 0..Trees::HEADS {
         t[i] = 0;
-        i += 1;
     }
 }
 
@@ -157,9 +153,7 @@ pub fn copy(from: &[u32], to: &mut [u32])
     requires { (heads ≤ length from.now) × (length from.now ≤ length to.old) }
     ensures { Copied from.now to.old to.new }
 {
-    let mut i = 0;
-    while i < from.len() {
+    for i in 0..from.len() {
         to[i] = from[i];
-        i += 1;
     }
 }

@@ -20,18 +20,7 @@ fn same_bytes(s: &[u8], from: usize, to: usize, rule: &[u8], start: usize, end: 
     requires { (from ≤ to) × (to ≤ length s.now) × (start ≤ end) × (end ≤ length rule.now) }
     ensures { (result ≡ true) ↔ (slice from to s.now ≡ slice start end rule.now) }
 {
-    let m = end - start;
-    if to - from != m {
-        return false;
-    }
-    let mut i = 0;
-    while i < m {
-        if s[from + i] != rule[start + i] {
-            return false;
-        }
-        i += 1;
-    }
-    true
+    s[from..to] == rule[start..end]
 }
 
 // The label of node `v` is the bytes of the rule from one offset up to another.
@@ -50,10 +39,8 @@ pub fn named(s: &[u8], rule: &[u8], t: &mut [u16], n: usize, k: usize, from: usi
     requires { Tabled s.now n t.old × (k < rule_tests) × (from ≤ to) × (to ≤ length rule.now) }
     ensures { (ns : List Library.Node) → Accepts s.now ns → Linked s.now ns t.old → Settled n k (λ v. (at ns v).label ≡ slice from to rule.now) t.old t.new }
 {
-    let mut v = 0;
-    while v < n {
+    for v in 0..n {
         let x = has_name(s, rule, t, n, v, from, to);
         note(t, n, k, v, x);
-        v += 1;
     }
 }

@@ -36,7 +36,7 @@ impl Table {
 
     pub const COLUMNS: usize = Scratch::TREE_WORDS;
 
-    // The word that stands for none: no node, or no rank.
+    // The word that stands for none: no node, or no rank. A word of the fixed memory has no room for an Option.
     pub const NONE: usize = Scratch::WORD_VALUES - 1;
 }
 

@@ -15,7 +15,7 @@ pub fn loop_at(n: usize, v: usize) -> usize
     Part::LOOPS * n + Rule::MAX_POSITIONS * v
 }
 
-// The settled pairs of node `v`.
+// The settled pairs of node `v`. One line like that of `loop_at`, in another column: a helper for both would be no shorter.
 pub fn pair_at(n: usize, v: usize) -> usize
     requires { (n ≤ document_nodes) × (v < n) }
     ensures { result ≡ pair_at n v }
@@ -36,7 +36,7 @@ pub fn down_at(n: usize, y: usize) -> usize
     requires { (n ≤ document_nodes) × (y < n) }
     ensures { result ≡ down_at n 0 y }
 {
-    Blocks::COLUMN * n + Blocks::WORDS * y
+    block_at(n, 0, y) + Blocks::DOWN
 }
 
 // From node `y` up to its parent.
@@ -44,7 +44,7 @@ pub fn up_at(n: usize, y: usize) -> usize
     requires { (n ≤ document_nodes) × (y < n) }
     ensures { result ≡ up_at n 0 y }
 {
-    Blocks::COLUMN * n + Blocks::WORDS * y + Blocks::UP
+    block_at(n, 0, y) + Blocks::UP
 }
 
 // The snippets of power 0 between node `y` and its parent.
@@ -52,5 +52,5 @@ pub fn snippet_at(n: usize, y: usize) -> usize
     requires { (n ≤ document_nodes) × (y < n) }
     ensures { result ≡ snippet_at n 0 y }
 {
-    Blocks::COLUMN * n + Blocks::WORDS * y + Blocks::SNIPPETS
+    block_at(n, 0, y) + Blocks::SNIPPETS
 }

@@ -31,6 +31,8 @@ pub fn offset(t: &[u16], n: usize, v: usize) -> usize
     get(t, n, Table::LOW, v) + Scratch::WORD_VALUES * get(t, n, Table::HIGH, v)
 }
 
+// The three links differ in a column only: each is a name for one call of `get`, so that callers name a link and no column.
+
 // The left child of node `v`, or none.
 pub fn left(t: &[u16], n: usize, v: usize) -> usize
     requires { (v < n) × Room n t.now }
@@ -60,9 +62,5 @@ pub fn fill(t: &mut [u16], n: usize, c: usize, x: usize)
     requires { (c < COLUMNS) × Room n t.old × (x < word_values) }
     ensures { Filled n c x n t.old t.new }
 {
-    let mut v = 0;
-    while v < n {
-        put(t, n, c, v, x);
-        v += 1;
-    }
+    t[c * n..c * n + n].fill(x as u16);
 }

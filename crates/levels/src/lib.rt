@@ -41,11 +41,9 @@ pub fn levels(p: &mut [u16], n: usize) -> usize
 {
     put(p, n, Groups::LEVEL, 0, 1);
     let mut r = 1;
-    let mut v = 1;
-    while v < n {
+    for v in 1..n {
         let l = enter(p, n, v);
         r = greater(r, l);
-        v += 1;
     }
     r
 }

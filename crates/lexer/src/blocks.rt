@@ -14,12 +14,10 @@ fn text_block(s: &[u8], at: usize) -> bool
     ensures { result ≡ true → AllIn Text s.now at (at + block) }
 {
     let mut all = true;
-    let mut i: usize = 0;
-    while i < BLOCK {
+    for i in 0..BLOCK {
         if !fits(Class::Text, s[at + i]) {
             all = false;
         }
-        i += 1;
     }
     all
 }

@@ -63,8 +63,7 @@ pub fn run(s: &[u8], at: usize, k: Class, most: usize) -> Ending
     requires { at ≤ length s.now }
     ensures { Ended (Run k most) s.now at result }
 {
-    let mut i = pass(s, at, k, most);
-    while i < s.len() {
+    for i in pass(s, at, k, most)..s.len() {
         let b = s[i];
         if b == 10 {
             return Ending::Next(i + 1);
@@ -75,7 +74,6 @@ pub fn run(s: &[u8], at: usize, k: Class, most: usize) -> Ending
         if !fits(k, b) {
             return Ending::Bad;
         }
-        i += 1;
     }
     Ending::Bad
 }
@@ -86,10 +84,8 @@ fn value(s: &[u8], at: usize, end: usize) -> usize
     ensures { result ≡ reading (slice at end s.now) }
 {
     let mut n: usize = 0;
-    let mut i = at;
-    while i < end {
+    for i in at..end {
         n = n * 10 + (s[i] - b'0') as usize;
-        i += 1;
     }
     n
 }
@@ -130,12 +126,10 @@ pub fn read_key(s: &[u8], at: usize, key: &[u8]) -> Ending
     if s.len() - at < n {
         return Ending::Bad;
     }
-    let mut i = 0;
-    while i < n {
+    for i in 0..n {
         if s[at + i] != key[i] {
             return Ending::Bad;
         }
-        i += 1;
     }
     Ending::Next(at + n)
 }

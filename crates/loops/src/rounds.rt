@@ -54,10 +54,8 @@ fn downwards(p: &mut [u16], n: usize, m: Machine) -> usize
     ensures { Passed (Everywhere (Falls m n p.old) n) m n p.old p.new result }
 {
     let mut r: usize = 0;
-    let mut v: usize = 1;
-    while v < n {
+    for v in 1..n {
         r += descend(p, n, m, v);
-        v += 1;
     }
     r
 }

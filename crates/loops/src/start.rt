@@ -10,9 +10,7 @@ pub fn start(p: &mut [u16], n: usize, m: Machine)
     requires { Ready n p.old }
     ensures { Started m n n p.old p.new }
 {
-    let mut v = 0;
-    while v < n {
+    for v in 0..n {
         begin(p, n, m, v);
-        v += 1;
     }
 }

@@ -13,12 +13,10 @@ pub fn mark(t: &[u16], n: usize, marks: &mut [u8]) -> usize
     ensures { Marked n t.now marks.old marks.new result }
 {
     let mut count = 0;
-    let mut v = 0;
-    while v < n {
+    for v in 0..n {
         let h = holds(t, n, 0, v);
         marks[v] = h as u8;
         count += h as usize;
-        v += 1;
     }
     count
 }
@@ -28,9 +26,7 @@ pub fn clear(t: &mut [u16], m: usize)
     requires { m ≤ length t.old }
     ensures { (take m t.new ≡ replicate m 0) × (drop m t.new ≡ drop m t.old) }
 {
-    let mut i = 0;
-    while i < m {
+    for i in 0..m {
         t[i] = 0;
-        i += 1;
     }
 }

@@ -1,4 +1,4 @@
--- The union of the rows that the members of a set name, as `followers` and `image` gather it: the row of a member that was taken out is in the result.
+-- The union of the rows that the members of a set name, as `image` gathers it: the row of a member that was taken out is in the result.
 use Prim.Native.Nat.{ℕ, ◌<◌}
 use mathlib.Core.Path.{◌≡◌, sym, ap, ◌∙◌}
 use mathlib.Core.Bool.{true, false, false≢true}

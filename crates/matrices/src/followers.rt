@@ -4,20 +4,12 @@ ghost use Rattle.limits.specs.Limits.{positions};
 ghost use Rattle.bits.specs.Sets.{bit};
 ghost use Rattle.matrices.specs.Matrices.{Exactly};
 
-use crate::sets::{first, without};
-use bits::{insert, union};
+use crate::image;
 use limits::Rule;
 
-// The positions that follow a member of `w`. Each turn takes one member out, so that few members take few turns.
+// The positions that follow a member of `w`.
 pub fn followers(rows: [u16; Rule::MAX_POSITIONS], w: u16) -> u16
     ensures { Exactly result (λ j. (i : ℕ) × (i < positions) × (bit w i ≡ true) × (bit (get_or rows i 0) j ≡ true)) }
 {
-    let mut r = 0;
-    let mut rest = w;
-    while 0 < rest {
-        let i = first(rest);
-        r = union(r, rows[i as usize]);
-        rest = without(rest, insert(0, i));
-    }
-    r
+    image(&rows, 0, w)
 }

@@ -37,12 +37,10 @@ pub fn before(p: &[u16], at: usize, w: u16) -> u16
         return 0;
     }
     let mut r = 0;
-    let mut i: usize = 0;
-    while i < Rule::MAX_POSITIONS {
+    for i in 0..Rule::MAX_POSITIONS {
         if touches(p[at + i], w) {
             r = insert(r, i as u16);
         }
-        i += 1;
     }
     r
 }
@@ -52,11 +50,9 @@ pub fn compose(p: &mut [u16], a: usize, b: usize, c: usize)
     requires { Apart a c × Apart b c × (a + positions ≤ length p.old) × (b + positions ≤ length p.old) × (c + positions ≤ length p.old) }
     ensures { Redrawn c p.old p.new × ((i j : ℕ) → i < positions → j < positions → Related p.new c i j ↔ ((k : ℕ) × (k < positions) × Related p.old a i k × Related p.old b k j)) }
 {
-    let mut i: usize = 0;
-    while i < Rule::MAX_POSITIONS {
+    for i in 0..Rule::MAX_POSITIONS {
         let w = p[a + i];
         p[c + i] = image(p, b, w);
-        i += 1;
     }
 }
 
@@ -66,10 +62,8 @@ pub fn is_empty(p: &[u16], at: usize) -> bool
     ensures { result ≡ true → (i j : ℕ) → i < positions → ¬ Related p.now at i j }
 {
     let mut all = 0;
-    let mut i: usize = 0;
-    while i < Rule::MAX_POSITIONS {
+    for i in 0..Rule::MAX_POSITIONS {
         all = union(all, p[at + i]);
-        i += 1;
     }
     all == 0
 }
@@ -83,10 +77,8 @@ pub fn size(p: &[u16], at: usize) -> usize
         return 0;
     }
     let mut r: usize = 0;
-    let mut i: usize = 0;
-    while i < Rule::MAX_POSITIONS {
+    for i in 0..Rule::MAX_POSITIONS {
         r += count(p[at + i]) as usize;
-        i += 1;
     }
     r
 }

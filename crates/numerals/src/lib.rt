@@ -168,13 +168,11 @@ pub fn scan_bytes(s: &[u8], from: usize, to: usize, c: Scan) -> Scan
     ensures { Fits result × ((bs : List ℕ) → resume result bs ≡ resume c (slice from to s.now ++ bs)) }
 {
     let mut r = c;
-    let mut i = from;
-    while i < to {
+    for i in from..to {
         if has_failed(r) {
             return r;
         }
         r = step(r, s[i]);
-        i += 1;
     }
     r
 }
@@ -185,10 +183,8 @@ fn padded(number: usize, decimals: usize) -> usize
     ensures { (result ≡ number * 10 ^ (numeral_decimals - decimals)) × (result < bias) }
 {
     let mut n = number;
-    let mut k = decimals;
-    while k < Numeral::MAX_DECIMALS {
+    for k in decimals..Numeral::MAX_DECIMALS {
         n *= 10;
-        k += 1;
     }
     n
 }

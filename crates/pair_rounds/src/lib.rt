@@ -50,10 +50,8 @@ fn downwards(p: &mut [u16], n: usize) -> usize
     ensures { Passed (Everywhere (Falls n p.old) n) n p.old p.new result }
 {
     let mut r: usize = 0;
-    let mut y: usize = 1;
-    while y < n {
+    for y in 1..n {
         r += fall(p, n, y);
-        y += 1;
     }
     r
 }

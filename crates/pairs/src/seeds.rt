@@ -47,9 +47,7 @@ pub fn seed(p: &mut [u16], n: usize)
     requires { Ready n p.old }
     ensures { Grown n p.old p.new × Everywhere (Met n p.new) n }
 {
-    let mut y: usize = 1;
-    while y < n {
+    for y in 1..n {
         seed_edge(p, n, y);
-        y += 1;
     }
 }

@@ -28,10 +28,8 @@ fn square(p: &mut [u16], at: usize, w: u16)
     requires { at + positions ≤ length p.old }
     ensures { Drawing (Square w) at positions p.old p.new }
 {
-    let mut a: usize = 0;
-    while a < Rule::MAX_POSITIONS {
+    for a in 0..Rule::MAX_POSITIONS {
         p[at + a] = if_has(w, a);
-        a += 1;
     }
 }
 
@@ -49,9 +47,7 @@ pub fn start(p: &mut [u16], n: usize, last: u16)
     requires { Ready n p.old }
     ensures { Started last n n p.old p.new }
 {
-    let mut v = 0;
-    while v < n {
+    for v in 0..n {
         begin(p, n, last, v);
-        v += 1;
     }
 }

@@ -38,11 +38,9 @@ pub fn widen(p: &mut [u16], from: usize, by: usize, back: bool, to: usize, at: u
     ensures { Widening (Widened p.old at from by back to) at positions p.old p.new result }
 {
     let mut r: usize = 0;
-    let mut a: usize = 0;
-    while a < Rule::MAX_POSITIONS {
+    for a in 0..Rule::MAX_POSITIONS {
         let w = row(p, from, by, back, to, a);
         r += add(p, at + a, w);
-        a += 1;
     }
     r
 }

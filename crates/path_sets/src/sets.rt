@@ -1,7 +1,7 @@
 // What is told of a path: whether its empty word belongs to it, and which of its steps may come first and last.
 ghost use Rattle.std.specs.Prelude.{◌≡◌, ℕ, ◌+◌, ◌<◌};
 ghost use Rattle.limits.specs.Limits.{positions};
-ghost use Rattle.bits.specs.Sets.{bit, or, and};
+ghost use Rattle.bits.specs.Sets.{bit, and};
 ghost use Rattle.xpath.specs.Syntax.{XPath, empty, one, seq, union, star, Step, size};
 ghost use Rattle.path_sets.specs.Scanned.{Sets};
 
@@ -15,18 +15,6 @@ pub struct Scan {
     pub last: u16,
     pub count: usize,
     pub next: usize,
-}
-
-fn both(a: bool, b: bool) -> bool
-    ensures { result ≡ and a b }
-{
-    if a { b } else { false }
-}
-
-fn any(a: bool, b: bool) -> bool
-    ensures { result ≡ or a b }
-{
-    if a { true } else { b }
 }
 
 // The set where the flag is up, and no member where it is not.
@@ -66,7 +54,7 @@ pub fn in_sequence(p: Scan, q: Scan) -> Scan
     ensures { ((P Q : XPath) (b : ℕ) → Sets P b p → Sets Q (b + size P) q → Sets (seq P Q) b result) × (result.next ≡ q.next) }
 {
     Scan {
-        null: both(p.null, q.null),
+        null: p.null && q.null,
         first: union(p.first, given(p.null, q.first)),
         last: union(q.last, given(q.null, p.last)),
         count: q.count,
@@ -78,7 +66,7 @@ pub fn either(p: Scan, q: Scan) -> Scan
     ensures { ((P Q : XPath) (b : ℕ) → Sets P b p → Sets Q (b + size P) q → Sets (union P Q) b result) × (result.next ≡ q.next) }
 {
     Scan {
-        null: any(p.null, q.null),
+        null: p.null || q.null,
         first: union(p.first, q.first),
         last: union(p.last, q.last),
         count: q.count,

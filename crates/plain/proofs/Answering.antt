@@ -11,7 +11,7 @@ use Rattle.bits.specs.Sets.{one}
 use Rattle.layout.specs.Part.{ANSWER}
 use Rattle.layout.specs.Words.{cell, word, Wrote}
 use Rattle.rank_sets.specs.Ends.{Held, Steady}
-use Rattle.rank_sets.proofs.Telling.{denied}
+use Rattle.std.proofs.lemmas.Bool.{iff_false}
 use Rattle.plain.specs.Plain.{Answered}
 
 -- a word that answers whether A holds
@@ -27,7 +27,7 @@ answers_none n A p = record { done = λ v l. absurd (omega arith) }
 
 answer : {A : Type 0} (b : Bool) → (b ≡ true) ↔ A → Answer A (one b)
 answer true t = inl (t.0 refl, refl)
-answer false t = inr (denied t refl, refl)
+answer false t = inr (iff_false t refl, refl)
 
 pub answers_step : {n i : ℕ} {A : ℕ → Type 0} {p p₁ p₂ : List ℕ} (b : Bool) → i < n → Answers n A i p → Steady n p p₁ → (b ≡ true) ↔ A i
     → Wrote ((cell n ANSWER i, one b) ∷ []) p₁ p₂ → Answers n A (i + 1) p₂

@@ -47,19 +47,12 @@ fn hits_at(p: &mut [u16], n: usize, m: Machine, v: usize) -> bool
     any_hit(p, n, m.last)
 }
 
-// The word for an answer.
-fn one_if(b: bool) -> usize
-    ensures { (result ≡ one b) × (result ≤ 1) }
-{
-    if b { 1 } else { 0 }
-}
-
 // The answer of node `v` becomes `b`.
 pub fn answer(p: &mut [u16], n: usize, v: usize, b: bool)
     requires { Space n p.old × (v < n) }
     ensures { Wrote ((cell n ANSWER v, one b) ∷ []) p.old p.new }
 {
-    put(p, n, Part::ANSWER, v, one_if(b));
+    put(p, n, Part::ANSWER, v, usize::from(b));
 }
 
 // The two paths of a comparison. Equal ranks are marked, so each node must have one.
@@ -67,11 +60,9 @@ pub fn compare_paths(p: &mut [u16], n: usize, m: Machine, o: Operator)
     requires { Space n p.old × (o ≡ Equal → SmallRanks n p.old) × (m.second < positions) }
     ensures { (q : Op) → o ≡ operator q → Answered n (Meets m n p.old q) p.old p.new }
 {
-    let mut v = 0;
-    while v < n {
+    for v in 0..n {
         let b = meets_at(p, n, m, v, o);
         answer(p, n, v, b);
-        v += 1;
     }
 }
 
@@ -80,10 +71,8 @@ pub fn compare_constant(p: &mut [u16], n: usize, m: Machine)
     requires { Space n p.old }
     ensures { Answered n (Hits m n p.old) p.old p.new }
 {
-    let mut v = 0;
-    while v < n {
+    for v in 0..n {
         let b = hits_at(p, n, m, v);
         answer(p, n, v, b);
-        v += 1;
     }
 }

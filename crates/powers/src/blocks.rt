@@ -37,11 +37,9 @@ fn cross(p: &mut [u16], rows: [u16; Rule::MAX_POSITIONS], a: usize, w: u16, b: u
     requires { (a + positions ≤ c) × (b + positions ≤ c) × (c + positions ≤ length p.old) }
     ensures { Redrawn c p.old p.new × ((i j : ℕ) → i < positions → j < positions → Related p.new c i j ↔ Crossed rows p.old a w b i j) }
 {
-    let mut i: usize = 0;
-    while i < Rule::MAX_POSITIONS {
+    for i in 0..Rule::MAX_POSITIONS {
         let next = meet(followers(rows, p[a + i]), w);
         p[c + i] = image(p, b, next);
-        i += 1;
     }
 }
 

@@ -18,9 +18,7 @@ pub fn find_powers(p: &mut [u16], n: usize, b: usize, m: Machine)
     requires { ((P R : XPath) × (t : Tree) × Ready P R t m n p.old) × (0 < n) × BlockRoom n b p.old }
     ensures { (P R : XPath) (t : Tree) → Ready P R t m n p.old → Powered P R t n b p.old p.new }
 {
-    let mut k = 0;
-    while k < b {
+    for k in 0..b {
         pass(p, n, m, k);
-        k += 1;
     }
 }

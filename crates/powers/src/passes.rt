@@ -54,9 +54,7 @@ pub fn pass(p: &mut [u16], n: usize, m: Machine, k: usize)
     requires { BlockRoom n (k + 1) p.old }
     ensures { Passed m n k n p.old p.new }
 {
-    let mut y = 0;
-    while y < n {
+    for y in 0..n {
         power(p, n, m, k, y);
-        y += 1;
     }
 }

@@ -1,5 +1,5 @@
 -- Ranges of ranks: widened by one more node, and what they say of two sets of nodes.
-use Prim.Native.Nat.{ℕ, suc, ◌+◌, ◌≤◌, ◌<◌}
+use Prim.Native.Nat.{ℕ, suc, min, max, ◌+◌, ◌≤◌, ◌<◌}
 use mathlib.Core.Path.{◌≡◌, refl, sym, ap, ◌∙◌, subst}
 use mathlib.Core.Logic.{◌⊎◌, inl, inr, ⊎_elim, ◌↔◌, ◌≢◌}
 use native.Mathlib.Decide.{ℕ_discrete, dec_lt}
@@ -38,14 +38,13 @@ module _ {E : ℕ → Type 0} {rank : ℕ → ℕ} {i : ℕ} {a : Range} (g : Ra
 
   -- r is the rank of i
   pub ranged_with : (b : Range) (r : ℕ) → E i → r ≡ rank i
-      → (b.least ≤ a.least) × (b.least ≤ r) × ((b.least ≡ a.least) ⊎ (b.least ≡ r))
-      → (a.above ≤ b.above) × (r + 1 ≤ b.above) × ((b.above ≡ a.above) ⊎ (b.above ≡ r + 1)) → Ranged (suc i) E rank b
-  ranged_with b r e q (l, l', c) (h, h', d) =
+      → b.least ≡ min a.least r → b.above ≡ max a.above (r + 1) → Ranged (suc i) E rank b
+  ranged_with b r e q s t =
       record {
         low = λ w k f. low w k f (ℕ_discrete w i);
-        least = least c g.least;
+        least = least (lower (dec_lt a.least r)) g.least;
         high = λ w k f. high w k f (ℕ_discrete w i);
-        greatest = greatest d g.greatest;
+        greatest = greatest (upper (dec_lt a.above (r + 1))) g.greatest;
       }
     where
       low : (w : ℕ) → w < suc i → E w → Dec (w ≡ i) → b.least ≤ rank w
@@ -55,6 +54,14 @@ module _ {E : ℕ → Type 0} {rank : ℕ → ℕ} {i : ℕ} {a : Range} (g : Ra
       high : (w : ℕ) → w < suc i → E w → Dec (w ≡ i) → rank w < b.above
       high w k f (yes z) = let y = ap rank z in omega arith
       high w k f (no z) = let y = g.high w (omega arith) f in omega arith
+
+      lower : Dec (a.least < r) → (b.least ≡ a.least) ⊎ (b.least ≡ r)
+      lower (yes k) = inl (omega arith)
+      lower (no k) = inr (omega arith)
+
+      upper : Dec (a.above < r + 1) → (b.above ≡ a.above) ⊎ (b.above ≡ r + 1)
+      upper (yes k) = inr (omega arith)
+      upper (no k) = inl (omega arith)
 
       least : (b.least ≡ a.least) ⊎ (b.least ≡ r) → (a.least ≡ 65_535) ⊎ Some i E (λ w. rank w ≡ a.least) → (b.least ≡ 65_535) ⊎ Some (suc i) E (λ w. rank w ≡ b.least)
       least (inl z) (inl y) = inl (z ∙ y)

@@ -26,10 +26,8 @@ pub fn mark_ranks(p: &mut [u16], n: usize, last: u16)
     requires { Space n p.old × SmallRanks n p.old × Clear n p.old }
     ensures { Marked n last p.old p.new }
 {
-    let mut w = 0;
-    while w < n {
+    for w in 0..n {
         mark_rank(p, n, last, w);
-        w += 1;
     }
 }
 
@@ -38,11 +36,7 @@ fn marked_at(p: &[u16], n: usize, last: u16, w: usize) -> bool
     requires { Room n p.now × SmallRanks n p.now × (w < n) }
     ensures { (result ≡ true) ↔ (Ended n last p.now w × (word p.now n MARK (word p.now n RANK w) ≡ 1)) }
 {
-    if ends_at(p, n, last, w) {
-        let r = get(p, n, Table::RANK, w);
-        return get(p, n, Part::MARK, r) == 1;
-    }
-    false
+    ends_at(p, n, last, w) && get(p, n, Part::MARK, get(p, n, Table::RANK, w)) == 1
 }
 
 // Whether the walk ends at a node whose rank is marked.
@@ -50,12 +44,5 @@ pub fn any_marked(p: &[u16], n: usize, last: u16) -> bool
     requires { Room n p.now × SmallRanks n p.now }
     ensures { (result ≡ true) ↔ ((w : ℕ) × (w < n) × Ended n last p.now w × (word p.now n MARK (word p.now n RANK w) ≡ 1)) }
 {
-    let mut w = 0;
-    while w < n {
-        if marked_at(p, n, last, w) {
-            return true;
-        }
-        w += 1;
-    }
-    false
+    (0..n).any(|w| marked_at(p, n, last, w))
 }

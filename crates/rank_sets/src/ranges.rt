@@ -11,23 +11,11 @@ use layout::Table;
 use layout::words::get;
 use rule_parts::kinds::Operator;
 
-// The least rank, and one more than the greatest; 65535 and 0 where there is none.
+// The least rank, and one more than the greatest; 65535 and 0 where there is none, so that the first rank widens a range like any other.
 #[derive(Clone, Copy)]
 pub struct Range {
     pub least: usize,
     pub above: usize,
-}
-
-fn smaller(x: usize, y: usize) -> usize
-    ensures { (result ≤ x) × (result ≤ y) × ((result ≡ x) ⊎ (result ≡ y)) }
-{
-    if x < y { x } else { y }
-}
-
-fn greater(x: usize, y: usize) -> usize
-    ensures { (x ≤ result) × (y ≤ result) × ((result ≡ x) ⊎ (result ≡ y)) }
-{
-    if x < y { y } else { x }
 }
 
 // The range with the rank of node `w`, if the walk ends there and `w` has a rank.
@@ -39,8 +27,8 @@ fn widened(p: &[u16], n: usize, last: u16, w: usize, a: Range) -> Range
         let r = get(p, n, Table::RANK, w);
         if r < n {
             return Range {
-                least: smaller(a.least, r),
-                above: greater(a.above, r + 1),
+                least: a.least.min(r),
+                above: a.above.max(r + 1),
             };
         }
     }
@@ -56,10 +44,8 @@ pub fn rank_range(p: &[u16], n: usize, last: u16) -> Range
         least: Table::NONE,
         above: 0,
     };
-    let mut w = 0;
-    while w < n {
+    for w in 0..n {
         a = widened(p, n, last, w, a);
-        w += 1;
     }
     a
 }

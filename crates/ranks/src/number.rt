@@ -37,12 +37,10 @@ pub fn number(s: &[u8], t: &mut [u16], n: usize)
 {
     let mut u = get(t, n, Ranking::ORDER, 0);
     let mut r = 0;
-    let mut i = 0;
-    while i < n {
+    for i in 0..n {
         let v = get(t, n, Ranking::ORDER, i);
         r += rise(s, t, n, u, v);
         put(t, n, Table::RANK, v, r);
         u = v;
-        i += 1;
     }
 }

@@ -43,9 +43,7 @@ pub fn note_entries(
     requires { Work n len p.old × (from ≤ len) × (second < positions) × Paired c × (x < word_values) }
     ensures { Notes n c x (OfEntries p.old n 0 from len) (OfEntries p.old n second from len) p.old p.new }
 {
-    let mut h = from;
-    while h < len {
+    for h in from..len {
         note_entry(p, n, second, h, len, c, x);
-        h += 1;
     }
 }

@@ -24,10 +24,8 @@ pub fn predecessors(rows: [u16; Rule::MAX_POSITIONS], w: u16) -> u16
     ensures { Exactly result (Precedes rows w) }
 {
     let mut r = 0;
-    let mut i = 0;
-    while i < Rule::MAX_POSITIONS {
+    for i in 0..Rule::MAX_POSITIONS {
         r = with_row(r, rows[i], i, w);
-        i += 1;
     }
     r
 }

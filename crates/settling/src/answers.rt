@@ -37,9 +37,7 @@ pub fn answer(p: &mut [u16], n: usize, second: usize)
     requires { Ready n p.old × (second < positions) }
     ensures { Answering second n n p.old p.new }
 {
-    let mut v = 0;
-    while v < n {
+    for v in 0..n {
         answer_at(p, n, second, v);
-        v += 1;
     }
 }

@@ -49,10 +49,8 @@ fn copy(t: &mut [u16], from: usize, to: usize, size: usize)
     requires { (from + size ≤ to) × (to + size ≤ length t.old) }
     ensures { Repeated from to size t.old t.new }
 {
-    let mut k = 0;
-    while k < size {
+    for k in 0..size {
         t[to + k] = t[from + k];
-        k += 1;
     }
 }
 
@@ -95,12 +93,10 @@ fn tests_at(
     ensures { (j : ℕ) → j < positions → bit result j ≡ and (bit brackets j) (held t.now n (get_or numbers j 0) v) }
 {
     let mut w = 0;
-    let mut j: usize = 0;
-    while j < Rule::MAX_POSITIONS {
+    for j in 0..Rule::MAX_POSITIONS {
         if has(brackets, j as u16) && holds(t, n, numbers[j], v) {
             w = insert(w, j as u16);
         }
-        j += 1;
     }
     w
 }
@@ -111,11 +107,9 @@ pub fn draw_tests(t: &mut [u16], n: usize, brackets: u16, numbers: [usize; Rule:
     ensures { Stayed n brackets numbers t.old t.new }
 {
     let column = STAYS * n;
-    let mut v = 0;
-    while v < n {
+    for v in 0..n {
         let w = tests_at(t, n, v, brackets, numbers);
         t[column + v] = w;
-        v += 1;
     }
 }
 
@@ -137,11 +131,9 @@ fn fill_hits(t: &mut [u16], n: usize, column: usize, p: Place, o: Operator)
     ensures { HitsFilled n column p o t.old t.new }
 {
     let hits = HITS * n;
-    let mut v = 0;
-    while v < n {
+    for v in 0..n {
         let x = hit(t, n, column, v, p, o);
         t[hits + v] = x;
-        v += 1;
     }
 }
 
@@ -151,10 +143,8 @@ fn clear_hits(t: &mut [u16], n: usize)
     ensures { HitsCleared n t.old t.new }
 {
     let hits = HITS * n;
-    let mut v = 0;
-    while v < n {
+    for v in 0..n {
         t[hits + v] = 0;
-        v += 1;
     }
 }
 

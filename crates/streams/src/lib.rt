@@ -48,12 +48,10 @@ pub fn split(input: &[u8]) -> Bounds
 pub fn next_marked(marks: &[u8], from: usize) -> usize
     ensures { NextMarked marks.now from result }
 {
-    let mut node = from;
-    while node < marks.len() {
+    for node in from..marks.len() {
         if marks[node] == 1 {
             return node;
         }
-        node += 1;
     }
     marks.len()
 }

@@ -11,12 +11,10 @@ fn same_block(x: &[u8], i: usize, y: &[u8], j: usize) -> bool
     ensures { result ≡ true → Common x.now i y.now j block }
 {
     let mut all = true;
-    let mut k: usize = 0;
-    while k < BLOCK {
+    for k in 0..BLOCK {
         if x[i + k] != y[j + k] {
             all = false;
         }
-        k += 1;
     }
     all
 }

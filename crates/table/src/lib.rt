@@ -62,12 +62,10 @@ pub fn build(s: &[u8], t: &mut [u16], n: usize)
     enter(t, n, 0, first, 0, Table::NONE);
     let mut at = root.next;
     let mut before = 0;
-    let mut v = 1;
-    while v < n {
+    for v in 1..n {
         let e = read_entry(s, at);
         step(t, n, v, at, e.depth, before);
         at = e.next;
         before = e.depth;
-        v += 1;
     }
 }

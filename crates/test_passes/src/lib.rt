@@ -16,11 +16,9 @@ pub fn deny(t: &mut [u16], n: usize, k: usize, a: usize)
     requires { (k < rule_tests) × (a < rule_tests) × Room n t.old }
     ensures { Settled n k (λ v. ¬ (held t.old n a v ≡ true)) t.old t.new }
 {
-    let mut v = 0;
-    while v < n {
+    for v in 0..n {
         let x = holds(t, n, a, v);
         note(t, n, k, v, !x);
-        v += 1;
     }
 }
 
@@ -29,12 +27,10 @@ pub fn both(t: &mut [u16], n: usize, k: usize, a: usize, b: usize)
     requires { (k < rule_tests) × (a < rule_tests) × (b < rule_tests) × Room n t.old }
     ensures { Settled n k (λ v. (held t.old n a v ≡ true) × (held t.old n b v ≡ true)) t.old t.new }
 {
-    let mut v = 0;
-    while v < n {
+    for v in 0..n {
         let x = holds(t, n, a, v);
         let y = holds(t, n, b, v);
-        note(t, n, k, v, x & y);
-        v += 1;
+        note(t, n, k, v, x && y);
     }
 }
 
@@ -43,12 +39,10 @@ pub fn either(t: &mut [u16], n: usize, k: usize, a: usize, b: usize)
     requires { (k < rule_tests) × (a < rule_tests) × (b < rule_tests) × Room n t.old }
     ensures { Settled n k (λ v. (held t.old n a v ≡ true) ⊎ (held t.old n b v ≡ true)) t.old t.new }
 {
-    let mut v = 0;
-    while v < n {
+    for v in 0..n {
         let x = holds(t, n, a, v);
         let y = holds(t, n, b, v);
-        note(t, n, k, v, x | y);
-        v += 1;
+        note(t, n, k, v, x || y);
     }
 }
 
@@ -57,10 +51,8 @@ pub fn take(t: &mut [u16], n: usize, k: usize)
     requires { (k < rule_tests) × ((COLUMNS + 1) * n ≤ length t.old) }
     ensures { Settled n k (λ v. word t.old n COLUMNS v ≡ 1) t.old t.new }
 {
-    let mut v = 0;
-    while v < n {
+    for v in 0..n {
         let x = t[Table::COLUMNS * n + v];
         note(t, n, k, v, x == 1);
-        v += 1;
     }
 }

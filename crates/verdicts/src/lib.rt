@@ -210,12 +210,10 @@ fn is_equality(rule: &[u8]) -> bool
 fn has_nodes(values: &[u16], nodes: usize) -> bool
     ensures { HasNodes values.now nodes result }
 {
-    let mut i = 0;
-    while i < values.len() {
+    for i in 0..values.len() {
         if values[i] as usize >= nodes {
             return false;
         }
-        i += 1;
     }
     true
 }

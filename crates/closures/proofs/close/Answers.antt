@@ -1,29 +1,13 @@
 -- `closures::close` meets its contract.
-use mathlib.Core.Path.{◌∙◌}
 use native.Mathlib.Omega.{arith}
 use Rattle.closures.proofs.Warshall.{closing_none, closing_step, closing_all}
 use Rattle.closures.proofs.close.Goals as goal
 
-pub reflect-requires : goal.reflect-requires
-reflect-requires c = omega arith
-
 pub loop-k-init : goal.loop-k-init
 loop-k-init c = (omega arith, closing_none _ _)
 
-pub join-requires : goal.join-requires
-join-requires c = omega arith
-
-pub overflow_add-k : goal.overflow_add-k
-overflow_add-k c = omega arith
-
-pub loop-k-smaller : goal.loop-k-smaller
-loop-k-smaller c = omega arith
-
 pub loop-k-preserved : goal.loop-k-preserved
 loop-k-preserved c = (omega arith, closing_step (omega arith) c.loop-k.invariant.1 c.join.ensures)
-
-pub shape_of-p : goal.shape_of-p
-shape_of-p c = c.loop-k.invariant.1.only.long ∙ c.reflect.auto.p
 
 pub returns : goal.returns
 returns c = closing_all (omega arith) c.reflect.ensures c.loop-k.invariant.1

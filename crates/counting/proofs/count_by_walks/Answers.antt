@@ -19,12 +19,6 @@ several_at-b-requires c = let x = c.requires in (c.loop-v.invariant.clean, c.loo
 pub answer-requires : goal.answer-requires
 answer-requires c = (c.several_at-b.ensures.0.clean.work.space, c.loop-v-test.true)
 
-pub overflow_add-v : goal.overflow_add-v
-overflow_add-v c = let l = c.loop-v-test.true in omega arith
-
-pub loop-v-smaller : goal.loop-v-smaller
-loop-v-smaller c = let l = c.loop-v-test.true in omega arith
-
 pub loop-v-preserved : goal.loop-v-preserved
 loop-v-preserved c =
     let b = c.several_at-b in

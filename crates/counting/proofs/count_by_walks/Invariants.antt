@@ -5,6 +5,3 @@ use Rattle.counting.proofs.count_by_walks.Given as goal
 
 abbrev pub invariant-loop-v : goal.invariant-loop-v
 invariant-loop-v l = Counting l.m l.n l.k l.v l.initial.p l.p
-
-abbrev pub decreases-loop-v : goal.decreases-loop-v
-decreases-loop-v l = l.n - l.v

@@ -38,12 +38,6 @@ overflow_add-snippets c =
     omega arith
 
 -- ── One turn of the loop ──
-pub overflow_add-i : goal.overflow_add-i
-overflow_add-i c = let h = c.loop-i-test.true in let q = c.requires.2 in let l = order_short q.order in let f = tests_few q.accepts in omega arith
-
-pub loop-i-smaller : goal.loop-i-smaller
-loop-i-smaller c = let h = c.loop-i-test.true in omega arith
-
 pub loop-i-preserved : goal.loop-i-preserved
 loop-i-preserved c =
     let i = c.loop-i in let h = c.loop-i-test.true in let d = c.settle-own in (

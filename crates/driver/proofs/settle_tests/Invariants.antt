@@ -13,6 +13,3 @@ use Rattle.driver.proofs.settle_tests.Given as goal
 abbrev pub invariant-loop-i : goal.invariant-loop-i
 invariant-loop-i l =
     (length l.t ≡ length l.initial.t) × ((ns : List Node) (T : Test) → Queue l.s l.rule ns T l.n l.initial.t l.offsets l.order → Driven l.e ns l.n T (take l.i l.order) l.initial.t l.t l.snippets)
-
-abbrev pub decreases-loop-i : goal.decreases-loop-i
-decreases-loop-i l = length l.order - l.i

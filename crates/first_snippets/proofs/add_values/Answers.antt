@@ -27,12 +27,6 @@ add_rank-requires c =
     let o = base_rest c.loop-i.invariant.added.rest c.requires.0 in
     let l = c.loop-i-test.true in (o, rank_at c.args.values.now o c.requires.1 _ (omega arith) c.get-r.ensures.0)
 
-pub overflow_add-i : goal.overflow_add-i
-overflow_add-i c = omega arith
-
-pub loop-i-smaller : goal.loop-i-smaller
-loop-i-smaller c = omega arith
-
 pub loop-i-preserved : goal.loop-i-preserved
 loop-i-preserved c =
     let l = c.loop-i-test.true in

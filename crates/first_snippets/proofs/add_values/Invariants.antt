@@ -6,6 +6,3 @@ use Rattle.first_snippets.proofs.add_values.Given as goal
 
 abbrev pub invariant-loop-i : goal.invariant-loop-i
 invariant-loop-i l = Taking l.values l.i l.m l.n l.b l.first l.initial.p l.p
-
-abbrev pub decreases-loop-i : goal.decreases-loop-i
-decreases-loop-i l = length l.values - l.i

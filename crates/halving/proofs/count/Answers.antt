@@ -40,12 +40,6 @@ overflow_add-r c =
     omega (arith, l.invariant.1, c.size-r.ensures)
 
 -- ── One turn of the loop ──
-pub overflow_add-i : goal.overflow_add-i
-overflow_add-i c = omega arith
-
-pub loop-i-smaller : goal.loop-i-smaller
-loop-i-smaller c = omega arith
-
 pub loop-i-preserved : goal.loop-i-preserved
 loop-i-preserved c =
     let x = c.args in

@@ -7,6 +7,3 @@ use Rattle.halving.proofs.count.Given as goal
 -- ── The loop's invariant ──
 abbrev pub invariant-loop-i : goal.invariant-loop-i
 invariant-loop-i l = (l.i ≤ l.blocks) × (l.r ≡ total l.p l.n l.i)
-
-abbrev pub decreases-loop-i : goal.decreases-loop-i
-decreases-loop-i l = l.blocks - l.i

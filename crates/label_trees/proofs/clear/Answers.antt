@@ -16,12 +16,6 @@ offset_bounds-t-i c = omega arith
 pub bounds-t-i : goal.bounds-t-i
 bounds-t-i c = omega arith
 
-pub overflow_add-i : goal.overflow_add-i
-overflow_add-i c = omega arith
-
-pub loop-i-smaller : goal.loop-i-smaller
-loop-i-smaller c = omega arith
-
 pub loop-i-preserved : goal.loop-i-preserved
 loop-i-preserved c = (omega arith, writing_more (λ j. 0) c.loop-i.invariant.1 (omega arith))
 

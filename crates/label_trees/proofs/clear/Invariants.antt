@@ -6,6 +6,3 @@ use Rattle.label_trees.proofs.clear.Given as goal
 
 abbrev pub invariant-loop-i : goal.invariant-loop-i
 invariant-loop-i l = (l.i ≤ heads) × Writing (λ j. 0) l.initial.t l.i l.t
-
-abbrev pub decreases-loop-i : goal.decreases-loop-i
-decreases-loop-i l = heads - l.i

@@ -28,12 +28,6 @@ returns-then-s-o c =
     let i = c.loop-i.i in
     key_other a.s.now a.from a.to c.requires.0 a.o (omega arith) i (omega arith) c.if-s-o.true
 
-pub overflow_add-i : goal.overflow_add-i
-overflow_add-i c = omega arith
-
-pub loop-i-smaller : goal.loop-i-smaller
-loop-i-smaller c = omega arith
-
 pub loop-i-preserved : goal.loop-i-preserved
 loop-i-preserved c = (omega arith, below_more _ _ c.loop-i.invariant.1 c.if-s-o.false)
 

@@ -6,6 +6,3 @@ use Rattle.label_trees.proofs.same_line.Given as goal
 
 abbrev pub invariant-loop-i : goal.invariant-loop-i
 invariant-loop-i l = (l.i ≤ l.n) × ((j : ℕ) → j < l.i → get_or l.s (l.o + j) 0 ≡ get_or l.s (l.from + j) 0)
-
-abbrev pub decreases-loop-i : goal.decreases-loop-i
-decreases-loop-i l = l.n - l.i

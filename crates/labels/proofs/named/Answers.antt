@@ -1,5 +1,4 @@
 -- `labels::named` meets its contract.
-use native.Mathlib.Omega.{arith}
 use native.Mathlib.Numerals.{add-one}
 use Rattle.table.specs.Tabled.{Worked}
 use Rattle.table.proofs.Worked.{worked_linked, worked_tree}
@@ -19,12 +18,6 @@ pub note-requires : goal.note-requires
 note-requires c =
     let p = c.requires in
     (p.1, c.loop-v-test.true, (worked_tree p.0 (let worked-here : Worked c.args.n c.args.t.now c.loop-v.t = let h = c.requires.0 in settling_worked (c.loop-v.invariant h.nodes h.accepts h.linked) in worked-here)).room)
-
-pub overflow_add-v : goal.overflow_add-v
-overflow_add-v c = let l = c.loop-v-test.true in omega arith
-
-pub loop-v-smaller : goal.loop-v-smaller
-loop-v-smaller c = let l = c.loop-v-test.true in omega arith
 
 pub loop-v-preserved : goal.loop-v-preserved
 loop-v-preserved c = λ ns a k.

@@ -1,5 +1,4 @@
 -- `labels::named` meets its contract.
-use Prim.Native.Nat.{◌-◌}
 use mathlib.Core.Path.{◌≡◌}
 use mathlib.Core.List.{List}
 use lib.Seq.{slice}
@@ -12,6 +11,3 @@ use Rattle.labels.proofs.named.Given as goal
 abbrev pub invariant-loop-v : goal.invariant-loop-v
 invariant-loop-v l =
     (ns : List Node) → Accepts l.s ns → Linked l.s ns l.initial.t → Settling l.n l.k (λ u. (at ns u).label ≡ slice l.from l.to l.rule) l.v l.initial.t l.t
-
-abbrev pub decreases-loop-v : goal.decreases-loop-v
-decreases-loop-v l = l.n - l.v

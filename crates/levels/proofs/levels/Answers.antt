@@ -23,12 +23,6 @@ enter-l-requires c =
 pub greater-r-requires : goal.greater-r-requires
 greater-r-requires c = tt
 
-pub overflow_add-v : goal.overflow_add-v
-overflow_add-v c = let l = c.loop-v-test.true in let few = c.requires.0.1.few in omega arith
-
-pub loop-v-smaller : goal.loop-v-smaller
-loop-v-smaller c = let l = c.loop-v-test.true in omega arith
-
 pub loop-v-preserved : goal.loop-v-preserved
 loop-v-preserved c =
     let s = c.requires.0.1 in let w = root_within (some_nodes s) c.put.ensures in let e = c.enter-l.ensures in

@@ -5,6 +5,3 @@ use Rattle.levels.proofs.levels.Given as goal
 
 abbrev pub invariant-loop-v : goal.invariant-loop-v
 invariant-loop-v l = Levelling l.n l.v l.r l.initial.p l.p
-
-abbrev pub decreases-loop-v : goal.decreases-loop-v
-decreases-loop-v l = l.n - l.v

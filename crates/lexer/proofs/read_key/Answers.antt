@@ -25,12 +25,6 @@ bounds-key-i c = omega arith
 pub returns-then-s-at-2 : goal.returns-then-s-at-2
 returns-then-s-at-2 c = let a = c.args in key_differs a.s.now a.key.now a.at c.loop-i.i (omega arith) c.if-s-at-2.true
 
-pub overflow_add-i : goal.overflow_add-i
-overflow_add-i c = omega arith
-
-pub loop-i-smaller : goal.loop-i-smaller
-loop-i-smaller c = omega arith
-
 pub loop-i-preserved : goal.loop-i-preserved
 loop-i-preserved c = (omega arith, below_more _ _ c.loop-i.invariant.1 c.if-s-at-2.false)
 

@@ -6,6 +6,3 @@ use Rattle.lexer.proofs.read_key.Given as goal
 
 abbrev pub invariant-loop-i : goal.invariant-loop-i
 invariant-loop-i l = (l.i ≤ l.n) × ((j : ℕ) → j < l.i → get_or l.s (l.at + j) 0 ≡ get_or l.key j 0)
-
-abbrev pub decreases-loop-i : goal.decreases-loop-i
-decreases-loop-i l = l.n - l.i

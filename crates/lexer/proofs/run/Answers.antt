@@ -44,12 +44,6 @@ returns-then-not-fits c =
     run_stops a.s.now a.at l.i a.k a.most l.invariant.from l.invariant.fits c.if-b-eq10.false (sym c.fits.ensures ∙ c.if-not-fits.true)
 
 -- ── One turn of the loop ──
-pub overflow_add-i : goal.overflow_add-i
-overflow_add-i c = omega arith
-
-pub loop-i-smaller : goal.loop-i-smaller
-loop-i-smaller c = omega arith
-
 pub loop-i-preserved : goal.loop-i-preserved
 loop-i-preserved c =
     let a = c.args in let l = c.loop-i in

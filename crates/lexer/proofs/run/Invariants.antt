@@ -7,6 +7,3 @@ use Rattle.lexer.proofs.run.Given as goal
 -- ── The loop's invariant ──
 abbrev pub invariant-loop-i : goal.invariant-loop-i
 invariant-loop-i l = Passed l.k l.most l.s l.at l.i
-
-abbrev pub decreases-loop-i : goal.decreases-loop-i
-decreases-loop-i l = length l.s - l.i

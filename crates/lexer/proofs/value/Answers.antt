@@ -36,12 +36,6 @@ overflow_add-n c =
     let h = ten_small l.n (l.i - c.args.at) l.invariant.2 (omega (arith, p.few)) in omega arith
 
 -- ── One turn of the loop ──
-pub overflow_add-i : goal.overflow_add-i
-overflow_add-i c = omega arith
-
-pub loop-i-smaller : goal.loop-i-smaller
-loop-i-smaller c = omega arith
-
 pub loop-i-preserved : goal.loop-i-preserved
 loop-i-preserved c =
     let l = c.loop-i in let p = c.requires in

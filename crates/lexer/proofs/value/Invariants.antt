@@ -10,6 +10,3 @@ use Rattle.lexer.proofs.value.Given as goal
 abbrev pub invariant-loop-i : goal.invariant-loop-i
 invariant-loop-i l =
     (l.at ≤ l.i) × (l.i ≤ l.end) × (l.n < 10 ^ (l.i - l.at)) × (value_from 10 l.n (map (λ b. b - 48) (slice l.i l.end l.s)) ≡ reading (slice l.at l.end l.s))
-
-abbrev pub decreases-loop-i : goal.decreases-loop-i
-decreases-loop-i l = l.end - l.i

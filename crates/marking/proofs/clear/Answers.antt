@@ -12,12 +12,6 @@ offset_bounds-t-i c = omega arith
 pub bounds-t-i : goal.bounds-t-i
 bounds-t-i c = let e = c.loop-i.invariant.long in omega arith
 
-pub overflow_add-i : goal.overflow_add-i
-overflow_add-i c = omega arith
-
-pub loop-i-smaller : goal.loop-i-smaller
-loop-i-smaller c = omega arith
-
 pub loop-i-preserved : goal.loop-i-preserved
 loop-i-preserved c = clearing_step c.requires c.loop-i.invariant c.loop-i-test.true
 

@@ -21,12 +21,6 @@ overflow_cast-count c = tt
 pub overflow_add-count : goal.overflow_add-count
 overflow_add-count c = let few = c.loop-v.invariant.few in let small = byte_small c.holds-h.result in omega arith
 
-pub overflow_add-v : goal.overflow_add-v
-overflow_add-v c = omega arith
-
-pub loop-v-smaller : goal.loop-v-smaller
-loop-v-smaller c = omega arith
-
 pub loop-v-preserved : goal.loop-v-preserved
 loop-v-preserved c = marking_step c.requires.1 c.loop-v.invariant c.loop-v-test.true c.holds-h.ensures
 

@@ -5,6 +5,3 @@ use Rattle.marking.proofs.mark.Given as goal
 
 abbrev pub invariant-loop-v : goal.invariant-loop-v
 invariant-loop-v l = Marking l.n l.v l.count l.t l.initial.marks l.marks
-
-abbrev pub decreases-loop-v : goal.decreases-loop-v
-decreases-loop-v l = l.n - l.v

@@ -13,30 +13,6 @@ returns-then-w-eq0 c = let x = c.args in preceding_nothing x.p.now x.at x.w c.if
 pub loop-i-init : goal.loop-i-init
 loop-i-init c = (omega arith, preceding_none _ _ _)
 
-pub overflow_add-at : goal.overflow_add-at
-overflow_add-at c = omega arith
-
-pub offset_bounds-p-at : goal.offset_bounds-p-at
-offset_bounds-p-at c = omega arith
-
-pub bounds-p-at : goal.bounds-p-at
-bounds-p-at c = omega arith
-
-pub touches-requires : goal.touches-requires
-touches-requires c = tt
-
-pub overflow_cast-i : goal.overflow_cast-i
-overflow_cast-i c = omega arith
-
-pub insert-r-requires : goal.insert-r-requires
-insert-r-requires c = omega arith
-
-pub overflow_add-i : goal.overflow_add-i
-overflow_add-i c = omega arith
-
-pub loop-i-smaller : goal.loop-i-smaller
-loop-i-smaller c = omega arith
-
 pub loop-i-preserved : goal.loop-i-preserved
 loop-i-preserved c =
     let l = c.loop-i.invariant in

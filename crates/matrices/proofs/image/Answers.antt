@@ -7,27 +7,6 @@ use Rattle.matrices.proofs.image.Goals as goal
 pub loop-rest-init : goal.loop-rest-init
 loop-rest-init c = following_none _ _
 
-pub first-i-requires : goal.first-i-requires
-first-i-requires c = omega arith
-
-pub overflow_cast-i : goal.overflow_cast-i
-overflow_cast-i c = omega arith
-
-pub overflow_add-at : goal.overflow_add-at
-overflow_add-at c = omega arith
-
-pub offset_bounds-p-at : goal.offset_bounds-p-at
-offset_bounds-p-at c = omega arith
-
-pub bounds-p-at : goal.bounds-p-at
-bounds-p-at c = omega arith
-
-pub union-r-requires : goal.union-r-requires
-union-r-requires c = tt
-
-pub insert-requires : goal.insert-requires
-insert-requires c = omega arith
-
 pub without-rest-requires : goal.without-rest-requires
 without-rest-requires c = tt
 

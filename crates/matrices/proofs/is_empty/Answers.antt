@@ -7,24 +7,6 @@ use Rattle.matrices.proofs.is_empty.Goals as goal
 pub loop-i-init : goal.loop-i-init
 loop-i-init c = (omega arith, covers_none _ _ _)
 
-pub overflow_add-at : goal.overflow_add-at
-overflow_add-at c = omega arith
-
-pub offset_bounds-p-at : goal.offset_bounds-p-at
-offset_bounds-p-at c = omega arith
-
-pub bounds-p-at : goal.bounds-p-at
-bounds-p-at c = omega arith
-
-pub union-all-requires : goal.union-all-requires
-union-all-requires c = tt
-
-pub overflow_add-i : goal.overflow_add-i
-overflow_add-i c = omega arith
-
-pub loop-i-smaller : goal.loop-i-smaller
-loop-i-smaller c = omega arith
-
 pub loop-i-preserved : goal.loop-i-preserved
 loop-i-preserved c = (omega arith, covers_more c.loop-i.invariant.1 c.union-all.ensures)
 

@@ -9,9 +9,6 @@ use Rattle.matrices.proofs.Pairs.{pairs_more, pairs_le, pairs_none}
 use Rattle.matrices.proofs.size.Goals as goal
 
 -- ── An empty matrix ──
-pub is_empty-requires : goal.is_empty-requires
-is_empty-requires c = c.requires
-
 pub returns-then-is_empty : goal.returns-then-is_empty
 returns-then-is_empty c = let x = c.args in sym (pairs_none x.p.now x.at 16 (c.is_empty.ensures c.if-is_empty.true))
 
@@ -19,21 +16,6 @@ returns-then-is_empty c = let x = c.args in sym (pairs_none x.p.now x.at 16 (c.i
 pub loop-i-init : goal.loop-i-init
 unfolding pairs
 loop-i-init c = (omega arith, refl)
-
-pub overflow_add-at : goal.overflow_add-at
-overflow_add-at c = omega arith
-
-pub offset_bounds-p-at : goal.offset_bounds-p-at
-offset_bounds-p-at c = omega arith
-
-pub bounds-p-at : goal.bounds-p-at
-bounds-p-at c = omega arith
-
-pub count-requires : goal.count-requires
-count-requires c = tt
-
-pub overflow_cast-r : goal.overflow_cast-r
-overflow_cast-r c = omega arith
 
 pub overflow_add-r : goal.overflow_add-r
 overflow_add-r c =
@@ -45,12 +27,6 @@ overflow_add-r c =
     omega (arith, c.count.ensures)
 
 -- ── One turn of the loop ──
-pub overflow_add-i : goal.overflow_add-i
-overflow_add-i c = omega arith
-
-pub loop-i-smaller : goal.loop-i-smaller
-loop-i-smaller c = omega arith
-
 pub loop-i-preserved : goal.loop-i-preserved
 loop-i-preserved c =
     let l = c.loop-i.invariant in

@@ -12,12 +12,6 @@ loop-k-init c = (c.requires.0, c.requires.1, refl)
 pub overflow_mul-n : goal.overflow_mul-n
 overflow_mul-n c = let l = c.loop-k in let h = number_small _ l.n l.invariant.1 (omega arith) in omega arith
 
-pub overflow_add-k : goal.overflow_add-k
-overflow_add-k c = omega arith
-
-pub loop-k-smaller : goal.loop-k-smaller
-loop-k-smaller c = omega arith
-
 pub loop-k-preserved : goal.loop-k-preserved
 loop-k-preserved c =
     let l = c.loop-k in

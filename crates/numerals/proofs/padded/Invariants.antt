@@ -8,6 +8,3 @@ use Rattle.numerals.proofs.padded.Given as goal
 abbrev pub invariant-loop-k : goal.invariant-loop-k
 invariant-loop-k l =
     (l.k ≤ numeral_decimals) × (l.n < 10 ^ (numeral_digits + l.k)) × (l.n * 10 ^ (numeral_decimals - l.k) ≡ l.number * 10 ^ (numeral_decimals - l.decimals))
-
-abbrev pub decreases-loop-k : goal.decreases-loop-k
-decreases-loop-k l = numeral_decimals - l.k

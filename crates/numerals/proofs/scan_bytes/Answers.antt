@@ -20,12 +20,6 @@ bounds-s-i c = omega arith
 pub step-r-requires : goal.step-r-requires
 step-r-requires c = c.loop-i.invariant.1.fits
 
-pub overflow_add-i : goal.overflow_add-i
-overflow_add-i c = omega arith
-
-pub loop-i-smaller : goal.loop-i-smaller
-loop-i-smaller c = omega arith
-
 pub loop-i-preserved : goal.loop-i-preserved
 loop-i-preserved c =
     let l = c.loop-i in

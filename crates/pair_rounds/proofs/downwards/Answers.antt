@@ -14,12 +14,6 @@ fall-r-requires c = (ready_kept c.loop-y.invariant.1.grown.framed c.requires, om
 pub overflow_add-r : goal.overflow_add-r
 overflow_add-r c = omega (arith, c.requires.few, passed_small c.loop-y.invariant.1, passed_small c.fall-r.ensures)
 
-pub overflow_add-y : goal.overflow_add-y
-overflow_add-y c = omega arith
-
-pub loop-y-smaller : goal.loop-y-smaller
-loop-y-smaller c = omega arith
-
 pub loop-y-preserved : goal.loop-y-preserved
 loop-y-preserved c = (omega arith, down_more (Falls _) c.loop-y.invariant.1 c.fall-r.ensures)
 

@@ -6,6 +6,3 @@ use Rattle.pair_rounds.proofs.downwards.Given as goal
 
 abbrev pub invariant-loop-y : goal.invariant-loop-y
 invariant-loop-y l = (0 < l.y) × Passed (Everywhere (Falls l.n l.initial.p) l.y) l.n l.initial.p l.p l.r
-
-abbrev pub decreases-loop-y : goal.decreases-loop-y
-decreases-loop-y l = l.n - l.y

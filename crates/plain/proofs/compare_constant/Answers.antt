@@ -1,6 +1,5 @@
 -- `plain::compare_constant` meets its contract.
 use mathlib.Core.Logic.Iff
-use native.Mathlib.Omega.{arith}
 use Rattle.machine.specs.Walks.{Hits}
 use Rattle.rank_sets.proofs.Steady.{held_none, held_then, held_space}
 use Rattle.plain.proofs.Steady.{held_answer}
@@ -16,12 +15,6 @@ hits_at-b-requires c = (held_space c.loop-v.invariant.0 c.requires, c.loop-v-tes
 
 pub answer-requires : goal.answer-requires
 answer-requires c = (held_space (held_then c.loop-v.invariant.0 c.hits_at-b.ensures.0.held) c.requires, c.loop-v-test.true)
-
-pub overflow_add-v : goal.overflow_add-v
-overflow_add-v c = let l = c.loop-v-test.true in omega arith
-
-pub loop-v-smaller : goal.loop-v-smaller
-loop-v-smaller c = let l = c.loop-v-test.true in omega arith
 
 pub loop-v-preserved : goal.loop-v-preserved
 loop-v-preserved c = let h = c.loop-v.invariant.0 in let l = c.loop-v-test.true in let b = c.hits_at-b in let w = c.answer.ensures in (

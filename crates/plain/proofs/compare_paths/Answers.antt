@@ -1,6 +1,5 @@
 -- `plain::compare_paths` meets its contract.
 use mathlib.Core.Logic.Iff
-use native.Mathlib.Omega.{arith}
 use Rattle.machine.specs.Walks.{Meets}
 use Rattle.rank_sets.proofs.Steady.{held_none, held_then, held_space, held_small}
 use Rattle.plain.proofs.Steady.{held_answer}
@@ -16,12 +15,6 @@ meets_at-b-requires c = let x = c.requires in let h = c.loop-v.invariant.0 in (h
 
 pub answer-requires : goal.answer-requires
 answer-requires c = (held_space (held_then c.loop-v.invariant.0 c.meets_at-b.ensures.0.held) c.requires.0, c.loop-v-test.true)
-
-pub overflow_add-v : goal.overflow_add-v
-overflow_add-v c = let l = c.loop-v-test.true in omega arith
-
-pub loop-v-smaller : goal.loop-v-smaller
-loop-v-smaller c = let l = c.loop-v-test.true in omega arith
 
 pub loop-v-preserved : goal.loop-v-preserved
 loop-v-preserved c = let h = c.loop-v.invariant.0 in let l = c.loop-v-test.true in let b = c.meets_at-b in let w = c.answer.ensures in (

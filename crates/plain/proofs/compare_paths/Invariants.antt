@@ -1,5 +1,4 @@
 -- `plain::compare_paths` meets its contract.
-use Prim.Native.Nat.{◌-◌}
 use mathlib.Core.Path.{◌≡◌}
 use Rattle.xpath.specs.Syntax.{Op}
 use Rattle.rule_parts.specs.Kinds.{operator}
@@ -10,6 +9,3 @@ use Rattle.plain.proofs.compare_paths.Given as goal
 
 abbrev pub invariant-loop-v : goal.invariant-loop-v
 invariant-loop-v l = Held l.n l.initial.p l.p × ((q : Op) → l.o ≡ operator q → Answers l.n (Meets l.m l.n l.initial.p q) l.v l.p)
-
-abbrev pub decreases-loop-v : goal.decreases-loop-v
-decreases-loop-v l = l.n - l.v

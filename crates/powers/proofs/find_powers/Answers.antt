@@ -14,12 +14,6 @@ pass-requires c =
     let wide : (c.loop-k.k + 1) * c.args.n ≤ c.args.b * c.args.n = mul-le-mul_right c.args.n (omega arith) in
     omega arith
 
-pub overflow_add-k : goal.overflow_add-k
-overflow_add-k c = omega arith
-
-pub loop-k-smaller : goal.loop-k-smaller
-loop-k-smaller c = omega arith
-
 pub loop-k-preserved : goal.loop-k-preserved
 loop-k-preserved c = (omega arith, rising_step c.loop-k.invariant.1 c.pass.ensures)
 

@@ -5,6 +5,3 @@ use Rattle.powers.proofs.find_powers.Given as goal
 
 abbrev pub invariant-loop-k : goal.invariant-loop-k
 invariant-loop-k l = (l.k ≤ l.b) × Rising l.m l.n l.k l.initial.p l.p
-
-abbrev pub decreases-loop-k : goal.decreases-loop-k
-decreases-loop-k l = l.b - l.k

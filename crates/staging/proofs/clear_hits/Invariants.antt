@@ -6,6 +6,3 @@ use Rattle.staging.proofs.clear_hits.Given as goal
 
 abbrev pub invariant-loop-v : goal.invariant-loop-v
 invariant-loop-v l = Drawn (λ k x. x ≡ 0) l.hits l.n l.v l.initial.t l.t
-
-abbrev pub decreases-loop-v : goal.decreases-loop-v
-decreases-loop-v l = l.n - l.v

@@ -29,12 +29,6 @@ pub bounds-t-to : goal.bounds-t-to
 bounds-t-to c = let e = c.loop-k.invariant.frame.long in omega arith
 
 -- ── One turn of the loop ──
-pub overflow_add-k : goal.overflow_add-k
-overflow_add-k c = omega arith
-
-pub loop-k-smaller : goal.loop-k-smaller
-loop-k-smaller c = omega arith
-
 pub loop-k-preserved : goal.loop-k-preserved
 loop-k-preserved c = let x = c.args in let l = c.loop-k in drawn_step _ l.invariant (omega arith) c.loop-k-test.true (l.invariant.frame.front (x.from + l.k) (omega arith))
 

@@ -7,6 +7,3 @@ use Rattle.staging.proofs.copy.Given as goal
 -- ── The loop's invariant ──
 abbrev pub invariant-loop-k : goal.invariant-loop-k
 invariant-loop-k l = Drawn (Taken l.initial.t l.from) l.to l.size l.k l.initial.t l.t
-
-abbrev pub decreases-loop-k : goal.decreases-loop-k
-decreases-loop-k l = l.size - l.k

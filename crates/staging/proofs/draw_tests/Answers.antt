@@ -22,12 +22,6 @@ offset_bounds-t-column c = omega arith
 pub bounds-t-column : goal.bounds-t-column
 bounds-t-column c = let e = c.loop-v.invariant.frame.long in omega arith
 
-pub overflow_add-v : goal.overflow_add-v
-overflow_add-v c = omega arith
-
-pub loop-v-smaller : goal.loop-v-smaller
-loop-v-smaller c = omega arith
-
 pub loop-v-preserved : goal.loop-v-preserved
 loop-v-preserved c =
     let x = c.args in let l = c.loop-v in let r = c.loop-v-test.true in let w = c.tests_at-w in

@@ -6,6 +6,3 @@ use Rattle.staging.proofs.draw_tests.Given as goal
 
 abbrev pub invariant-loop-v : goal.invariant-loop-v
 invariant-loop-v l = Drawn (Gathers l.initial.t l.n l.brackets l.numbers) l.column l.n l.v l.initial.t l.t
-
-abbrev pub decreases-loop-v : goal.decreases-loop-v
-decreases-loop-v l = l.n - l.v

@@ -22,12 +22,6 @@ offset_bounds-t-hits c = omega arith
 pub bounds-t-hits : goal.bounds-t-hits
 bounds-t-hits c = let e = c.loop-v.invariant.frame.long in omega arith
 
-pub overflow_add-v : goal.overflow_add-v
-overflow_add-v c = omega arith
-
-pub loop-v-smaller : goal.loop-v-smaller
-loop-v-smaller c = omega arith
-
 pub loop-v-preserved : goal.loop-v-preserved
 loop-v-preserved c =
     let d = c.loop-v.invariant in let l = c.loop-v-test.true in let h = c.hit-x in

@@ -26,12 +26,6 @@ pub insert-w-requires : goal.insert-w-requires
 insert-w-requires c = omega arith
 
 -- ── One turn of the loop ──
-pub overflow_add-j : goal.overflow_add-j
-overflow_add-j c = omega arith
-
-pub loop-j-smaller : goal.loop-j-smaller
-loop-j-smaller c = omega arith
-
 -- ── What is returned ──
 pub returns : goal.returns
 returns c = λ j h. c.loop-j.invariant.1.inside j (omega arith)

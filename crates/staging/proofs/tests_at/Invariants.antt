@@ -6,6 +6,3 @@ use Rattle.staging.proofs.tests_at.Given as goal
 -- ── The loop's invariant ──
 abbrev pub invariant-loop-j : goal.invariant-loop-j
 invariant-loop-j l = (l.j ≤ 16) × Gathered (stays l.t l.n l.brackets l.numbers l.v) l.j l.w
-
-abbrev pub decreases-loop-j : goal.decreases-loop-j
-decreases-loop-j l = 16 - l.j

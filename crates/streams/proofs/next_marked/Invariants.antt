@@ -6,6 +6,3 @@ use Rattle.streams.proofs.next_marked.Given as goal
 
 abbrev pub invariant-loop-node : goal.invariant-loop-node
 invariant-loop-node l = Passed l.marks l.from l.node
-
-abbrev pub decreases-loop-node : goal.decreases-loop-node
-decreases-loop-node l = length l.marks - l.node

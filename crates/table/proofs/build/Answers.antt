@@ -1,5 +1,4 @@
 -- `table::build` meets its contract.
-use mathlib.Core.Path.{◌∙◌}
 use native.Mathlib.Omega.{arith}
 use native.Mathlib.Numerals.{add-one}
 use Rattle.layout.specs.Words.{NONE}
@@ -7,17 +6,8 @@ use Rattle.table.proofs.Cells.{entered_kept}
 use Rattle.table.proofs.Building.{first_stands, building_root, stands, step_asks, building_step, building_all}
 use Rattle.table.proofs.build.Goals as goal
 
-pub first_entry-first-requires : goal.first_entry-first-requires
-first_entry-first-requires c = let (ns, a, size, room) = c.requires in (ns, a)
-
 pub read_entry-root-requires : goal.read_entry-root-requires
 read_entry-root-requires c = let (ns, a, size, room) = c.requires in (ns, 0, first_stands a (c.first_entry-first.ensures ns a))
-
-pub enter-requires : goal.enter-requires
-enter-requires c =
-    let (ns, a, size, room) = c.requires in
-    let some = a.legal.some in let few = a.legal.few in let short = a.short in let i = (c.first_entry-first.ensures ns a).inside in
-    omega arith
 
 pub loop-v-init : goal.loop-v-init
 loop-v-init c = let (ns, a, size, room) = c.requires in building_root a (c.first_entry-first.ensures ns a) size room c.read_entry-root.ensures c.enter.ensures
@@ -28,17 +18,8 @@ read_entry-e-requires c = let h = c.loop-v.invariant in (h.nodes, c.loop-v.v, st
 pub step-requires : goal.step-requires
 step-requires c = step_asks c.loop-v.invariant c.loop-v-test.true c.read_entry-e.ensures
 
-pub overflow_add-v : goal.overflow_add-v
-overflow_add-v c = omega arith
-
-pub loop-v-smaller : goal.loop-v-smaller
-loop-v-smaller c = omega arith
-
 pub loop-v-preserved : goal.loop-v-preserved
 loop-v-preserved c = rw add-one (building_step c.loop-v.invariant c.loop-v-test.true c.read_entry-e.ensures c.step.ensures)
-
-pub shape_of-t : goal.shape_of-t
-shape_of-t c = c.loop-v.invariant.kept.long ∙ c.enter.ensures.long
 
 pub returns : goal.returns
 returns c =

@@ -7,11 +7,6 @@ use borrow.Author.Tests.{lt-ltb, le-ltb}
 use Rattle.table.proofs.Cells.{hung_then}
 use Rattle.table.proofs.step.Goals as goal
 
-pub put-requires-else-before-depth : goal.put-requires-else-before-depth
-put-requires-else-before-depth c =
-    let l = c.requires.6 c.if-before-depth.false in let e = c.get-u.ensures.0 in
-    omega arith
-
 pub returns-then-before-depth : goal.returns-then-before-depth
 returns-then-before-depth c =
     let x = c.args in

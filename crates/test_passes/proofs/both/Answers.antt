@@ -1,8 +1,11 @@
 -- `test_passes::both` meets its contract.
-use mathlib.Core.Path.{◌∙◌}
+use mathlib.Core.Path.{◌≡◌, ◌∙◌}
+use mathlib.Core.Bool.{◌&&◌}
+use Rattle.std.proofs.Common.{rules}
+use Rattle.std.proofs.lemmas.Bool.Decides.{Decides-and}
 use native.Mathlib.Omega.{arith}
 use native.Mathlib.Numerals.{add-one}
-use Rattle.test_passes.proofs.Told.{told_and}
+use Rattle.test_passes.proofs.Told.{told}
 use Rattle.test_bits.proofs.Settling.{settling_none, settling_here, settling_step, settling_all}
 use Rattle.test_passes.proofs.both.Goals as goal
 
@@ -18,19 +21,14 @@ holds-y-requires c = let l = c.loop-v.invariant.within.long in omega arith
 pub note-requires : goal.note-requires
 note-requires c = let l = c.loop-v.invariant.within.long in omega arith
 
-pub overflow_add-v : goal.overflow_add-v
-overflow_add-v c = omega arith
-
-pub loop-v-smaller : goal.loop-v-smaller
-loop-v-smaller c = omega arith
-
 pub loop-v-preserved : goal.loop-v-preserved
 loop-v-preserved c =
     let g = c.loop-v.invariant in let l = c.loop-v-test.true in
+    let e : c.if-x.note ≡ c.holds-x.result && c.holds-y.result = search rules in
     rw add-one (settling_step c.requires.0 l g
-    (told_and
-    (c.holds-x.ensures ∙ settling_here g c.args.a c.requires.1 l)
-    (c.holds-y.ensures ∙ settling_here g c.args.b c.requires.2 l))
+    (rw e (Decides-and _ _
+    (told (c.holds-x.ensures ∙ settling_here g c.args.a c.requires.1 l))
+    (told (c.holds-y.ensures ∙ settling_here g c.args.b c.requires.2 l))))
     c.note.ensures)
 
 pub shape_of-t : goal.shape_of-t

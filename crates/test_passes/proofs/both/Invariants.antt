@@ -1,5 +1,4 @@
 -- `test_passes::both` meets its contract.
-use Prim.Native.Nat.{◌-◌}
 use mathlib.Core.Path.{◌≡◌}
 use mathlib.Core.Bool.{true}
 use Rattle.test_bits.specs.Columns.{held}
@@ -8,6 +7,3 @@ use Rattle.test_passes.proofs.both.Given as goal
 
 abbrev pub invariant-loop-v : goal.invariant-loop-v
 invariant-loop-v l = Settling l.n l.k (λ u. (held l.initial.t l.n l.a u ≡ true) × (held l.initial.t l.n l.b u ≡ true)) l.v l.initial.t l.t
-
-abbrev pub decreases-loop-v : goal.decreases-loop-v
-decreases-loop-v l = l.n - l.v

@@ -1,8 +1,9 @@
 -- `test_passes::deny` meets its contract.
 use mathlib.Core.Path.{◌∙◌}
 use native.Mathlib.Omega.{arith}
+use Rattle.std.proofs.lemmas.Bool.Decides.{Decides-not}
 use native.Mathlib.Numerals.{add-one}
-use Rattle.test_passes.proofs.Told.{told_not}
+use Rattle.test_passes.proofs.Told.{told}
 use Rattle.test_bits.proofs.Settling.{settling_none, settling_here, settling_step, settling_all}
 use Rattle.test_passes.proofs.deny.Goals as goal
 
@@ -15,17 +16,11 @@ holds-x-requires c = let l = c.loop-v.invariant.within.long in omega arith
 pub note-requires : goal.note-requires
 note-requires c = let l = c.loop-v.invariant.within.long in omega arith
 
-pub overflow_add-v : goal.overflow_add-v
-overflow_add-v c = omega arith
-
-pub loop-v-smaller : goal.loop-v-smaller
-loop-v-smaller c = omega arith
-
 pub loop-v-preserved : goal.loop-v-preserved
 loop-v-preserved c =
     let g = c.loop-v.invariant in let l = c.loop-v-test.true in
     rw add-one (settling_step c.requires.0 l g
-    (told_not (c.holds-x.ensures ∙ settling_here g c.args.a c.requires.1 l))
+    (Decides-not _ (told (c.holds-x.ensures ∙ settling_here g c.args.a c.requires.1 l)))
     c.note.ensures)
 
 pub shape_of-t : goal.shape_of-t

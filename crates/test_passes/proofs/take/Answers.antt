@@ -25,12 +25,6 @@ bounds-t-n c = let l = c.loop-v.invariant.within.long in omega arith
 pub note-requires : goal.note-requires
 note-requires c = let l = c.loop-v.invariant.within.long in omega arith
 
-pub overflow_add-v : goal.overflow_add-v
-overflow_add-v c = omega arith
-
-pub loop-v-smaller : goal.loop-v-smaller
-loop-v-smaller c = omega arith
-
 pub loop-v-preserved : goal.loop-v-preserved
 loop-v-preserved c =
     let g = c.loop-v.invariant in let l = c.loop-v-test.true in

@@ -1,5 +1,4 @@
 -- `test_passes::take` meets its contract.
-use Prim.Native.Nat.{◌-◌}
 use mathlib.Core.Path.{◌≡◌}
 use Rattle.layout.specs.Table.{COLUMNS}
 use Rattle.layout.specs.Words.{word}
@@ -8,6 +7,3 @@ use Rattle.test_passes.proofs.take.Given as goal
 
 abbrev pub invariant-loop-v : goal.invariant-loop-v
 invariant-loop-v l = Settling l.n l.k (λ u. word l.initial.t l.n COLUMNS u ≡ 1) l.v l.initial.t l.t
-
-abbrev pub decreases-loop-v : goal.decreases-loop-v
-decreases-loop-v l = l.n - l.v

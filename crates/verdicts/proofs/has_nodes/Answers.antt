@@ -16,12 +16,6 @@ overflow_cast-values c = omega (arith, c.type_inv.values c.loop-i.i)
 pub returns-then-values-i : goal.returns-then-values-i
 returns-then-values-i c = (_, occurs_at 0 c.args.values.now c.loop-i.i c.loop-i-test.true, c.if-values-i.true)
 
-pub overflow_add-i : goal.overflow_add-i
-overflow_add-i c = omega arith
-
-pub loop-i-smaller : goal.loop-i-smaller
-loop-i-smaller c = omega arith
-
 pub loop-i-preserved : goal.loop-i-preserved
 loop-i-preserved c =
     (omega arith, behind_more c.args.nodes c.args.values.now c.loop-i.i c.loop-i-test.true (omega arith) c.loop-i.invariant.1)

@@ -17,12 +17,6 @@ put_key-requires c =
     let p = c.requires in let g = c.loop-v in
     (c.loop-v-test.true, room_within g.invariant.within p.tabled.room, key_fits g.v p c.node_key-k.ensures)
 
-pub overflow_add-v : goal.overflow_add-v
-overflow_add-v c = let l = c.loop-v-test.true in omega arith
-
-pub loop-v-smaller : goal.loop-v-smaller
-loop-v-smaller c = let l = c.loop-v-test.true in omega arith
-
 pub loop-v-preserved : goal.loop-v-preserved
 loop-v-preserved c = let k = c.node_key-k in rw add-one (keyed_step k.result c.loop-v.invariant c.loop-v-test.true k.ensures c.put_key.ensures)
 

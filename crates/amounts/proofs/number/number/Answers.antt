@@ -28,12 +28,6 @@ put-requires c =
     let q = numbering_small g in let z = c.rise-r.ensures.0 in let few = p.2 in
     (omega arith, numbering_below g p.3 l c.get-v.ensures.0, room_within (numbering_within g) p.0, omega arith)
 
-pub overflow_add-i : goal.overflow_add-i
-overflow_add-i c = let l = c.loop-i-test.true in omega arith
-
-pub loop-i-smaller : goal.loop-i-smaller
-loop-i-smaller c = let l = c.loop-i-test.true in omega arith
-
 pub loop-i-preserved : goal.loop-i-preserved
 loop-i-preserved c =
     let k = c.rise-r in let v = c.get-v in

@@ -14,12 +14,6 @@ shown-r-requires c = (room_within c.loop-v.invariant.within c.requires, c.loop-v
 pub put-requires : goal.put-requires
 put-requires c = (omega arith, c.loop-v-test.true, room_within c.loop-v.invariant.within c.requires, c.shown-r.ensures.1)
 
-pub overflow_add-v : goal.overflow_add-v
-overflow_add-v c = let l = c.loop-v-test.true in omega arith
-
-pub loop-v-smaller : goal.loop-v-smaller
-loop-v-smaller c = let l = c.loop-v-test.true in omega arith
-
 pub loop-v-preserved : goal.loop-v-preserved
 loop-v-preserved c = let r = c.shown-r in rw add-one (struck_step r.result c.loop-v.invariant c.loop-v-test.true r.ensures.0 c.put.ensures)
 

@@ -6,6 +6,3 @@ use Rattle.backward.proofs.constants.answer_seen.Given as goal
 
 abbrev pub invariant-loop-v : goal.invariant-loop-v
 invariant-loop-v l = Telling l.n (λ u. Seen l.initial.p l.n u 0) l.v l.initial.p l.p
-
-abbrev pub decreases-loop-v : goal.decreases-loop-v
-decreases-loop-v l = l.n - l.v

@@ -9,12 +9,6 @@ loop-w-init c = hitting_none c.requires.0 c.requires.1
 pub spread_hit-len-requires : goal.spread_hit-len-requires
 spread_hit-len-requires c = let h = c.loop-w.invariant in (h.added.work, h.linked, h.closed, c.loop-w-test.true)
 
-pub overflow_add-w : goal.overflow_add-w
-overflow_add-w c = let l = c.loop-w-test.true in omega arith
-
-pub loop-w-smaller : goal.loop-w-smaller
-loop-w-smaller c = let l = c.loop-w-test.true in omega arith
-
 pub loop-w-preserved : goal.loop-w-preserved
 loop-w-preserved c = hitting_step c.loop-w.invariant c.loop-w-test.true c.spread_hit-len.ensures
 

@@ -5,6 +5,3 @@ use Rattle.backward.proofs.constants.spread_hits.Given as goal
 
 abbrev pub invariant-loop-w : goal.invariant-loop-w
 invariant-loop-w l = Hitting l.m l.n l.w l.len l.initial.p l.p
-
-abbrev pub decreases-loop-w : goal.decreases-loop-w
-decreases-loop-w l = l.n - l.w

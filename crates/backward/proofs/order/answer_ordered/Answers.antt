@@ -26,12 +26,6 @@ pub answer-requires : goal.answer-requires
 answer-requires c =
     (telling_space c.loop-v.invariant c.requires, c.loop-v-test.true)
 
-pub overflow_add-v : goal.overflow_add-v
-overflow_add-v c = let l = c.loop-v-test.true in omega arith
-
-pub loop-v-smaller : goal.loop-v-smaller
-loop-v-smaller c = let l = c.loop-v-test.true in omega arith
-
 pub loop-v-preserved : goal.loop-v-preserved
 loop-v-preserved c =
     let x = c.args in let v = c.loop-v.v in

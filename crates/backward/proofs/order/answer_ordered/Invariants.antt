@@ -7,6 +7,3 @@ use Rattle.backward.proofs.order.answer_ordered.Given as goal
 
 abbrev pub invariant-loop-v : goal.invariant-loop-v
 invariant-loop-v l = Telling l.n (λ u. Across l.o (range_of l.initial.p l.n 0 u) (range_of l.initial.p l.n 1 u)) l.v l.initial.p l.p
-
-abbrev pub decreases-loop-v : goal.decreases-loop-v
-decreases-loop-v l = l.n - l.v

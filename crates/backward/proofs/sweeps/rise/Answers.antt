@@ -12,12 +12,6 @@ seed_rank-len-requires c =
     let s = c.loop-r.invariant.1 in let x = c.requires in let few = s.added.work.space.few in let l = c.loop-r-test.true in
     (s.added.work, s.linked, s.closed, spared_buckets LEAST (omega arith) s.added.spared x.2, l, x.3, (omega arith, omega arith), omega arith)
 
-pub overflow_add-r : goal.overflow_add-r
-overflow_add-r c = let l = c.loop-r-test.true in omega arith
-
-pub loop-r-smaller : goal.loop-r-smaller
-loop-r-smaller c = let l = c.loop-r-test.true in omega arith
-
 pub loop-r-preserved : goal.loop-r-preserved
 loop-r-preserved c =
     let x = c.requires in let l = c.loop-r-test.true in

@@ -5,6 +5,3 @@ use Rattle.backward.proofs.sweeps.rise.Given as goal
 
 abbrev pub invariant-loop-r : goal.invariant-loop-r
 invariant-loop-r l = (l.r ≤ l.n) × Rising l.m l.n l.r l.len l.initial.p l.p
-
-abbrev pub decreases-loop-r : goal.decreases-loop-r
-decreases-loop-r l = l.n - l.r

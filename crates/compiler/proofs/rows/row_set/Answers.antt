@@ -4,33 +4,18 @@ use Rattle.rule_spec.proofs.Bytes.{clash}
 use native.Mathlib.Omega.{arith}
 use Rattle.compiler.proofs.Gathering.{gathered_none, gathered_in, gathered_out, gathered_all}
 use Rattle.compiler.proofs.rows.row_set.Goals as goal
-use Rattle.compiler.proofs.rows.row_set.Goals.{then-row-j, else-row-j}
+use Rattle.compiler.proofs.rows.row_set.Goals.{then-follows, else-follows}
 
 pub loop-j-init : goal.loop-j-init
 loop-j-init c = (omega arith, gathered_none _ _ (λ j l. absurd (let z : ⊥ = omega arith in z)))
-
-pub bounds-row-j : goal.bounds-row-j
-bounds-row-j c = omega arith
-
-pub overflow_cast-j : goal.overflow_cast-j
-overflow_cast-j c = omega arith
-
-pub insert-w-requires : goal.insert-w-requires
-insert-w-requires c = omega arith
-
-pub overflow_add-j : goal.overflow_add-j
-overflow_add-j c = omega arith
-
-pub loop-j-smaller : goal.loop-j-smaller
-loop-j-smaller c = omega arith
 
 pub loop-j-preserved : goal.loop-j-preserved
 loop-j-preserved c =
     let g = c.loop-j.invariant.1 in (
       omega arith,
-      elim c.if-row-j.branch [
-        | then-row-j z ↦ gathered_in _ _ g _ z.insert-w.ensures z.w-is z.if-row-j.true
-        | else-row-j z ↦ gathered_out _ _ g z.w-is (λ e. clash (sym z.if-row-j.false ∙ e))
+      elim c.if-follows.branch [
+        | then-follows z ↦ gathered_in _ _ g _ z.insert-w.ensures z.w-is z.if-follows.true
+        | else-follows z ↦ gathered_out _ _ g z.w-is (λ e. clash (sym z.if-follows.false ∙ e))
       ],
     )
 

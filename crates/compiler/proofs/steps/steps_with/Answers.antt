@@ -7,27 +7,6 @@ use Rattle.compiler.proofs.steps.steps_with.Goals.{then-s-places, else-s-places}
 pub loop-i-init : goal.loop-i-init
 loop-i-init c = (omega arith, omega arith, gathered_none _ _ (λ j l b. let p = b.0 in absurd (let z : ⊥ = omega arith in z)))
 
-pub offset_bounds-places-i : goal.offset_bounds-places-i
-offset_bounds-places-i c = let n = c.requires.few in omega arith
-
-pub bounds-places-i : goal.bounds-places-i
-bounds-places-i c = let n = c.requires.few in omega arith
-
-pub bounds-s-places : goal.bounds-s-places
-bounds-s-places c = let i = c.loop-i.invariant in c.requires.within _ i.0 (omega arith)
-
-pub overflow_cast-i : goal.overflow_cast-i
-overflow_cast-i c = let n = c.requires.few in omega arith
-
-pub insert-w-requires : goal.insert-w-requires
-insert-w-requires c = let n = c.requires.few in omega arith
-
-pub overflow_add-i : goal.overflow_add-i
-overflow_add-i c = let n = c.requires.few in omega arith
-
-pub loop-i-smaller : goal.loop-i-smaller
-loop-i-smaller c = omega arith
-
 pub loop-i-preserved : goal.loop-i-preserved
 loop-i-preserved c =
     let (p, l, g) = c.loop-i.invariant in (

@@ -19,12 +19,6 @@ put-requires c = let r = (let space-here : Space c.args.n c.loop-h.p = forgettin
 pub put-requires-in-loop-h : goal.put-requires-in-loop-h
 put-requires-in-loop-h c = let r = (let space-here : Space c.args.n c.loop-h.p = forgetting_space c.requires c.loop-h.invariant in space-here).room in let e = c.put.ensures.long in (omega arith, (let inside-here : c.node_at-u.result < c.args.n = subst (λ u. u < c.args.n) (sym c.node_at-u.ensures) (forgetting_inside c.requires c.loop-h.invariant c.loop-h-test.true) in inside-here), omega arith, omega arith)
 
-pub overflow_add-h : goal.overflow_add-h
-overflow_add-h c = let l = c.loop-h-test.true in omega arith
-
-pub loop-h-smaller : goal.loop-h-smaller
-loop-h-smaller c = let l = c.loop-h-test.true in omega arith
-
 pub loop-h-preserved : goal.loop-h-preserved
 loop-h-preserved c =
     forgetting_step c.loop-h.invariant c.node_at-u.ensures (let inside-here : c.node_at-u.result < c.args.n = subst (λ u. u < c.args.n) (sym c.node_at-u.ensures) (forgetting_inside c.requires c.loop-h.invariant c.loop-h-test.true) in inside-here) c.put.ensures c.put-in-loop-h.ensures

@@ -5,6 +5,3 @@ use Rattle.counting.proofs.forget.forget.Given as goal
 
 abbrev pub invariant-loop-h : goal.invariant-loop-h
 invariant-loop-h l = Forgetting l.n l.h l.initial.p l.p
-
-abbrev pub decreases-loop-h : goal.decreases-loop-h
-decreases-loop-h l = l.len - l.h

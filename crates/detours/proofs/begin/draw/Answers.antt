@@ -25,12 +25,6 @@ offset_bounds-p-at c = omega arith
 pub bounds-p-at : goal.bounds-p-at
 bounds-p-at c = omega arith
 
-pub overflow_add-i : goal.overflow_add-i
-overflow_add-i c = omega arith
-
-pub loop-i-smaller : goal.loop-i-smaller
-loop-i-smaller c = omega arith
-
 pub loop-i-preserved : goal.loop-i-preserved
 loop-i-preserved c = (omega arith, drawing_step c.loop-i.invariant.1 c.meet.result (omega arith) (λ j h. and_iff _ _ _ (c.meet.ensures j)))
 

@@ -6,6 +6,3 @@ use Rattle.detours.proofs.begin.draw.Given as goal
 
 abbrev pub invariant-loop-i : goal.invariant-loop-i
 invariant-loop-i l = (l.i ≤ 16) × Drawing (Steps l.rows l.w) l.at l.i l.initial.p l.p
-
-abbrev pub decreases-loop-i : goal.decreases-loop-i
-decreases-loop-i l = 16 - l.i

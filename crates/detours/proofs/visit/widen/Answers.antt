@@ -19,12 +19,6 @@ add-r-requires c = omega arith
 pub overflow_add-r : goal.overflow_add-r
 overflow_add-r c = omega arith
 
-pub overflow_add-i : goal.overflow_add-i
-overflow_add-i c = omega arith
-
-pub loop-i-smaller : goal.loop-i-smaller
-loop-i-smaller c = omega arith
-
 pub loop-i-preserved : goal.loop-i-preserved
 loop-i-preserved c =
     let l = c.loop-i.invariant.1 in

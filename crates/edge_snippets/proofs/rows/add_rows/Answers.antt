@@ -31,12 +31,6 @@ offset_bounds-p-at-in-loop-i c = omega arith
 pub bounds-p-at-in-loop-i : goal.bounds-p-at-in-loop-i
 bounds-p-at-in-loop-i c = let l = c.loop-i.invariant.1.frame.long in omega arith
 
-pub overflow_add-i : goal.overflow_add-i
-overflow_add-i c = omega arith
-
-pub loop-i-smaller : goal.loop-i-smaller
-loop-i-smaller c = omega arith
-
 pub loop-i-preserved : goal.loop-i-preserved
 loop-i-preserved c = let x = c.args in let l = c.loop-i.invariant in (omega arith, crossed_step x.rows x.set x.first c.widened.result l.1 (omega arith) c.widened.ensures)
 

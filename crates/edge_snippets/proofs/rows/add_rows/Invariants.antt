@@ -6,6 +6,3 @@ use Rattle.edge_snippets.proofs.rows.add_rows.Given as goal
 
 abbrev pub invariant-loop-i : goal.invariant-loop-i
 invariant-loop-i l = (l.i ≤ 16) × Drawing (Crossed l.initial.p l.at l.rows l.set l.first) l.at l.i l.initial.p l.p
-
-abbrev pub decreases-loop-i : goal.decreases-loop-i
-decreases-loop-i l = 16 - l.i

@@ -5,6 +5,3 @@ use Rattle.equalities.proofs.clear.clear_rows.Given as goal
 
 abbrev pub invariant-loop-i : goal.invariant-loop-i
 invariant-loop-i l = (l.i ≤ 16) × Zeroed l.at l.i l.initial.p l.p
-
-abbrev pub decreases-loop-i : goal.decreases-loop-i
-decreases-loop-i l = 16 - l.i

@@ -27,12 +27,6 @@ overflow_add-n-in-loop-i c = omega arith
 pub clear_rows-requires : goal.clear_rows-requires
 clear_rows-requires c = omega arith
 
-pub overflow_add-i : goal.overflow_add-i
-overflow_add-i c = omega arith
-
-pub loop-i-smaller : goal.loop-i-smaller
-loop-i-smaller c = omega arith
-
 pub loop-i-preserved : goal.loop-i-preserved
 loop-i-preserved c = (omega arith, cleared_step c.loop-i.invariant.1 c.clear_rows.ensures)
 

@@ -28,14 +28,6 @@ put-requires c =
     let few = c.requires.2 in let l = c.loop-v-test.true in let k = (let size-here : c.get-size.result ≤ c.loop-v.v = sized_few c.loop-v.invariant (let rank-here : c.get-r.result < c.args.n = sized_rank c.requires.0 c.fill.ensures c.loop-v.invariant c.loop-v-test.true c.get-r.ensures.0 in rank-here) c.get-size.ensures.0 in size-here) in
     (omega arith, (let rank-here : c.get-r.result < c.args.n = sized_rank c.requires.0 c.fill.ensures c.loop-v.invariant c.loop-v-test.true c.get-r.ensures.0 in rank-here), (let room-here : Room c.args.n c.loop-v.p = room_within c.loop-v.invariant.within (room_within c.fill.ensures.within c.requires.1) in room-here), omega arith)
 
-pub overflow_add-v : goal.overflow_add-v
-overflow_add-v c =
-    let few = c.requires.2 in let l = c.loop-v-test.true in
-    omega arith
-
-pub loop-v-smaller : goal.loop-v-smaller
-loop-v-smaller c = let l = c.loop-v-test.true in omega arith
-
 pub loop-v-preserved : goal.loop-v-preserved
 loop-v-preserved c =
     sized_step c.loop-v.invariant c.loop-v-test.true (let rank-here : c.get-r.result < c.args.n = sized_rank c.requires.0 c.fill.ensures c.loop-v.invariant c.loop-v-test.true c.get-r.ensures.0 in rank-here) c.get-r.ensures.0 c.get-size.ensures.0 c.put.ensures

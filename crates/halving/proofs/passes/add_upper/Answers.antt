@@ -43,12 +43,6 @@ pub bounds-p-to-in-loop-i : goal.bounds-p-to-in-loop-i
 bounds-p-to-in-loop-i c = omega arith
 
 -- ── One turn of the loop ──
-pub overflow_add-i : goal.overflow_add-i
-overflow_add-i c = omega arith
-
-pub loop-i-smaller : goal.loop-i-smaller
-loop-i-smaller c = omega arith
-
 pub loop-i-preserved : goal.loop-i-preserved
 loop-i-preserved c =
     let n = c.requires in

@@ -11,12 +11,6 @@ loop-y-init c = (omega arith, handed_none _ _ _)
 pub hand_down-requires : goal.hand_down-requires
 hand_down-requires c = (omega arith, omega (arith, c.loop-y.invariant.1.same.long))
 
-pub overflow_add-y : goal.overflow_add-y
-overflow_add-y c = omega arith
-
-pub loop-y-smaller : goal.loop-y-smaller
-loop-y-smaller c = omega arith
-
 pub loop-y-preserved : goal.loop-y-preserved
 loop-y-preserved c = (omega arith, handed_step _ _ _ c.loop-y.invariant.1 c.hand_down.ensures)
 

@@ -5,6 +5,3 @@ use Rattle.halving.proofs.passes.pass.Given as goal
 
 abbrev pub invariant-loop-y : goal.invariant-loop-y
 invariant-loop-y l = (l.y ≤ l.n) × Grown l.n l.k (Handed l.n l.k l.initial.p l.y) l.initial.p l.p
-
-abbrev pub decreases-loop-y : goal.decreases-loop-y
-decreases-loop-y l = l.n - l.y

@@ -21,12 +21,6 @@ bounds-s-at c = omega arith
 pub fits-requires : goal.fits-requires
 fits-requires c = tt
 
-pub overflow_add-i : goal.overflow_add-i
-overflow_add-i c = omega arith
-
-pub loop-i-smaller : goal.loop-i-smaller
-loop-i-smaller c = omega arith
-
 pub loop-i-preserved : goal.loop-i-preserved
 loop-i-preserved c =
     let a = c.args in

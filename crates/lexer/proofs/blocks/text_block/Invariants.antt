@@ -8,6 +8,3 @@ use Rattle.lexer.proofs.blocks.text_block.Given as goal
 
 abbrev pub invariant-loop-i : goal.invariant-loop-i
 invariant-loop-i l = (l.i ≤ 16) × (l.all ≡ true → AllIn Text l.s l.at (l.at + l.i))
-
-abbrev pub decreases-loop-i : goal.decreases-loop-i
-decreases-loop-i l = 16 - l.i

@@ -19,12 +19,6 @@ overflow_add-r c =
     let t = total_le c.args.n c.descend-r.new.p in
     omega (arith, c.loop-v.invariant.2.grown.count, c.descend-r.ensures.grown.count)
 
-pub overflow_add-v : goal.overflow_add-v
-overflow_add-v c = omega arith
-
-pub loop-v-smaller : goal.loop-v-smaller
-loop-v-smaller c = omega arith
-
 pub loop-v-preserved : goal.loop-v-preserved
 loop-v-preserved c =
     let a = c.args in

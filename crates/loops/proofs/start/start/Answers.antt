@@ -10,12 +10,6 @@ loop-v-init c = (omega arith, started_none _ _ _)
 pub begin-requires : goal.begin-requires
 begin-requires c = let s = c.loop-v.invariant.1 in (ready_kept s.frame c.requires, omega arith)
 
-pub overflow_add-v : goal.overflow_add-v
-overflow_add-v c = omega arith
-
-pub loop-v-smaller : goal.loop-v-smaller
-loop-v-smaller c = omega arith
-
 pub loop-v-preserved : goal.loop-v-preserved
 loop-v-preserved c = (omega arith, started_step (omega arith) c.loop-v.invariant.1 c.begin.ensures)
 

@@ -11,12 +11,6 @@ loop-y-init c = (omega arith, grown_none _ _, λ y h l. absurd (let f : ⊥ = om
 pub seed_edge-requires : goal.seed_edge-requires
 seed_edge-requires c = (ready_kept c.loop-y.invariant.1.framed c.requires, omega arith, omega arith)
 
-pub overflow_add-y : goal.overflow_add-y
-overflow_add-y c = omega arith
-
-pub loop-y-smaller : goal.loop-y-smaller
-loop-y-smaller c = omega arith
-
 pub loop-y-preserved : goal.loop-y-preserved
 loop-y-preserved c = (omega arith, grown_then c.loop-y.invariant.1 c.seed_edge.ensures.0, met_more (ready_kept c.loop-y.invariant.1.framed c.requires) (omega arith) c.seed_edge.ensures.0 c.loop-y.invariant.2 c.seed_edge.ensures.1)
 

@@ -5,6 +5,3 @@ use Rattle.pairs.proofs.seeds.seed.Given as goal
 
 abbrev pub invariant-loop-y : goal.invariant-loop-y
 invariant-loop-y l = (0 < l.y) × Grown l.n l.initial.p l.p × Everywhere (Met l.n l.p) l.y
-
-abbrev pub decreases-loop-y : goal.decreases-loop-y
-decreases-loop-y l = l.n - l.y

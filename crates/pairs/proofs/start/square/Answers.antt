@@ -18,12 +18,6 @@ offset_bounds-p-at c = omega arith
 pub bounds-p-at : goal.bounds-p-at
 bounds-p-at c = omega arith
 
-pub overflow_add-a : goal.overflow_add-a
-overflow_add-a c = omega arith
-
-pub loop-a-smaller : goal.loop-a-smaller
-loop-a-smaller c = omega arith
-
 pub loop-a-preserved : goal.loop-a-preserved
 loop-a-preserved c = (omega arith, drawing_step c.loop-a.invariant.1 c.if_has.result (omega arith) (λ b h. c.if_has.ensures b))
 

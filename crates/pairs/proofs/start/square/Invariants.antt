@@ -6,6 +6,3 @@ use Rattle.pairs.proofs.start.square.Given as goal
 
 abbrev pub invariant-loop-a : goal.invariant-loop-a
 invariant-loop-a l = (l.a ≤ 16) × Drawing (Square l.w) l.at l.a l.initial.p l.p
-
-abbrev pub decreases-loop-a : goal.decreases-loop-a
-decreases-loop-a l = 16 - l.a

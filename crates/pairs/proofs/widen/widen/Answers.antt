@@ -19,12 +19,6 @@ add-r-requires c = omega arith
 pub overflow_add-r : goal.overflow_add-r
 overflow_add-r c = omega arith
 
-pub overflow_add-a : goal.overflow_add-a
-overflow_add-a c = omega arith
-
-pub loop-a-smaller : goal.loop-a-smaller
-loop-a-smaller c = omega arith
-
 pub loop-a-preserved : goal.loop-a-preserved
 loop-a-preserved c = (omega arith, widen_step c.args.back c.requires.0 c.requires.1 c.requires.2 (omega arith) c.row-w.ensures c.loop-a.invariant.1 c.add-r.ensures)
 

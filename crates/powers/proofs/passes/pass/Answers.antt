@@ -13,12 +13,6 @@ power-requires c =
     let l = c.loop-y.invariant.1.frame.long in let room = c.requires.room in
     fits_of {b = c.args.k + 1} c.loop-y.p (omega arith) (omega arith) c.requires.few c.requires.low (omega arith)
 
-pub overflow_add-y : goal.overflow_add-y
-overflow_add-y c = omega arith
-
-pub loop-y-smaller : goal.loop-y-smaller
-loop-y-smaller c = omega arith
-
 pub loop-y-preserved : goal.loop-y-preserved
 loop-y-preserved c = (omega arith, passed_step c.loop-y.invariant.1 c.power.ensures)
 

@@ -6,7 +6,7 @@ use mathlib.Core.List.{[], ◌∷◌}
 use native.Mathlib.Omega.{arith}
 use Rattle.layout.specs.Part.{MARK}
 use Rattle.layout.specs.Words.{cell, Wrote}
-use Rattle.rank_sets.proofs.Telling.{denied}
+use Rattle.std.proofs.lemmas.Bool.{iff_false}
 use Rattle.rank_sets.proofs.marks.mark_rank.Goals as goal
 
 pub put-requires : goal.put-requires
@@ -23,4 +23,4 @@ returns-then-ends_at c =
     )
 
 pub returns-else-ends_at : goal.returns-else-ends_at
-returns-else-ends_at c = inr (denied c.ends_at.ensures c.if-ends_at.false, refl)
+returns-else-ends_at c = inr (iff_false c.ends_at.ensures c.if-ends_at.false, refl)

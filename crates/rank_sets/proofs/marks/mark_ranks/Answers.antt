@@ -10,12 +10,6 @@ loop-w-init c = let x = c.args in (omega arith, marking_none x.n x.last x.p.now 
 pub mark_rank-requires : goal.mark_rank-requires
 mark_rank-requires c = let h = c.loop-w.invariant.1.steady.held in let x = c.requires in (held_space h x.0, held_small h x.1, c.loop-w-test.true)
 
-pub overflow_add-w : goal.overflow_add-w
-overflow_add-w c = omega arith
-
-pub loop-w-smaller : goal.loop-w-smaller
-loop-w-smaller c = omega arith
-
 pub loop-w-preserved : goal.loop-w-preserved
 loop-w-preserved c = let l = c.loop-w-test.true in (omega arith, marking_step c.requires.1 l c.loop-w.invariant.1 c.mark_rank.ensures)
 

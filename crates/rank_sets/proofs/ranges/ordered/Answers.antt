@@ -5,7 +5,8 @@ use mathlib.Core.Bool.{true, false}
 use lib.Dec.{ltb}
 use Rattle.rule_spec.proofs.Bytes.{lt_iff}
 use Rattle.rank_sets.specs.Ranges.{Across}
-use Rattle.rank_sets.proofs.Telling.{tells_no, denied}
+use Rattle.rank_sets.proofs.Telling.{tells_no}
+use Rattle.std.proofs.lemmas.Bool.{iff_false}
 use Rattle.rank_sets.proofs.ranges.ordered.Goals as goal
 
 -- ── What is returned for each operator ──
@@ -23,7 +24,7 @@ pub returns-else-under : goal.returns-else-under
 returns-else-under c =
     let x = c.args in
     subst (λ o. (c.under-else-under.result ≡ true) ↔ Across o x.a x.b) (sym c.in-Unequal.is)
-    (λ e. inr (c.under-else-under.ensures.0 e), λ h. c.under-else-under.ensures.1 (⊎_elim (λ l. absurd (denied c.under.ensures c.if-under.false l)) (λ l. l) h))
+    (λ e. inr (c.under-else-under.ensures.0 e), λ h. c.under-else-under.ensures.1 (⊎_elim (λ l. absurd (iff_false c.under.ensures c.if-under.false l)) (λ l. l) h))
 
 pub returns-in-Less : goal.returns-in-Less
 returns-in-Less c =

@@ -15,12 +15,6 @@ loop-w-init c = (omega arith, ranged_none _ _)
 pub widened-a-requires : goal.widened-a-requires
 widened-a-requires c = (c.loop-w-test.true, c.requires, c.loop-w.invariant.1)
 
-pub overflow_add-w : goal.overflow_add-w
-overflow_add-w c = omega arith
-
-pub loop-w-smaller : goal.loop-w-smaller
-loop-w-smaller c = omega arith
-
 pub loop-w-preserved : goal.loop-w-preserved
 loop-w-preserved c = let l = c.loop-w-test.true in (omega arith, rw add-one c.widened-a.ensures)
 

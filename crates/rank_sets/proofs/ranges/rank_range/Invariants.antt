@@ -1,5 +1,5 @@
 -- `rank_sets::ranges::rank_range` meets its contract.
-use Prim.Native.Nat.{◌-◌, ◌≤◌}
+use Prim.Native.Nat.{◌≤◌}
 use Rattle.layout.specs.Table.{RANK}
 use Rattle.layout.specs.Words.{word}
 use Rattle.rank_sets.specs.Ends.{Ended}
@@ -8,6 +8,3 @@ use Rattle.rank_sets.proofs.ranges.rank_range.Given as goal
 
 abbrev pub invariant-loop-w : goal.invariant-loop-w
 invariant-loop-w l = (l.w ≤ l.n) × Ranged l.w (WithRank l.n (word l.p l.n RANK) (Ended l.n l.last l.p)) (word l.p l.n RANK) l.a
-
-abbrev pub decreases-loop-w : goal.decreases-loop-w
-decreases-loop-w l = l.n - l.w

@@ -34,12 +34,6 @@ put-requires c =
     let z = c.rise-r.ensures.0 in let h = p.0.annotated.tabled in let few = h.accepts.legal.few in let size = h.size in
     (omega arith, numbering_below p.1 g l (omega arith) c.get-v.ensures.0, room_within g.within h.room, omega arith)
 
-pub overflow_add-i : goal.overflow_add-i
-overflow_add-i c = let l = c.loop-i-test.true in omega arith
-
-pub loop-i-smaller : goal.loop-i-smaller
-loop-i-smaller c = let l = c.loop-i-test.true in omega arith
-
 pub loop-i-preserved : goal.loop-i-preserved
 loop-i-preserved c =
     let k = c.rise-r in let v = c.get-v in

@@ -9,12 +9,6 @@ loop-h-init c = let x = c.args in let y = c.requires in noting_none x.n x.c x.x 
 pub note_entry-requires : goal.note_entry-requires
 note_entry-requires c = let y = c.requires in (c.loop-h.invariant.work, c.loop-h-test.true, y.2, y.3, y.4)
 
-pub overflow_add-h : goal.overflow_add-h
-overflow_add-h c = let l = c.loop-h-test.true in omega arith
-
-pub loop-h-smaller : goal.loop-h-smaller
-loop-h-smaller c = let l = c.loop-h-test.true in omega arith
-
 pub loop-h-preserved : goal.loop-h-preserved
 loop-h-preserved c =
     noting_step c.requires.3 c.loop-h.invariant c.loop-h-test.true

@@ -5,6 +5,3 @@ use Rattle.retracing.proofs.notes.note_entries.Given as goal
 
 abbrev pub invariant-loop-h : goal.invariant-loop-h
 invariant-loop-h l = Noting l.n l.c l.x l.second l.from l.h l.len l.initial.p l.p
-
-abbrev pub decreases-loop-h : goal.decreases-loop-h
-decreases-loop-h l = l.len - l.h

@@ -5,6 +5,3 @@ use Rattle.retracing.proofs.predecessors.predecessors.Given as goal
 
 abbrev pub invariant-loop-i : goal.invariant-loop-i
 invariant-loop-i l = Preceding l.rows l.w l.i l.r
-
-abbrev pub decreases-loop-i : goal.decreases-loop-i
-decreases-loop-i l = 16 - l.i

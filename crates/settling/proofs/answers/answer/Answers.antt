@@ -9,12 +9,6 @@ loop-v-init c = (omega arith, answering_none _ _ _)
 pub answer_at-requires : goal.answer_at-requires
 answer_at-requires c = (answering_ready c.loop-v.invariant.0 c.requires.0 c.loop-v.invariant.1, omega arith, omega arith)
 
-pub overflow_add-v : goal.overflow_add-v
-overflow_add-v c = omega arith
-
-pub loop-v-smaller : goal.loop-v-smaller
-loop-v-smaller c = omega arith
-
 pub loop-v-preserved : goal.loop-v-preserved
 loop-v-preserved c = (omega arith, answering_step c.requires.0 (omega arith) c.loop-v.invariant.1 c.answer_at.ensures)
 

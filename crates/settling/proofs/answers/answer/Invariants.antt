@@ -5,6 +5,3 @@ use Rattle.settling.proofs.answers.answer.Given as goal
 
 abbrev pub invariant-loop-v : goal.invariant-loop-v
 invariant-loop-v l = (l.v ≤ l.n) × Answering l.second l.n l.v l.initial.p l.p
-
-abbrev pub decreases-loop-v : goal.decreases-loop-v
-decreases-loop-v l = l.n - l.v

@@ -21,12 +21,6 @@ overflow_add-j c = omega arith
 pub bounds-y-j : goal.bounds-y-j
 bounds-y-j c = omega arith
 
-pub overflow_add-k : goal.overflow_add-k
-overflow_add-k c = omega arith
-
-pub loop-k-smaller : goal.loop-k-smaller
-loop-k-smaller c = omega arith
-
 pub loop-k-preserved : goal.loop-k-preserved
 loop-k-preserved c =
     let a = c.args in let l = c.loop-k in (

@@ -7,6 +7,3 @@ use Rattle.string_order.proofs.blocks.same_block.Given as goal
 
 abbrev pub invariant-loop-k : goal.invariant-loop-k
 invariant-loop-k l = (l.k ≤ block) × (l.all ≡ true → Common l.x l.i l.y l.j l.k)
-
-abbrev pub decreases-loop-k : goal.decreases-loop-k
-decreases-loop-k l = block - l.k
