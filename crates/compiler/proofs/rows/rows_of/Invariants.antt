@@ -1,5 +1,5 @@
 -- `compiler::rows::rows_of` meets its contract.
-use Prim.Native.Nat.{◌≤◌, ◌-◌}
+use Prim.Native.Nat.{◌≤◌}
 use Rattle.compiler.proofs.Gathering.{Rows}
 use Rattle.compiler.proofs.rows.rows_of.Given as goal
 

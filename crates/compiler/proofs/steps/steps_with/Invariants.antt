@@ -1,5 +1,5 @@
 -- `compiler::steps::steps_with` meets its contract.
-use Prim.Native.Nat.{◌≤◌, ◌-◌, ◌+◌}
+use Prim.Native.Nat.{◌≤◌, ◌+◌}
 use Rattle.compiler.specs.Gathered.{Gathered, Begins}
 use Rattle.compiler.proofs.steps.steps_with.Given as goal
 

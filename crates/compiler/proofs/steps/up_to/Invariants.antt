@@ -1,5 +1,5 @@
 -- `compiler::steps::up_to` meets its contract.
-use Prim.Native.Nat.{◌≤◌, ◌-◌, ◌+◌}
+use Prim.Native.Nat.{◌≤◌, ◌+◌}
 use Rattle.compiler.specs.Gathered.{Gathered}
 use Rattle.compiler.proofs.steps.up_to.Given as goal
 
