@@ -5,6 +5,7 @@ ghost use Rattle.bits.specs.Sets.{bit, or, and};
 ghost use Rattle.bits.specs.Square.{cell};
 
 use limits::Rule;
+use std::array;
 
 pub type Square = [[bool; Rule::MAX_POSITIONS]; Rule::MAX_POSITIONS];
 
@@ -18,13 +19,7 @@ pub fn empty() -> Square
 fn with_members(row: [bool; Rule::MAX_POSITIONS], b: u16) -> [bool; Rule::MAX_POSITIONS]
     ensures { (j : ℕ) → j < positions → get_or result j false ≡ or (get_or row j false) (bit b j) }
 {
-    let mut r = row;
-    for j in 0..Rule::MAX_POSITIONS {
-        if crate::has(b, j as u16) {
-            r[j] = true;
-        }
-    }
-    r
+    array::from_fn(|j| row[j] || crate::has(b, j as u16))
 }
 
 // The relation with every pair of a member of a and a member of b added.

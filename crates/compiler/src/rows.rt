@@ -26,9 +26,5 @@ fn row_set(row: [bool; Rule::MAX_POSITIONS]) -> u16
 pub fn rows_of(f: Square) -> [u16; Rule::MAX_POSITIONS]
     ensures { (i j : ℕ) → i < positions → j < positions → (bit (get_or result i 0) j ≡ true) ↔ (cell f i j ≡ true) }
 {
-    let mut rows = [0; Rule::MAX_POSITIONS];
-    for i in 0..Rule::MAX_POSITIONS {
-        rows[i] = row_set(f[i]);
-    }
-    rows
+    f.map(row_set)
 }

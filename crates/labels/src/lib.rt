@@ -20,16 +20,7 @@ fn same_bytes(s: &[u8], from: usize, to: usize, rule: &[u8], start: usize, end: 
     requires { (from ≤ to) × (to ≤ length s.now) × (start ≤ end) × (end ≤ length rule.now) }
     ensures { (result ≡ true) ↔ (slice from to s.now ≡ slice start end rule.now) }
 {
-    let m = end - start;
-    if to - from != m {
-        return false;
-    }
-    for i in 0..m {
-        if s[from + i] != rule[start + i] {
-            return false;
-        }
-    }
-    true
+    s[from..to] == rule[start..end]
 }
 
 // The label of node `v` is the bytes of the rule from one offset up to another.

@@ -14,10 +14,7 @@ fn hit_at(p: &[u16], n: usize, last: u16, w: usize) -> bool
     requires { (w < n) × Room n p.now }
     ensures { (result ≡ true) ↔ (Ended n last p.now w × (word p.now n HIT w ≡ 1)) }
 {
-    if ends_at(p, n, last, w) {
-        return get(p, n, Part::HIT, w) == 1;
-    }
-    false
+    ends_at(p, n, last, w) && get(p, n, Part::HIT, w) == 1
 }
 
 // Whether the walk ends at a hit.
@@ -25,10 +22,5 @@ pub fn any_hit(p: &[u16], n: usize, last: u16) -> bool
     requires { Room n p.now }
     ensures { (result ≡ true) ↔ ((w : ℕ) × (w < n) × Ended n last p.now w × (word p.now n HIT w ≡ 1)) }
 {
-    for w in 0..n {
-        if hit_at(p, n, last, w) {
-            return true;
-        }
-    }
-    false
+    (0..n).any(|w| hit_at(p, n, last, w))
 }

@@ -47,19 +47,12 @@ fn hits_at(p: &mut [u16], n: usize, m: Machine, v: usize) -> bool
     any_hit(p, n, m.last)
 }
 
-// The word for an answer.
-fn one_if(b: bool) -> usize
-    ensures { (result ≡ one b) × (result ≤ 1) }
-{
-    if b { 1 } else { 0 }
-}
-
 // The answer of node `v` becomes `b`.
 pub fn answer(p: &mut [u16], n: usize, v: usize, b: bool)
     requires { Space n p.old × (v < n) }
     ensures { Wrote ((cell n ANSWER v, one b) ∷ []) p.old p.new }
 {
-    put(p, n, Part::ANSWER, v, one_if(b));
+    put(p, n, Part::ANSWER, v, usize::from(b));
 }
 
 // The two paths of a comparison. Equal ranks are marked, so each node must have one.

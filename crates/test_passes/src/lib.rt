@@ -30,7 +30,7 @@ pub fn both(t: &mut [u16], n: usize, k: usize, a: usize, b: usize)
     for v in 0..n {
         let x = holds(t, n, a, v);
         let y = holds(t, n, b, v);
-        note(t, n, k, v, x & y);
+        note(t, n, k, v, x && y);
     }
 }
 
@@ -42,7 +42,7 @@ pub fn either(t: &mut [u16], n: usize, k: usize, a: usize, b: usize)
     for v in 0..n {
         let x = holds(t, n, a, v);
         let y = holds(t, n, b, v);
-        note(t, n, k, v, x | y);
+        note(t, n, k, v, x || y);
     }
 }
 

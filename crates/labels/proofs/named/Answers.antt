@@ -1,5 +1,4 @@
 -- `labels::named` meets its contract.
-use native.Mathlib.Omega.{arith}
 use native.Mathlib.Numerals.{add-one}
 use Rattle.table.specs.Tabled.{Worked}
 use Rattle.table.proofs.Worked.{worked_linked, worked_tree}

@@ -1,5 +1,4 @@
 -- `labels::named` meets its contract.
-use Prim.Native.Nat.{◌-◌}
 use mathlib.Core.Path.{◌≡◌}
 use mathlib.Core.List.{List}
 use lib.Seq.{slice}

@@ -1,6 +1,5 @@
 -- `plain::compare_constant` meets its contract.
 use mathlib.Core.Logic.Iff
-use native.Mathlib.Omega.{arith}
 use Rattle.machine.specs.Walks.{Hits}
 use Rattle.rank_sets.proofs.Steady.{held_none, held_then, held_space}
 use Rattle.plain.proofs.Steady.{held_answer}

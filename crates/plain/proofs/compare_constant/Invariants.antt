@@ -1,5 +1,4 @@
 -- `plain::compare_constant` meets its contract.
-use Prim.Native.Nat.{◌-◌}
 use Rattle.machine.specs.Walks.{Hits}
 use Rattle.rank_sets.specs.Ends.{Held}
 use Rattle.plain.proofs.Answering.{Answers}

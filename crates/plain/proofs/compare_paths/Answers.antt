@@ -1,6 +1,5 @@
 -- `plain::compare_paths` meets its contract.
 use mathlib.Core.Logic.Iff
-use native.Mathlib.Omega.{arith}
 use Rattle.machine.specs.Walks.{Meets}
 use Rattle.rank_sets.proofs.Steady.{held_none, held_then, held_space, held_small}
 use Rattle.plain.proofs.Steady.{held_answer}

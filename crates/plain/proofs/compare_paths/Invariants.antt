@@ -1,5 +1,4 @@
 -- `plain::compare_paths` meets its contract.
-use Prim.Native.Nat.{◌-◌}
 use mathlib.Core.Path.{◌≡◌}
 use Rattle.xpath.specs.Syntax.{Op}
 use Rattle.rule_parts.specs.Kinds.{operator}

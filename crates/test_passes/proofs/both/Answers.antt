@@ -1,5 +1,7 @@
 -- `test_passes::both` meets its contract.
-use mathlib.Core.Path.{◌∙◌}
+use mathlib.Core.Path.{◌≡◌, ◌∙◌}
+use mathlib.Core.Bool.{◌&&◌}
+use Rattle.std.proofs.Common.{rules}
 use native.Mathlib.Omega.{arith}
 use native.Mathlib.Numerals.{add-one}
 use Rattle.test_passes.proofs.Told.{told_and}
@@ -21,10 +23,11 @@ note-requires c = let l = c.loop-v.invariant.within.long in omega arith
 pub loop-v-preserved : goal.loop-v-preserved
 loop-v-preserved c =
     let g = c.loop-v.invariant in let l = c.loop-v-test.true in
+    let e : c.if-x.note ≡ c.holds-x.result && c.holds-y.result = search rules in
     rw add-one (settling_step c.requires.0 l g
-    (told_and
+    (rw e (told_and
     (c.holds-x.ensures ∙ settling_here g c.args.a c.requires.1 l)
-    (c.holds-y.ensures ∙ settling_here g c.args.b c.requires.2 l))
+    (c.holds-y.ensures ∙ settling_here g c.args.b c.requires.2 l)))
     c.note.ensures)
 
 pub shape_of-t : goal.shape_of-t

@@ -1,5 +1,4 @@
 -- `test_passes::both` meets its contract.
-use Prim.Native.Nat.{◌-◌}
 use mathlib.Core.Path.{◌≡◌}
 use mathlib.Core.Bool.{true}
 use Rattle.test_bits.specs.Columns.{held}

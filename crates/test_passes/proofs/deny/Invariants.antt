@@ -1,5 +1,4 @@
 -- `test_passes::deny` meets its contract.
-use Prim.Native.Nat.{◌-◌}
 use mathlib.Core.Path.{◌≡◌}
 use mathlib.Core.Bool.{true}
 use Rattle.test_bits.specs.Columns.{held}
