@@ -48,7 +48,7 @@ pub fn automaton_of(s: &[u8], at: usize, behind: Option<usize>) -> Automaton
 {
     let p = scan(s, at, 1);
     let q = match behind {
-        Some(b) => scan(s, b, p.count),
+        Some(behind) => scan(s, behind, p.count),
         None => no_step(p.count, p.next),
     };
     summed(p, q)

@@ -30,9 +30,9 @@ pub fn follow_of(s: &[u8], at: usize, behind: Option<usize>) -> Square
     let f = related(s, at, 1, empty());
     let g = started(f, p, 0);
     match behind {
-        Some(b) => {
-            let q = scan(s, b, p.count);
-            let h = related(s, b, p.count, g);
+        Some(behind) => {
+            let q = scan(s, behind, p.count);
+            let h = related(s, behind, p.count, g);
             started(h, q, q.count)
         }
         None => g,

@@ -11,7 +11,7 @@ module _ (s : List ℕ) (at b : ℕ) where
 
 -- the second path of a comparison stands at the offset; without one it is empty
 abbrev pub SecondAt : List ℕ → XPath → Option ℕ → Type 0
-SecondAt s R (Some b) = (k : ℕ) × PathAt s R b k
+SecondAt s R (Some behind) = (k : ℕ) × PathAt s R behind k
 SecondAt s R None = R ≡ empty
 
 module _ (s : List ℕ) (at : ℕ) (behind : Option ℕ) where

@@ -51,8 +51,8 @@ pub fn places_of(s: &[u8], at: usize, behind: Option<usize>) -> [usize; Rule::MA
 {
     let mut places = [0; Rule::MAX_POSITIONS];
     let p = locate(s, at, 1, &mut places);
-    if let Some(b) = behind {
-        locate(s, b, p.count, &mut places);
+    if let Some(behind) = behind {
+        locate(s, behind, p.count, &mut places);
     }
     places
 }

@@ -83,8 +83,8 @@ pub fn bracket_tests(
 {
     let mut numbers = [0; Rule::MAX_POSITIONS];
     let p = number(s, at, 1, k, &mut numbers);
-    if let Some(b) = behind {
-        number(s, b, p.step, p.test, &mut numbers);
+    if let Some(behind) = behind {
+        number(s, behind, p.step, p.test, &mut numbers);
     }
     numbers
 }
