@@ -14,7 +14,7 @@ use Rattle.positions.specs.Glushkov.{Nullable, Begins, Next}
 use Rattle.positions.proofs.Chains.{RightAfter, follows_iff, last_iff}
 use Rattle.path_sets.specs.declared.sets.Scan.{Scan}
 use Rattle.path_sets.specs.Scanned.{Sets, Scans}
-use Rattle.path_sets.specs.Paths.{Room, SecondAt, PathsAt, TwoPaths}
+use Rattle.path_sets.specs.Paths.{SecondAt, PathsAt, TwoPaths}
 use Rattle.path_sets.proofs.Truth.{tells_or, tells_and, tells_more, through}
 use Rattle.path_sets.proofs.SetLaws.{single_tells}
 use Rattle.automaton.specs.declared.automaton.Automaton.{Automaton}
@@ -96,11 +96,6 @@ FollowsFirst s at behind f = (P R : XPath) → PathsAt s at behind P R → Follo
 
 module _ (s : List ℕ) (at : ℕ) {behind : Option ℕ} where
   module _ {p : Scan} (one : Scans s at 1 p) where
-    pub second_room : {b : ℕ} → behind ≡ Some b → TwoPaths s at behind → Room s b p.count
-    second_room there (P, R, a) =
-        let l = a.few in let n = (one P a.end a.first (omega arith)).sets.count in
-        let (k, x) = subst (SecondAt s R) there a.second in (R, k, x, omega arith)
-
     pub first_follow : {e f g : List (List Bool)} → e ≡ replicate 16 (replicate 16 false) → Relates s at 1 e f → ((P : XPath) (b : ℕ) → Sets P b p → Started P b 0 f g)
         → FollowsFirst s at behind g
     first_follow {e} clear follow start P R a =

@@ -16,7 +16,7 @@ use Rattle.rule_parts.specs.Kinds.{path_kind}
 use Rattle.rule_parts.specs.declared.kinds.PathKind.{PathKind}
 use Rattle.rule_parts.specs.declared.kinds.PathKind.TheVariants.{Empty, Star}
 use Rattle.rule_parts.proofs.Inner.{star_inner}
-use Rattle.path_sets.specs.Paths.{Room, SecondAt, TwoPaths}
+use Rattle.path_sets.specs.Paths.{SecondAt}
 use Rattle.path_sets.proofs.Shapes.{Steps, Pairs, shaped, stepped, paired}
 use Rattle.step_places.specs.declared.Spot.{Spot}
 use Rattle.step_places.specs.Places.{Located, Locates, Places}
@@ -40,24 +40,18 @@ both_placed {s} {A} {B} {b} {h = h} u v i t o = go (num_split (steps A) (steps B
 
 -- ── What is told of the paths of a comparison ──
 module _ (s : List ℕ) (at : ℕ) {behind : Option ℕ} {e f : List ℕ} {p : Spot} (one-path : Locates s at 1 e f p) where
-  module _ {b : ℕ} (is : behind ≡ Some b) where
-    pub second_place : TwoPaths s at behind → Room s b p.count
-    second_place (P, R, a) =
-        let l = a.few in let n = (one-path P a.end a.first (omega arith)).count in
-        let (k, x) = subst (SecondAt s R) is a.second in (R, k, x, omega arith)
-
-    pub places_told : {g : List ℕ} {q : Spot} → Locates s b p.count f g q → Places s at behind g
-    places_told {g} {q} other_path P R a =
-        let l = a.few in let u = one-path P a.end a.first (omega arith) in let n = u.count in
-        let (k, x) = subst (SecondAt s R) is a.second in
-        both_placed u (subst (λ d. Located s R d f g k q) n (other_path R k x (omega arith)))
+  pub places_told : {b : ℕ} {g : List ℕ} {q : Spot} → behind ≡ Some b → Locates s b p.count f g q → Places s at behind g
+  places_told {g = g} {q} there other_path P R a =
+      let l = a.few in let u = one-path P a.end a.first (omega arith) in let n = u.count in
+      let (k, x) = subst (SecondAt s R) there a.second in
+      both_placed u (subst (λ d. Located s R d f g k q) n (other_path R k x (omega arith)))
 
   pub alone_told : behind ≡ None → Places s at behind f
-  alone_told is P R a i t o = go (num_split (steps P) (steps R) 1 i t o)
+  alone_told none P R a i t o = go (num_split (steps P) (steps R) 1 i t o)
     where
       go : Numbered 1 (steps P) i t ⊎ Numbered (1 + size P) (steps R) i t → (k : ℕ) × PathAt s (one t) (get_or f i 0) k
       go (inl n) = let l = a.few in (one-path P a.end a.first (omega arith)).places i t n
-      go (inr n) = absurd (subst (λ X. Numbered (1 + size P) (steps X) i t) (subst (SecondAt s R) is a.second) n)
+      go (inr n) = absurd (subst (λ X. Numbered (1 + size P) (steps X) i t) (subst (SecondAt s R) none a.second) n)
 
 -- ── A path's places by its kind ──
 module _ (s : List ℕ) {at : ℕ} {k : PathKind} (kind : (P : XPath) (j : ℕ) → PathAt s P at j → k ≡ path_kind P) {b : ℕ} where

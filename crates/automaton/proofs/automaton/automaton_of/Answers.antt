@@ -1,6 +1,7 @@
 -- `automaton::automaton::automaton_of` meets its contract.
-use Rattle.path_sets.proofs.Shapes.{path_room}
-use Rattle.automaton.proofs.Compared.{second_stands, second_empty, second_room, two_small, two_told}
+use Rattle.path_sets.proofs.Shapes.{path_room, behind_room}
+use Rattle.path_sets.proofs.Scans.{scan_ends}
+use Rattle.automaton.proofs.Compared.{second_stands, second_empty, two_small, two_told}
 use Rattle.automaton.proofs.automaton.automaton_of.Goals as goal
 use Rattle.automaton.proofs.automaton.automaton_of.Goals.{in-Some, in-None}
 
@@ -8,7 +9,7 @@ pub scan-p-requires : goal.scan-p-requires
 scan-p-requires c = path_room _ _ c.requires
 
 pub scan-q-requires : goal.scan-q-requires
-scan-q-requires c = second_room _ _ c.scan-p.ensures c.in-Some.is c.requires
+scan-q-requires c = behind_room _ _ c.in-Some.is (scan_ends c.scan-p.ensures) c.requires
 
 pub summed-requires : goal.summed-requires
 summed-requires c =
