@@ -1,7 +1,8 @@
 -- The automaton of two paths from the scans of both, and their square from what follows in each.
 use Prim.Native.Nat.{ℕ, suc, ◌+◌, ◌-◌, ◌<◌, ◌≤◌}
 use native.Mathlib.Omega.{arith}
-use mathlib.Core.Path.{◌≡◌, subst}
+use Rattle.std.specs.Prelude.{Option, Some, None}
+use mathlib.Core.Path.{◌≡◌, sym, subst}
 use mathlib.Core.Bool.{Bool, true, false}
 use mathlib.Core.Logic.{◌⊎◌, inl, inr, ◌↔◌}
 use mathlib.Core.List.{List}
@@ -11,15 +12,14 @@ use Rattle.xpath.specs.Syntax.{XPath, empty, size}
 use Rattle.positions.specs.Positions.{Follows, second}
 use Rattle.positions.specs.Glushkov.{Nullable, Begins, Next}
 use Rattle.positions.proofs.Chains.{RightAfter, follows_iff, last_iff}
-use Rattle.rule_parts.specs.Standing.{PathAt}
 use Rattle.path_sets.specs.declared.sets.Scan.{Scan}
 use Rattle.path_sets.specs.Scanned.{Sets, Scans}
-use Rattle.path_sets.specs.Paths.{Room, OnePath, TwoPaths}
+use Rattle.path_sets.specs.Paths.{SecondAt, PathsAt, TwoPaths}
 use Rattle.path_sets.proofs.Truth.{tells_or, tells_and, tells_more, through}
 use Rattle.path_sets.proofs.SetLaws.{single_tells}
 use Rattle.automaton.specs.declared.automaton.Automaton.{Automaton}
 use Rattle.automaton.specs.Following.{Related, Relates}
-use Rattle.automaton.specs.Compared.{Ended, Started, Sums, Tells, TellsAlone, TellsFollow, TellsFollowAlone}
+use Rattle.automaton.specs.Compared.{Ended, Started, FollowSquare, Sums, Tells, TellsFollow}
 use Rattle.automaton.proofs.Relations.{Joined, joined_tells, clear_tells}
 
 -- ── The start n of a path: w is the set of n alone ──
@@ -78,25 +78,32 @@ first_iff P i j = (λ h. to ((follows_iff P empty i j).0 h), λ h. (follows_iff 
     to (inr (inl (e, h))) = absurd h
     to (inr (inr h)) = absurd h
 
-module _ (s : List ℕ) (at : ℕ) where
+-- ── The paths at the offsets ──
+-- q is the scan of the second path, whatever it is
+abbrev pub SecondScans : List ℕ → Option ℕ → ℕ → Scan → Type 0
+SecondScans s behind b q = (R : XPath) → SecondAt s R behind → b + size R ≤ 16 → Sets R b q
+
+module _ (s : List ℕ) (behind : Option ℕ) {n : ℕ} {q : Scan} where
+  pub second_stands : {b : ℕ} {r : Scan} → behind ≡ Some b → q ≡ r → Scans s b n r → SecondScans s behind n q
+  second_stands there e scans R x l = let (k, y) = subst (SecondAt s R) there x in subst (Sets R n) (sym e) (scans R k y l).sets
+
+  pub second_empty : {r : Scan} → behind ≡ None → q ≡ r → Sets empty n r → SecondScans s behind n q
+  second_empty none e sets R x l = subst (λ X. Sets X n q) (sym (subst (SecondAt s R) none x)) (subst (Sets empty n) (sym e) sets)
+
+-- what follows in the first path
+abbrev pub FollowsFirst : List ℕ → ℕ → Option ℕ → List (List Bool) → Type 0
+FollowsFirst s at behind f = (P R : XPath) → PathsAt s at behind P R → FollowSquare P empty f
+
+module _ (s : List ℕ) (at : ℕ) {behind : Option ℕ} where
   module _ {p : Scan} (one : Scans s at 1 p) where
-    module _ {q : Scan} (none : Sets empty p.count q) where
-      pub one_small : OnePath s at → Small p q
-      one_small (P, j, a, l) = let n = (one P j a (omega arith)).sets.count in let m = none.count in (omega arith, omega arith, omega arith)
-
-      pub one_told : {r : Automaton} → Sums p q r → TellsAlone s at r
-      one_told sum P j a l =
-          let x = (one P j a (omega arith)).sets in let n = x.count in
-          let e : p.count ≡ suc (size P) = omega arith in
-          sum P empty x (subst (λ d. Sets empty d q) e none)
-
-    pub one_follow : {e f g : List (List Bool)} → e ≡ replicate 16 (replicate 16 false) → Relates s at 1 e f → ((P : XPath) (b : ℕ) → Sets P b p → Started P b 0 f g)
-        → TellsFollowAlone s at g
-    one_follow {e} clear follow start P j a l = let x = (one P j a (omega arith)).sets in record {
-      follow = λ i k c d. through
-          (alone (beside (λ h. absurd (clear_tells e clear i k c d h), λ z. absurd z) ((follow P j a (omega arith)).told i k c d) ((start P 1 x).told i k c d)))
-          (first_iff P i k);
-    }
+    pub first_follow : {e f g : List (List Bool)} → e ≡ replicate 16 (replicate 16 false) → Relates s at 1 e f → ((P : XPath) (b : ℕ) → Sets P b p → Started P b 0 f g)
+        → FollowsFirst s at behind g
+    first_follow {e} clear follow start P R a =
+        let l = a.few in let x = (one P a.end a.first (omega arith)).sets in record {
+          follow = λ i k c d. through
+              (alone (beside (λ h. absurd (clear_tells e clear i k c d h), λ z. absurd z) ((follow P a.end a.first (omega arith)).told i k c d) ((start P 1 x).told i k c d)))
+              (first_iff P i k);
+        }
       where
         alone : {G X : Type 0} → G ↔ (⊥ ⊎ X) → G ↔ X
         alone {G} {X} g = (λ z. to (g.0 z), λ x. g.1 (inr x))
@@ -105,32 +112,33 @@ module _ (s : List ℕ) (at : ℕ) where
             to (inl z) = absurd z
             to (inr x) = x
 
-module _ (s : List ℕ) (at behind : ℕ) where
-  module _ {p : Scan} (one : Scans s at 1 p) where
-    pub second_room : TwoPaths s at behind → Room s behind p.count
-    second_room (P, R, j, k, a, b, l) = let n = (one P j a (omega arith)).sets.count in (R, k, b, omega arith)
-
-    module _ {q : Scan} (two : Scans s behind p.count q) where
+    module _ {q : Scan} (two : SecondScans s behind p.count q) where
       -- both paths as they are numbered
-      both_sets : (P R : XPath) (j k : ℕ) → PathAt s P at j → PathAt s R behind k → size P + size R ≤ 14 → Sets P 1 p × Sets R (suc (size P)) q
-      both_sets P R j k a b l =
-          let x = (one P j a (omega arith)).sets in let n = x.count in
+      both_sets : (P R : XPath) → PathsAt s at behind P R → Sets P 1 p × Sets R (suc (size P)) q
+      both_sets P R a =
+          let l = a.few in let x = (one P a.end a.first (omega arith)).sets in let n = x.count in
           let e : p.count ≡ suc (size P) = omega arith in
-          (x, subst (λ d. Sets R d q) e (two R k b (omega arith)).sets)
+          (x, subst (λ d. Sets R d q) e (two R a.second (omega arith)))
 
       pub two_small : TwoPaths s at behind → Small p q
-      two_small (P, R, j, k, a, b, l) = let (x, y) = both_sets P R j k a b l in let n = x.count in let m = y.count in (omega arith, omega arith, omega arith)
+      two_small (P, R, a) = let l = a.few in let (x, y) = both_sets P R a in let n = x.count in let m = y.count in (omega arith, omega arith, omega arith)
 
       pub two_told : {r : Automaton} → Sums p q r → Tells s at behind r
-      two_told sum P R j k a b l = let (x, y) = both_sets P R j k a b l in sum P R x y
+      two_told sum P R a = let (x, y) = both_sets P R a in sum P R x y
 
-      pub two_follow : {f g h : List (List Bool)} → TellsFollowAlone s at f → Relates s behind p.count f g → ((P : XPath) (b : ℕ) → Sets P b q → Started P b q.count g h)
+      pub two_follow : {b : ℕ} {f g h : List (List Bool)} → behind ≡ Some b → FollowsFirst s at behind f → Relates s b p.count f g
+          → ((P : XPath) (b : ℕ) → Sets P b q → Started P b q.count g h)
           → TellsFollow s at behind h
-      two_follow {f} {g} {h} first follow start P R j k a b l =
-          let (x, y) = both_sets P R j k a b l in let n = x.count in let m = y.count in
+      two_follow {f = f} {g} {h} there first follow start P R a =
+          let (x, y) = both_sets P R a in let n = x.count in let m = y.count in let l = a.few in
+          let (k, z) = subst (SecondAt s R) there a.second in
           let c₁ : p.count ≡ suc (size P) = omega arith in
           let e : q.count ≡ second P R = omega arith in
-          let u = subst (λ d. Related R d f g) c₁ (follow R k b (omega arith)) in
-          let z = subst (λ d. Started R (suc (size P)) d g h) e (start R (suc (size P)) y) in record {
-            follow = λ i m c d. through (beside (through ((first P j a (omega arith)).follow i m c d) ((first_iff P i m).1, (first_iff P i m).0)) (u.told i m c d) (z.told i m c d)) (follows_iff P R i m);
+          let u = subst (λ d. Related R d f g) c₁ (follow R k z (omega arith)) in
+          let v = subst (λ d. Started R (suc (size P)) d g h) e (start R (suc (size P)) y) in record {
+            follow = λ i m c d. through (beside (through ((first P R a).follow i m c d) ((first_iff P i m).1, (first_iff P i m).0)) (u.told i m c d) (v.told i m c d)) (follows_iff P R i m);
           }
+
+  -- an empty second path adds nothing
+  pub alone_follow : {f : List (List Bool)} → behind ≡ None → FollowsFirst s at behind f → TellsFollow s at behind f
+  alone_follow {f} none first P R a = subst (λ X. FollowSquare P X f) (sym (subst (SecondAt s R) none a.second)) (first P R a)

@@ -1,14 +1,14 @@
 -- The automaton of a comparison's paths P and R: 01, snippets.
-use Rattle.std.specs.Prelude.{ℕ, suc, ◌+◌, ◌<◌, ◌≤◌, ◌≡◌, Bool, true, ◌⊎◌, ◌↔◌, List}
-use Rattle.limits.specs.Limits.{positions, comparison_steps}
+use Rattle.std.specs.Prelude.{ℕ, suc, ◌+◌, ◌<◌, ◌≡◌, Bool, true, ◌⊎◌, ◌↔◌, List, Option}
+use Rattle.limits.specs.Limits.{positions}
 use Rattle.bits.specs.Sets.{bit}
 use Rattle.bits.specs.Square.{cell}
-use Rattle.xpath.specs.Syntax.{XPath, empty, size}
+use Rattle.xpath.specs.Syntax.{XPath, size}
 use Rattle.positions.specs.Positions.{Follows, IsLast}
 use Rattle.positions.specs.Glushkov.{Nullable, Begins, Stops}
-use Rattle.rule_parts.specs.Standing.{PathAt}
 use Rattle.path_sets.specs.declared.sets.Scan.{Scan}
 use Rattle.path_sets.specs.Scanned.{Sets}
+use Rattle.path_sets.specs.Paths.{PathsAt}
 use Rattle.automaton.specs.declared.automaton.Automaton.{Automaton}
 
 module _ (P : XPath) (b n : ℕ) where
@@ -34,20 +34,11 @@ pub record IsAutomaton (P R : XPath) (r : Automaton) : Type 0 where
 abbrev pub Sums : Scan → Scan → Automaton → Type 0
 Sums p q r = (P R : XPath) → Sets P 1 p → Sets R (suc (size P)) q → IsAutomaton P R r
 
-module _ (s : List ℕ) (at : ℕ) where
-  -- whatever path stands at the offset, this is the automaton of it and an empty one
-  abbrev pub TellsAlone : Automaton → Type 0
-  TellsAlone r = (P : XPath) (j : ℕ) → PathAt s P at j → size P ≤ comparison_steps → IsAutomaton P empty r
-
-  -- and this their square
-  abbrev pub TellsFollowAlone : List (List Bool) → Type 0
-  TellsFollowAlone f = (P : XPath) (j : ℕ) → PathAt s P at j → size P ≤ comparison_steps → FollowSquare P empty f
-
-module _ (s : List ℕ) (at behind : ℕ) where
+module _ (s : List ℕ) (at : ℕ) (behind : Option ℕ) where
   -- whatever paths stand at the offsets, this is their automaton
   abbrev pub Tells : Automaton → Type 0
-  Tells r = (P R : XPath) (j k : ℕ) → PathAt s P at j → PathAt s R behind k → size P + size R ≤ comparison_steps → IsAutomaton P R r
+  Tells r = (P R : XPath) → PathsAt s at behind P R → IsAutomaton P R r
 
   -- and this their square
   abbrev pub TellsFollow : List (List Bool) → Type 0
-  TellsFollow f = (P R : XPath) (j k : ℕ) → PathAt s P at j → PathAt s R behind k → size P + size R ≤ comparison_steps → FollowSquare P R f
+  TellsFollow f = (P R : XPath) → PathsAt s at behind P R → FollowSquare P R f

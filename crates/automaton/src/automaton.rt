@@ -3,8 +3,8 @@ ghost use Rattle.std.specs.Prelude.{ℕ, ◌<◌};
 ghost use Rattle.limits.specs.Limits.{positions};
 ghost use Rattle.xpath.specs.Syntax.{XPath};
 ghost use Rattle.path_sets.specs.Scanned.{Sets};
-ghost use Rattle.path_sets.specs.Paths.{OnePath, TwoPaths};
-ghost use Rattle.automaton.specs.Compared.{Ended, Sums, Tells, TellsAlone};
+ghost use Rattle.path_sets.specs.Paths.{TwoPaths};
+ghost use Rattle.automaton.specs.Compared.{Ended, Sums, Tells};
 
 use bits::{insert, union};
 use path_sets::scan::scan;
@@ -41,22 +41,15 @@ fn summed(p: Scan, q: Scan) -> Automaton
     }
 }
 
-// The paths that stand at the two offsets.
-pub fn automaton_of(s: &[u8], at: usize, behind: usize) -> Automaton
+// The paths that stand at the two offsets. Without a second offset the second path is empty.
+pub fn automaton_of(s: &[u8], at: usize, behind: Option<usize>) -> Automaton
     requires { TwoPaths s.now at behind }
     ensures { Tells s.now at behind result }
 {
     let p = scan(s, at, 1);
-    let q = scan(s, behind, p.count);
-    summed(p, q)
-}
-
-// The path that stands at the offset, and an empty one.
-pub fn automaton_of_one(s: &[u8], at: usize) -> Automaton
-    requires { OnePath s.now at }
-    ensures { TellsAlone s.now at result }
-{
-    let p = scan(s, at, 1);
-    let q = no_step(p.count, at);
+    let q = match behind {
+        Some(behind) => scan(s, behind, p.count),
+        None => no_step(p.count, p.next),
+    };
     summed(p, q)
 }

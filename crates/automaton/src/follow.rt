@@ -3,8 +3,8 @@ ghost use Rattle.std.specs.Prelude.{ℕ, ◌<◌};
 ghost use Rattle.limits.specs.Limits.{positions};
 ghost use Rattle.xpath.specs.Syntax.{XPath};
 ghost use Rattle.path_sets.specs.Scanned.{Sets};
-ghost use Rattle.path_sets.specs.Paths.{OnePath, TwoPaths};
-ghost use Rattle.automaton.specs.Compared.{Started, TellsFollow, TellsFollowAlone};
+ghost use Rattle.path_sets.specs.Paths.{TwoPaths};
+ghost use Rattle.automaton.specs.Compared.{Started, TellsFollow};
 
 use crate::relation::related;
 use bits::insert;
@@ -21,24 +21,20 @@ fn started(f: Square, p: Scan, n: usize) -> Square
     joined(f, w, p.first)
 }
 
-// The path that stands at the offset, and an empty one, in which nothing follows.
-pub fn follow_of_one(s: &[u8], at: usize) -> Square
-    requires { OnePath s.now at }
-    ensures { TellsFollowAlone s.now at result }
-{
-    let p = scan(s, at, 1);
-    let f = related(s, at, 1, empty());
-    started(f, p, 0)
-}
-
-// The paths that stand at the two offsets.
-pub fn follow_of(s: &[u8], at: usize, behind: usize) -> Square
+// The paths that stand at the two offsets. Without a second offset the second path is empty, and nothing follows in it.
+pub fn follow_of(s: &[u8], at: usize, behind: Option<usize>) -> Square
     requires { TwoPaths s.now at behind }
     ensures { TellsFollow s.now at behind result }
 {
     let p = scan(s, at, 1);
-    let q = scan(s, behind, p.count);
-    let f = follow_of_one(s, at);
-    let g = related(s, behind, p.count, f);
-    started(g, q, q.count)
+    let f = related(s, at, 1, empty());
+    let g = started(f, p, 0);
+    match behind {
+        Some(behind) => {
+            let q = scan(s, behind, p.count);
+            let h = related(s, behind, p.count, g);
+            started(h, q, q.count)
+        }
+        None => g,
+    }
 }

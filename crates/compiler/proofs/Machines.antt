@@ -2,6 +2,7 @@
 use Prim.Native.Nat.{ℕ, suc, ◌+◌, ◌≤◌, ◌<◌}
 use native.Mathlib.Nat.{eq-or-lt_of_le}
 use native.Mathlib.Omega.{arith}
+use Rattle.std.specs.Prelude.{Option}
 use mathlib.Core.Path.{◌≡◌, refl, sym, ap, subst, ◌∙◌}
 use mathlib.Core.Bool.{Bool, true}
 use mathlib.Core.Logic.{inl, inr, ⊎_elim, ◌↔◌}
@@ -10,23 +11,22 @@ use lib.ListN.{length, get_or, drop, length-append}
 use lib.Seq.{drop-cons}
 use Rattle.bits.specs.Sets.{bit}
 use Rattle.bits.specs.Square.{cell}
-use Rattle.xpath.specs.Syntax.{Test, XPath, empty, one, Step, to_left, to_right, from_left, from_right, stay, steps, size}
+use Rattle.xpath.specs.Syntax.{Test, XPath, one, Step, to_left, to_right, from_left, from_right, stay, steps}
 use Rattle.positions.specs.Positions.{Numbered, IsLast}
 use Rattle.positions.proofs.Runs.{num_in}
 use Rattle.rule_spec.specs.Spelling.{spell_path, spell_step}
-use Rattle.rule_parts.specs.Standing.{PathAt}
 use Rattle.rule_parts.specs.declared.kinds.PathKind.{PathKind}
 use Rattle.rule_parts.specs.declared.kinds.PathKind.TheVariants.{Empty, ToLeft, ToRight, FromLeft, FromRight, Stay, Seq, Union, Star}
 use Rattle.rule_parts.proofs.Told.{path_by}
-use Rattle.path_sets.specs.Paths.{TwoPaths}
+use Rattle.path_sets.specs.Paths.{PathsAt, TwoPaths}
 use Rattle.path_sets.proofs.Shapes.{path_long}
-use Rattle.step_places.specs.Places.{Placed, Places, PlacesAlone}
+use Rattle.step_places.specs.Places.{Placed, Places}
 use Rattle.automaton.specs.declared.automaton.Automaton.{Automaton}
-use Rattle.automaton.specs.Compared.{Tells, TellsAlone, TellsFollow, TellsFollowAlone}
+use Rattle.automaton.specs.Compared.{Tells, TellsFollow}
 use Rattle.machine.specs.declared.Machine.{Machine}
 use Rattle.machine.specs.Meaning.{IsStep}
 use Rattle.compiler.specs.Gathered.{Gathered, Inside, Begins}
-use Rattle.compiler.specs.Machines.{KnownOf, Known, OnePath, Machines, Machined, MachinedAlone}
+use Rattle.compiler.specs.Machines.{KnownOf, Known, Machines, Machined}
 
 -- ── The byte that a step begins with ──
 abbrev byte : Step → ℕ
@@ -148,22 +148,12 @@ module _ {s : List ℕ} {f : List (List Bool)} {a : Automaton} {places : List �
   }
 
 -- ── The paths at the offsets ──
-module _ (s : List ℕ) (at behind : ℕ) {f : List (List Bool)} {a : Automaton} {places : List ℕ} (follow : TellsFollow s at behind f) (tells : Tells s at behind a) (stand : Places s at behind places) where
-  known_two : (P R : XPath) (j k : ℕ) → PathAt s P at j → PathAt s R behind k → size P + size R ≤ 14 → KnownOf s f a places P R
-  known_two P R j k x y l = record { few = l; square = follow P R j k x y l; automaton = tells P R j k x y l; placed = stand P R j k x y l }
+module _ (s : List ℕ) (at : ℕ) (behind : Option ℕ) {f : List (List Bool)} {a : Automaton} {places : List ℕ} (follow : TellsFollow s at behind f) (tells : Tells s at behind a) (stand : Places s at behind places) where
+  known_two : (P R : XPath) → PathsAt s at behind P R → KnownOf s f a places P R
+  known_two P R x = record { few = x.few; square = follow P R x; automaton = tells P R x; placed = stand P R x }
 
   pub two_known : TwoPaths s at behind → Known s f a places
-  two_known (P, R, j, k, x, y, l) = (P, R, known_two P R j k x y l)
+  two_known (P, R, x) = (P, R, known_two P R x)
 
   pub two_machined : {m : Machine} → Machines s f a places m → Machined s at behind m
-  two_machined h P R j k x y l = h P R (known_two P R j k x y l)
-
-module _ (s : List ℕ) (at : ℕ) {f : List (List Bool)} {a : Automaton} {places : List ℕ} (follow : TellsFollowAlone s at f) (tells : TellsAlone s at a) (stand : PlacesAlone s at places) where
-  known_one : (P : XPath) (j : ℕ) → PathAt s P at j → size P ≤ 14 → KnownOf s f a places P empty
-  known_one P j x l = record { few = omega arith; square = follow P j x l; automaton = tells P j x l; placed = stand P j x l }
-
-  pub one_known : OnePath s at → Known s f a places
-  one_known (P, j, x, l) = (P, empty, known_one P j x l)
-
-  pub one_machined : {m : Machine} → Machines s f a places m → MachinedAlone s at m
-  one_machined h P j x l = h P empty (known_one P j x l)
+  two_machined h P R x = h P R (known_two P R x)

@@ -1,14 +1,13 @@
 -- The machine of the paths that stand in a rule.
-use Rattle.std.specs.Prelude.{ℕ, ◌+◌, ◌≤◌, Bool, List, ◌++◌}
+use Rattle.std.specs.Prelude.{ℕ, ◌+◌, ◌≤◌, Bool, List, ◌++◌, Option}
 use Rattle.limits.specs.Limits.{comparison_steps}
-use Rattle.xpath.specs.Syntax.{XPath, empty, steps, size}
-use Rattle.rule_parts.specs.Standing.{PathAt}
+use Rattle.xpath.specs.Syntax.{XPath, steps, size}
+use Rattle.path_sets.specs.Paths.{PathsAt}
 use Rattle.step_places.specs.Places.{Placed}
 use Rattle.automaton.specs.declared.automaton.Automaton.{Automaton}
 use Rattle.automaton.specs.Compared.{FollowSquare, IsAutomaton}
 use Rattle.machine.specs.declared.Machine.{Machine}
 use Rattle.machine.specs.Meaning.{IsMachine}
-pub use Rattle.path_sets.specs.Paths.{OnePath}
 
 module _ (s : List ℕ) (f : List (List Bool)) (a : Automaton) (places : List ℕ) where
   -- what is known of the paths P and R: their square, their automaton, and where their steps stand
@@ -26,11 +25,6 @@ module _ (s : List ℕ) (f : List (List Bool)) (a : Automaton) (places : List �
   abbrev pub Machines : Machine → Type 0
   Machines m = (P R : XPath) → KnownOf P R → IsMachine P R m
 
-module _ (s : List ℕ) (at : ℕ) where
-  -- whatever two paths stand at the offsets
-  abbrev pub Machined : ℕ → Machine → Type 0
-  Machined behind m = (P R : XPath) (j k : ℕ) → PathAt s P at j → PathAt s R behind k → size P + size R ≤ comparison_steps → IsMachine P R m
-
-  -- whatever path stands at the offset; the second path of a comparison with a constant is empty
-  abbrev pub MachinedAlone : Machine → Type 0
-  MachinedAlone m = (P : XPath) (j : ℕ) → PathAt s P at j → size P ≤ comparison_steps → IsMachine P empty m
+-- whatever two paths stand at the offsets
+abbrev pub Machined : List ℕ → ℕ → Option ℕ → Machine → Type 0
+Machined s at behind m = (P R : XPath) → PathsAt s at behind P R → IsMachine P R m

@@ -5,15 +5,15 @@ mod rows;
 mod steps;
 
 ghost use Rattle.path_sets.specs.Paths.{TwoPaths};
-ghost use Rattle.compiler.specs.Machines.{Known, Machines, Machined, OnePath, MachinedAlone};
+ghost use Rattle.compiler.specs.Machines.{Known, Machines, Machined};
 
-use automaton::automaton::{Automaton, automaton_of, automaton_of_one};
-use automaton::follow::{follow_of, follow_of_one};
+use automaton::automaton::{Automaton, automaton_of};
+use automaton::follow::follow_of;
 use bits::square::Square;
 use limits::Rule;
 use machine::Machine;
 use rows::rows_of;
-use step_places::{places_of, places_of_one};
+use step_places::places_of;
 use steps::{steps_with, up_to};
 
 // The automaton and the square beside it as words, and the steps by the byte that each begins with.
@@ -35,22 +35,12 @@ fn machine(s: &[u8], f: Square, a: Automaton, places: [usize; Rule::MAX_POSITION
     }
 }
 
-// The paths that stand at the two offsets.
-pub fn machine_of(s: &[u8], at: usize, behind: usize) -> Machine
+// The paths that stand at the two offsets. Without a second offset the second path is empty.
+pub fn machine_of(s: &[u8], at: usize, behind: Option<usize>) -> Machine
     requires { TwoPaths s.now at behind }
     ensures { Machined s.now at behind result }
 {
     let f = follow_of(s, at, behind);
     let a = automaton_of(s, at, behind);
     machine(s, f, a, places_of(s, at, behind))
-}
-
-// The path that stands at the offset, and an empty one.
-pub fn machine_of_one(s: &[u8], at: usize) -> Machine
-    requires { OnePath s.now at }
-    ensures { MachinedAlone s.now at result }
-{
-    let f = follow_of_one(s, at);
-    let a = automaton_of_one(s, at);
-    machine(s, f, a, places_of_one(s, at))
 }

@@ -2,6 +2,7 @@
 use Prim.Native.Nat.{ℕ, ◌+◌, ◌-◌, ◌*◌, ◌≤◌, ◌<◌}
 use native.Mathlib.Nat.{mul_comm, add-mul, mul-le-mul_right}
 use native.Mathlib.Omega.{arith}
+use Rattle.std.specs.Prelude.{Some}
 use mathlib.Core.Path.{◌≡◌, sym, subst}
 use mathlib.Core.Logic.{◌↔◌}
 use mathlib.Core.List.{List, ◌++◌}
@@ -97,7 +98,7 @@ module _ {s : List ℕ} {ns : List Node} {n : ℕ} {t : List ℕ} (scene : Scene
 
 -- ── Two paths ──
 pub paths_drawn : {s rule : List ℕ} {ns : List Node} {T : Test} {n at k : ℕ} {t : List ℕ} {behind : ℕ} {o : Operator} (h : Paths s rule ns T n at k t behind o)
-    {m : Machine} {numbers t₁ t₂ t₃ : List ℕ} {c : ℕ} → Machined rule (at + 1) behind m → NumbersTwo rule (at + 1) behind (k + 1) numbers
+    {m : Machine} {numbers t₁ t₂ t₃ : List ℕ} {c : ℕ} → Machined rule (at + 1) (Some behind) m → NumbersTwo rule (at + 1) (Some behind) (k + 1) numbers
     → Copied n t t₁ → Stayed n m.brackets numbers t₁ t₂ → ((q : Op) → o ≡ operator q → c ≡ ranks_of q) → RanksCopied n c t₂ t₃
     → PathsDrawn ns n h.sign h.first h.second m t t₃
 paths_drawn {n = n} h {t₂ = t₂} {t₃} machined numbered copied stayed chosen ranks =

@@ -1,6 +1,7 @@
 -- A path's kind tells how it is made, and so where its inner paths stand and that their numbers have room.
 use Prim.Native.Nat.{ℕ, ◌+◌, ◌<◌, ◌≤◌}
 use native.Mathlib.Omega.{arith}
+use Rattle.std.specs.Prelude.{Option, Some}
 use mathlib.Core.Path.{◌≡◌, refl, sym, ap, subst, ◌∙◌}
 use mathlib.Core.Logic.{◌⊎◌, inl, inr, ⊎_elim}
 use mathlib.Core.List.{List, [], ◌∷◌, ◌++◌}
@@ -16,7 +17,7 @@ use Rattle.rule_parts.specs.declared.kinds.PathKind.{PathKind}
 use Rattle.rule_parts.specs.declared.kinds.PathKind.TheVariants.{Empty, ToLeft, ToRight, FromLeft, FromRight, Stay, Seq, Union, Star}
 use Rattle.rule_parts.specs.contracts.kinds.PathKind.{the_type}
 use Rattle.rule_parts.proofs.Inner.{seq_inner, union_inner, star_inner}
-use Rattle.path_sets.specs.Paths.{Room, OnePath, TwoPaths}
+use Rattle.path_sets.specs.Paths.{Room, SecondAt, TwoPaths}
 
 abbrev pub StepPath : XPath → Type 0
 StepPath P = (t : Step) × (P ≡ one t)
@@ -185,9 +186,12 @@ module _ (s : List ℕ) where
     step_room e (P, j, a, l) = let (t, h) = stepped e P (kind P j a) in let z = ap size h in omega arith
 
 -- ── The paths of a comparison ──
-module _ (s : List ℕ) (at : ℕ) where
-  pub path_room : OnePath s at → Room s at 1
-  path_room (P, j, a, l) = (P, j, a, omega arith)
+module _ (s : List ℕ) (at : ℕ) {behind : Option ℕ} where
+  pub path_room : TwoPaths s at behind → Room s at 1
+  path_room (P, R, a) = let l = a.few in (P, a.end, a.first, omega arith)
 
-  pub first_of : (behind : ℕ) → TwoPaths s at behind → OnePath s at
-  first_of behind (P, R, j, k, a, b, l) = (P, j, a, omega arith)
+  -- the first path was read up to n, and the next number is d
+  pub behind_room : {b n d : ℕ} → behind ≡ Some b → ((P : XPath) (j : ℕ) → PathAt s P at j → 1 + size P ≤ 16 → (n ≡ j) × (d ≡ 1 + size P)) → TwoPaths s at behind → Room s b d
+  behind_room there told (P, R, a) =
+      let l = a.few in let e = (told P a.end a.first (omega arith)).1 in
+      let (k, x) = subst (SecondAt s R) there a.second in (R, k, x, omega arith)

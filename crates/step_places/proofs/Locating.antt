@@ -1,9 +1,10 @@
 -- The places of a path's steps from those of its parts.
 use Prim.Native.Nat.{ℕ, ◌+◌, ◌<◌, ◌≤◌}
 use native.Mathlib.Omega.{arith}
+use Rattle.std.specs.Prelude.{Option, Some, None}
 use mathlib.Core.Path.{◌≡◌, refl, sym, ap, subst, ◌∙◌}
 use mathlib.Core.Logic.{◌⊎◌, inl, inr}
-use mathlib.Core.List.{List, [], ◌++◌}
+use mathlib.Core.List.{List, ◌++◌}
 use lib.ListN.{length, get_or, set, length-append}
 use lib.Seq.{get_or-set_same, get_or-set_other}
 use Rattle.xpath.specs.Syntax.{XPath, one, Step, steps, size}
@@ -15,10 +16,10 @@ use Rattle.rule_parts.specs.Kinds.{path_kind}
 use Rattle.rule_parts.specs.declared.kinds.PathKind.{PathKind}
 use Rattle.rule_parts.specs.declared.kinds.PathKind.TheVariants.{Empty, Star}
 use Rattle.rule_parts.proofs.Inner.{star_inner}
-use Rattle.path_sets.specs.Paths.{Room, TwoPaths}
+use Rattle.path_sets.specs.Paths.{SecondAt}
 use Rattle.path_sets.proofs.Shapes.{Steps, Pairs, shaped, stepped, paired}
 use Rattle.step_places.specs.declared.Spot.{Spot}
-use Rattle.step_places.specs.Places.{Located, Locates, Places, PlacesAlone}
+use Rattle.step_places.specs.Places.{Located, Locates, Places}
 
 -- ── Where a path ends, and the places of two paths ──
 -- where the path ends, and the number behind it
@@ -38,21 +39,19 @@ both_placed {s} {A} {B} {b} {h = h} u v i t o = go (num_split (steps A) (steps B
     go (inr n) = v.places i t n
 
 -- ── What is told of the paths of a comparison ──
-module _ (s : List ℕ) (at behind : ℕ) {e f : List ℕ} {p : Spot} (one-path : Locates s at 1 e f p) where
-  pub second_place : TwoPaths s at behind → Room s behind p.count
-  second_place (P, R, j, k, a, b, l) = let n = (one-path P j a (omega arith)).count in (R, k, b, omega arith)
+module _ (s : List ℕ) (at : ℕ) {behind : Option ℕ} {e f : List ℕ} {p : Spot} (one-path : Locates s at 1 e f p) where
+  pub places_told : {b : ℕ} {g : List ℕ} {q : Spot} → behind ≡ Some b → Locates s b p.count f g q → Places s at behind g
+  places_told {g = g} {q} there other_path P R a =
+      let l = a.few in let u = one-path P a.end a.first (omega arith) in let n = u.count in
+      let (k, x) = subst (SecondAt s R) there a.second in
+      both_placed u (subst (λ d. Located s R d f g k q) n (other_path R k x (omega arith)))
 
-  pub places_told : {g : List ℕ} {q : Spot} → Locates s behind p.count f g q → Places s at behind g
-  places_told {g} {q} other_path P R j k a b l =
-      let u = one-path P j a (omega arith) in let n = u.count in
-      both_placed u (subst (λ d. Located s R d f g k q) n (other_path R k b (omega arith)))
-
-pub alone_told : (s : List ℕ) (at : ℕ) {e f : List ℕ} {p : Spot} → Locates s at 1 e f p → PlacesAlone s at f
-alone_told s at {f = f} one-path P j a l i t o = go (num_split (steps P) [] 1 i t o)
-  where
-    go : Numbered 1 (steps P) i t ⊎ ⊥ → (k : ℕ) × PathAt s (one t) (get_or f i 0) k
-    go (inl n) = (one-path P j a (omega arith)).places i t n
-    go (inr n) = absurd n
+  pub alone_told : behind ≡ None → Places s at behind f
+  alone_told none P R a i t o = go (num_split (steps P) (steps R) 1 i t o)
+    where
+      go : Numbered 1 (steps P) i t ⊎ Numbered (1 + size P) (steps R) i t → (k : ℕ) × PathAt s (one t) (get_or f i 0) k
+      go (inl n) = let l = a.few in (one-path P a.end a.first (omega arith)).places i t n
+      go (inr n) = absurd (subst (λ X. Numbered (1 + size P) (steps X) i t) (subst (SecondAt s R) none a.second) n)
 
 -- ── A path's places by its kind ──
 module _ (s : List ℕ) {at : ℕ} {k : PathKind} (kind : (P : XPath) (j : ℕ) → PathAt s P at j → k ≡ path_kind P) {b : ℕ} where

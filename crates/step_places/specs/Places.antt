@@ -1,9 +1,10 @@
 -- Where the steps of a path stand.
-use Rattle.std.specs.Prelude.{ℕ, ◌+◌, ◌<◌, ◌≤◌, ◌≡◌, List, ◌++◌, get_or}
-use Rattle.limits.specs.Limits.{positions, comparison_steps}
-use Rattle.xpath.specs.Syntax.{XPath, empty, one, Step, steps, size}
+use Rattle.std.specs.Prelude.{ℕ, ◌+◌, ◌<◌, ◌≤◌, ◌≡◌, List, ◌++◌, get_or, Option}
+use Rattle.limits.specs.Limits.{positions}
+use Rattle.xpath.specs.Syntax.{XPath, one, Step, steps, size}
 use Rattle.positions.specs.Positions.{Numbered}
 use Rattle.rule_parts.specs.Standing.{PathAt}
+use Rattle.path_sets.specs.Paths.{PathsAt}
 use Rattle.step_places.specs.declared.Spot.{Spot}
 
 module _ (s : List ℕ) where
@@ -23,9 +24,5 @@ module _ (s : List ℕ) where
   Placed xs r = (i : ℕ) (t : Step) → Numbered 1 xs i t → (m : ℕ) × PathAt s (one t) (get_or r i 0) m
 
   -- the steps of the two paths that stand at the offsets
-  abbrev pub Places : ℕ → ℕ → List ℕ → Type 0
-  Places at behind r = (P R : XPath) (j k : ℕ) → PathAt s P at j → PathAt s R behind k → size P + size R ≤ comparison_steps → Placed (steps P ++ steps R) r
-
-  -- the steps of the path that stands at the offset; the second path is empty
-  abbrev pub PlacesAlone : ℕ → List ℕ → Type 0
-  PlacesAlone at r = (P : XPath) (j : ℕ) → PathAt s P at j → size P ≤ comparison_steps → Placed (steps P ++ steps empty) r
+  abbrev pub Places : ℕ → Option ℕ → List ℕ → Type 0
+  Places at behind r = (P R : XPath) → PathsAt s at behind P R → Placed (steps P ++ steps R) r

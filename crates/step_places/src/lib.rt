@@ -3,8 +3,8 @@
 
 ghost use Rattle.std.specs.Prelude.{◌≤◌, length};
 ghost use Rattle.limits.specs.Limits.{positions};
-ghost use Rattle.path_sets.specs.Paths.{Room, OnePath, TwoPaths};
-ghost use Rattle.step_places.specs.Places.{Locates, Places, PlacesAlone};
+ghost use Rattle.path_sets.specs.Paths.{Room, TwoPaths};
+ghost use Rattle.step_places.specs.Places.{Locates, Places};
 
 use limits::Rule;
 use rule_parts::kinds::{PathKind, path_kind};
@@ -44,24 +44,15 @@ pub fn locate(s: &[u8], at: usize, b: usize, places: &mut [usize]) -> Spot
     }
 }
 
-// The offsets of a comparison's steps, 1 to m.
-pub fn places_of(s: &[u8], at: usize, behind: usize) -> [usize; Rule::MAX_POSITIONS]
+// The offsets of the steps, 1 to m, of the two paths that stand at the offsets. Without a second offset the second path is empty.
+pub fn places_of(s: &[u8], at: usize, behind: Option<usize>) -> [usize; Rule::MAX_POSITIONS]
     requires { TwoPaths s.now at behind }
     ensures { Places s.now at behind result }
 {
     let mut places = [0; Rule::MAX_POSITIONS];
     let p = locate(s, at, 1, &mut places);
-    let n = p.count;
-    locate(s, behind, n, &mut places);
-    places
-}
-
-// The same of a comparison with a constant, which has one path.
-pub fn places_of_one(s: &[u8], at: usize) -> [usize; Rule::MAX_POSITIONS]
-    requires { OnePath s.now at }
-    ensures { PlacesAlone s.now at result }
-{
-    let mut places = [0; Rule::MAX_POSITIONS];
-    locate(s, at, 1, &mut places);
+    if let Some(behind) = behind {
+        locate(s, behind, p.count, &mut places);
+    }
     places
 }

@@ -2,13 +2,14 @@
 use Prim.Native.Nat.{ℕ, suc, ◌+◌, ◌≤◌, ◌<◌}
 use native.Mathlib.Omega.{arith}
 use native.Mathlib.Decide.{ℕ_discrete}
+use Rattle.std.specs.Prelude.{Option, Some, None}
 use mathlib.Core.Path.{◌≡◌, refl, sym, ap, subst, ◌∙◌}
 use mathlib.Core.Logic.{◌⊎◌, inl, inr}
 use mathlib.Core.List.{List, [], ◌∷◌, ◌++◌, append-nil}
 use lib.ListN.{length, get_or, set, replicate, length-append, get_or-replicate, get_or-append}
 use lib.Seq.{get_or-set_same, get_or-set_other, get_or-append-add}
 use types.Run.{OneOf}
-use Rattle.xpath.specs.Syntax.{Test, named, and, or, XPath, Step, stay, steps, size}
+use Rattle.xpath.specs.Syntax.{Test, named, and, or, XPath, empty, Step, stay, steps, size}
 use Rattle.positions.specs.Positions.{Numbered}
 use Rattle.positions.proofs.Runs.{num_in, num_split}
 use Rattle.rule_spec.specs.Parts.{tests, test_parts}
@@ -18,8 +19,9 @@ use Rattle.rule_parts.specs.declared.kinds.PathKind.{PathKind}
 use Rattle.rule_parts.specs.declared.kinds.PathKind.TheVariants.{Empty, Stay, Star}
 use Rattle.rule_parts.proofs.Tallying.{count_test}
 use Rattle.rule_parts.proofs.Inner.{and_inner, or_inner}
+use Rattle.path_sets.specs.Paths.{SecondAt, PathsAt}
 use Rattle.test_numbers.specs.Tests.{tests_of, path_tests, test}
-use Rattle.test_numbers.specs.Numbering.{TwoNumbered, NumbersTwo, OneNumbered, NumbersOne}
+use Rattle.test_numbers.specs.Numbering.{Brackets, TwoNumbered, NumbersTwo}
 use Rattle.test_numbers.specs.Walks.{Bracketed, Small, Walked, PathRoom, Walks}
 use Rattle.test_numbers.specs.declared.Next.{Next}
 use Rattle.test_numbers.proofs.Counts.{tests_some, tests_counted}
@@ -213,29 +215,34 @@ module _ (s : List ℕ) where
   clear : Small (replicate 16 0)
   clear i l = let e = get_or-replicate {A = ℕ} 16 i 0 0 l in omega arith
 
-  module _ (at behind k : ℕ) where
-    pair_at_lem : (P R : XPath) (i j : ℕ) → PathAt s P at i → PathAt s R behind j → size P + size R ≤ 14 → k + length (path_tests P ++ path_tests R) ≤ 64
-        → Pair at behind 1 k (steps P ++ steps R) (path_tests P ++ path_tests R)
-    pair_at_lem P R i j a c l r =
-        let n = length-append (steps P) (steps R) in
-        record { first = P; second = R; first_end_lem = i; second_end_lem = j; first_at_lem = a; second_at_lem = c; both = refl; tests = refl; few = omega arith; room = r }
+  module _ (at k : ℕ) {behind : Option ℕ} where
+    pub first_numbered : TwoNumbered s at behind k → PathRoom s at 1 k
+    first_numbered (P, R, a, r) = let l = a.few in let n = length-append (path_tests P) (path_tests R) in (P, a.end, a.first, omega arith, omega arith)
 
-    pub compared : TwoNumbered s at behind k → (xs : List Step) × (Ts : List Test) × Pair at behind 1 k xs Ts
-    compared (P, R, i, j, a, c, l, r) = (steps P ++ steps R, path_tests P ++ path_tests R, pair_at_lem P R i j a c l r)
+    module _ {b : ℕ} (there : behind ≡ Some b) where
+      pair_at_lem : (P R : XPath) → PathsAt s at behind P R → k + length (path_tests P ++ path_tests R) ≤ 64 → Pair at b 1 k (steps P ++ steps R) (path_tests P ++ path_tests R)
+      pair_at_lem P R a r =
+          let l = a.few in let n = length-append (steps P) (steps R) in let (j, c) = subst (SecondAt s R) there a.second in
+          record { first = P; second = R; first_end_lem = a.end; second_end_lem = j; first_at_lem = a.first; second_at_lem = c; both = refl; tests = refl; few = omega arith; room = r }
 
-    pub two_told : {f g : List ℕ} {p q : Next} → Walks s at 1 k (replicate 16 0) f p → Walks s behind p.step p.test f g q → NumbersTwo s at behind k g
-    two_told u v P R i j a c l r = let w = pair_walked at behind 1 k (pair_at_lem P R i j a c l r) u v in record { small = w.small clear; numbered = w.bracketed }
+      pub second_numbered : {f : List ℕ} {p : Next} → TwoNumbered s at behind k → Walks s at 1 k (replicate 16 0) f p → PathRoom s b p.step p.test
+      second_numbered (P, R, a, r) u = second_room at b 1 k (pair_at_lem P R a r) u
 
-  module _ (at k : ℕ) where
-    pub one_room : OneNumbered s at k → PathRoom s at 1 k
-    one_room (P, i, a, l, r) = (P, i, a, omega arith, r)
+      pub two_told : {f g : List ℕ} {p q : Next} → Walks s at 1 k (replicate 16 0) f p → Walks s b p.step p.test f g q → NumbersTwo s at behind k g
+      two_told u v P R a r = let w = pair_walked at b 1 k (pair_at_lem P R a r) u v in record { small = w.small clear; numbered = w.bracketed }
 
-    pub one_told : {f : List ℕ} {p : Next} → Walks s at 1 k (replicate 16 0) f p → NumbersOne s at k f
+    -- nothing is numbered in an empty second path
+    pub alone_told : {f : List ℕ} {p : Next} → behind ≡ None → Walks s at 1 k (replicate 16 0) f p → NumbersTwo s at behind k f
     unfolding path_tests
-    one_told {f} u P i a l r =
-        let w = u P i a (omega arith) r in record {
-          small = w.small clear;
-          numbered =
-              subst (λ xs. Bracketed xs (path_tests P ++ []) 1 k f) (sym (append-nil (steps P)))
-              (subst (λ Ts. Bracketed (steps P) Ts 1 k f) (sym (append-nil (path_tests P))) w.bracketed);
-        }
+    alone_told {f} none u P R a r =
+        subst (λ X. k + length (path_tests P ++ path_tests X) ≤ 64 → Brackets P X k f) (sym (subst (SecondAt s R) none a.second)) alone r
+      where
+        alone : k + length (path_tests P ++ path_tests empty) ≤ 64 → Brackets P empty k f
+        alone r =
+            let l = a.few in let n = length-append (path_tests P) [] in
+            let w = u P a.end a.first (omega arith) (omega arith) in record {
+              small = w.small clear;
+              numbered =
+                  subst (λ xs. Bracketed xs (path_tests P ++ []) 1 k f) (sym (append-nil (steps P)))
+                  (subst (λ Ts. Bracketed (steps P) Ts 1 k f) (sym (append-nil (path_tests P))) w.bracketed);
+            }

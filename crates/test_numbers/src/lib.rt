@@ -6,7 +6,7 @@ ghost use Rattle.limits.specs.Limits.{positions, rule_tests, rule_bytes};
 ghost use Rattle.xpath.specs.Syntax.{Test, and, or};
 ghost use Rattle.rule_parts.specs.Standing.{TestAt};
 ghost use Rattle.test_numbers.specs.Tests.{tests_of};
-ghost use Rattle.test_numbers.specs.Numbering.{TwoNumbered, NumbersTwo, OneNumbered, NumbersOne};
+ghost use Rattle.test_numbers.specs.Numbering.{TwoNumbered, NumbersTwo};
 ghost use Rattle.test_numbers.specs.Walks.{PathRoom, Walks};
 
 use limits::Rule;
@@ -70,25 +70,21 @@ fn number(s: &[u8], at: usize, b: usize, k: usize, numbers: &mut [usize]) -> Nex
     }
 }
 
-// The number of the test in each bracket of two paths, whose tests are numbered from `k` on.
-pub fn bracket_tests(s: &[u8], at: usize, behind: usize, k: usize) -> [usize; Rule::MAX_POSITIONS]
+// The number of the test in each bracket of the two paths that stand at the offsets, whose tests are numbered from `k` on.
+// Without a second offset the second path is empty.
+pub fn bracket_tests(
+    s: &[u8],
+    at: usize,
+    behind: Option<usize>,
+    k: usize,
+) -> [usize; Rule::MAX_POSITIONS]
     requires { TwoNumbered s.now at behind k }
     ensures { NumbersTwo s.now at behind k result }
 {
     let mut numbers = [0; Rule::MAX_POSITIONS];
     let p = number(s, at, 1, k, &mut numbers);
-    let b = p.step;
-    let n = p.test;
-    number(s, behind, b, n, &mut numbers);
-    numbers
-}
-
-// The same for one path.
-pub fn bracket_tests_of_one(s: &[u8], at: usize, k: usize) -> [usize; Rule::MAX_POSITIONS]
-    requires { OneNumbered s.now at k }
-    ensures { NumbersOne s.now at k result }
-{
-    let mut numbers = [0; Rule::MAX_POSITIONS];
-    number(s, at, 1, k, &mut numbers);
+    if let Some(behind) = behind {
+        number(s, behind, p.step, p.test, &mut numbers);
+    }
     numbers
 }
