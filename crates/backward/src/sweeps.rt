@@ -41,10 +41,8 @@ fn fall(p: &mut [u16], n: usize, m: Machine)
     ensures { Fallen m n p.old p.new }
 {
     let mut len = 0;
-    let mut r = n;
-    while 0 < r {
-        len = seed_rank(p, n, m, r - 1, len, Sweeps::ABOVE, r);
-        r -= 1;
+    for r in (0..n).rev() {
+        len = seed_rank(p, n, m, r, len, Sweeps::ABOVE, r + 1);
     }
 }
 

@@ -115,12 +115,8 @@ fn inner_first(order: &mut [usize], count: usize)
     requires { count ≤ length order.old }
     ensures { Falling count order.new }
 {
-    let mut place = 0;
-    let mut k = count;
-    while 0 < k {
-        k -= 1;
-        order[place] = k;
-        place += 1;
+    for (place, k) in order[..count].iter_mut().enumerate() {
+        *k = count - 1 - place;
     }
 }
 

@@ -36,9 +36,7 @@ fn upwards(p: &mut [u16], n: usize) -> usize
     ensures { Passed (Everywhere (Rises n p.old) n) n p.old p.new result }
 {
     let mut r: usize = 0;
-    let mut y = n;
-    while 1 < y {
-        y -= 1;
+    for y in (1..n).rev() {
         r += rise(p, n, y);
     }
     r
