@@ -36,6 +36,7 @@ fn rise(p: &mut [u16], n: usize, m: Machine)
 }
 
 // The ranks from the greatest on. What is noted is one more than a rank.
+// Not one function with `rise`: order, column, word and contract are all others.
 fn fall(p: &mut [u16], n: usize, m: Machine)
     requires { Blank n ABOVE 0 p.old × LinkedBothWays n p.old × Buckets n p.old × (m.second < positions) }
     ensures { Fallen m n p.old p.new }
