@@ -41,9 +41,9 @@ loop-k-preserved c =
 
 -- ── What is returned ──
 pub shape_of-t : goal.shape_of-t
-shape_of-t c = c.loop-k.k-indexnvariant.0
+shape_of-t c = c.loop-k.invariant.0
 
 pub returns : goal.returns
 returns c ns T queue =
     let h = c.loop-k-test.false in
-    drives queue c.loop-k.k-index (omega arith) (c.loop-k.k-indexnvariant.1 ns T queue)
+    drives queue c.loop-k.k-index (omega arith) (c.loop-k.invariant.1 ns T queue)
