@@ -1,13 +1,12 @@
 -- Laws of the rows that become 0.
 use Prim.Native.Nat.{ℕ, suc, ◌+◌, ◌*◌, ◌/◌, ◌%◌, ◌≤◌, ◌<◌}
-use mathlib.Core.Path.{◌≡◌, sym, ap, ◌∙◌, subst}
+use mathlib.Core.Path.{◌≡◌, sym, ap, ◌∙◌}
 use mathlib.Core.Logic.{◌≢◌, ◌⊎◌, inl, inr, ⊎_elim}
 use mathlib.Core.List.{List}
 use native.Mathlib.Nat.{eq-or-lt_of_le, mul-le-mul_right, div-add-mod', div-lt_iff_lt-mul, mod-lt}
 use native.Mathlib.Omega.{arith}
-use lib.ListN.{length, get_or, set}
-use lib.Seq.{get_or-set_same, get_or-set_other}
-use Rattle.layout.proofs.Frames.{frame_none, frame_then, frame_wider, set_frame, same_none, same_then, same_wider}
+use lib.ListN.{get_or}
+use Rattle.layout.proofs.Frames.{same_none, same_then, same_wider}
 use Rattle.matrices.proofs.Drawing.{redrawn_same}
 use Rattle.layout.specs.Blocks.{Rest, rows_at, Aside}
 use Rattle.equalities.specs.Steps.{Zeroed, Cleared, Empty}

@@ -2,13 +2,9 @@
 use mathlib.Core.Path.{◌≡◌}
 use Prim.Native.Nat.{ℕ, ◌+◌, ◌*◌, ◌≤◌, ◌<◌}
 use mathlib.Core.Logic.{◌≢◌, inl, inr}
-use mathlib.Core.List.{List}
-use lib.ListN.{length}
 use native.Mathlib.Omega.{arith}
-use native.Mathlib.Nat.{mul-le-mul_right}
 use native.Mathlib.Decide.{dec_le}
 use Rattle.matrices.specs.Matrices.{Apart}
-use Rattle.powers.specs.Blocks.{BlockRoom}
 use Rattle.powers.proofs.Places.{block_before}
 use Rattle.layout.specs.Blocks.{BLOCKS, block_at, down_at, up_at, snippet_at, upper_at}
 

@@ -40,9 +40,6 @@ loop-k-preserved c =
     )
 
 -- ── What is returned ──
-pub shape_of-t : goal.shape_of-t
-shape_of-t c = c.loop-k.invariant.0
-
 pub returns : goal.returns
 returns c ns T queue =
     let h = c.loop-k-test.false in

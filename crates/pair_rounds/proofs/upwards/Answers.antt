@@ -17,8 +17,5 @@ overflow_add-r c = omega (arith, c.requires.few, passed_small c.loop-y.invariant
 pub loop-y-preserved : goal.loop-y-preserved
 loop-y-preserved c = up_more (Rises _) c.loop-y.invariant c.rise-r.ensures
 
-pub shape_of-p : goal.shape_of-p
-shape_of-p c = c.loop-y.invariant.grown.framed.long
-
 pub returns : goal.returns
 returns c = passed_map (λ f u h l. f u h (omega arith) l) c.loop-y.invariant

@@ -17,8 +17,5 @@ loop-r-preserved c =
     let x = c.requires in let l = c.loop-r-test.true in
     falling_step x.3 x.0.work c.loop-r.invariant (omega arith) (omega arith) c.seed_rank-len.ensures
 
-pub shape_of-p : goal.shape_of-p
-shape_of-p c = c.loop-r.invariant.added.spared.same.long
-
 pub returns : goal.returns
 returns c = let l = c.loop-r-test.false in falling_all c.loop-r.invariant (omega arith)
