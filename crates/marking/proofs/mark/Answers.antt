@@ -1,5 +1,5 @@
 -- `marking::mark` meets its contract.
-use Rattle.std.proofs.Common.{◌≡◌, length, take, arith, ap, ◌∙◌}
+use Rattle.std.proofs.Common.{take, arith, ap, ◌∙◌}
 use Rattle.std.proofs.lemmas.List.{length-take-le}
 use Rattle.bits.specs.Sets.{one}
 use Rattle.marking.proofs.Marking.{byte_one, marking_none, marking_step, marking_all}
