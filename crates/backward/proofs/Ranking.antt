@@ -1,5 +1,5 @@
 -- The sweeps by rising and by falling rank, and the ranges that they give.
-use Prim.Native.Nat.{ℕ, suc, ◌+◌, ◌-◌, ◌*◌, ◌≤◌, ◌<◌}
+use Prim.Native.Nat.{ℕ, suc, ◌+◌, ◌*◌, ◌≤◌, ◌<◌}
 use mathlib.Core.Path.{◌≡◌, sym, ap, ◌∙◌, subst}
 use mathlib.Core.Logic.Iff
 use mathlib.Core.Logic.{◌⊎◌, inl, inr, ⊎_elim, ◌↔◌, ◌≢◌}
@@ -69,20 +69,21 @@ Falling m n r len p₀ p = Sweeping (λ a b. b ≤ a) 0 (λ w. suc (word p₀ n 
 pub falling_none : {m : Machine} {n : ℕ} {p : List ℕ} → Blank n ABOVE 0 p → LinkedBothWays n p → Falling m n n 0 p p
 falling_none b linked = sweeping_none b linked (λ w l (d, k). absurd (omega arith))
 
-pub falling_step : {m : Machine} {n r len len' : ℕ} {p₀ p p' : List ℕ} → m.second < 16 → Work n 0 p₀ → Falling m n r len p₀ p → 0 < r → r ≤ n → Seeded m n (λ u. word p n RANK u ≡ r - 1) ABOVE r len len' p p'
-    → Falling m n (r - 1) len' p₀ p'
-falling_step {m} {n} {r} {p₀ = p₀} {p = p} small empty s some below g =
-    sweeping_step small empty s g (λ w l e. let z = rank w l in omega arith) (omega arith) (λ w u l h (d, k) e. let z = rank u h in omega arith) both
+-- s is the rank after r
+pub falling_step : {m : Machine} {n r s len len' : ℕ} {p₀ p p' : List ℕ} → m.second < 16 → Work n 0 p₀ → Falling m n s len p₀ p → s ≡ r + 1 → r < n
+    → Seeded m n (λ u. word p n RANK u ≡ r) ABOVE (r + 1) len len' p p' → Falling m n r len' p₀ p'
+falling_step {m} {n} {r} {s} {p₀ = p₀} {p = p} small empty f after below g =
+    sweeping_step small empty f g (λ w l e. let z = rank w l in omega arith) (omega arith) (λ w u l h (d, k) e. let z = rank u h in omega arith) both
   where
     rank : (w : ℕ) → w < n → word p n RANK w ≡ word p₀ n RANK w
-    rank w l = spared_front s.added.spared (cell n RANK w) (omega arith)
+    rank w l = spared_front f.added.spared (cell n RANK w) (omega arith)
 
-    part : (w : ℕ) → w < n → r - 1 ≤ word p₀ n RANK w → word p₀ n RANK w < n → Dec (word p₀ n RANK w < r) → ((r ≤ word p₀ n RANK w) × (word p₀ n RANK w < n)) ⊎ (word p n RANK w ≡ r - 1)
+    part : (w : ℕ) → w < n → r ≤ word p₀ n RANK w → word p₀ n RANK w < n → Dec (word p₀ n RANK w < s) → ((s ≤ word p₀ n RANK w) × (word p₀ n RANK w < n)) ⊎ (word p n RANK w ≡ r)
     part w l h i (yes k) = let z = rank w l in inr (omega arith)
     part w l h i (no k) = inl (omega arith, i)
 
-    both : (w : ℕ) → w < n → (((r ≤ word p₀ n RANK w) × (word p₀ n RANK w < n)) ⊎ (word p n RANK w ≡ r - 1)) ↔ ((r - 1 ≤ word p₀ n RANK w) × (word p₀ n RANK w < n))
-    both w l = (⊎_elim (λ (k, i). (omega arith, i)) (λ e. let z = rank w l in (omega arith, omega arith)), λ (h, i). part w l h i (dec_lt (word p₀ n RANK w) r))
+    both : (w : ℕ) → w < n → (((s ≤ word p₀ n RANK w) × (word p₀ n RANK w < n)) ⊎ (word p n RANK w ≡ r)) ↔ ((r ≤ word p₀ n RANK w) × (word p₀ n RANK w < n))
+    both w l = (⊎_elim (λ (k, i). (omega arith, i)) (λ e. let z = rank w l in (omega arith, omega arith)), λ (h, i). part w l h i (dec_lt (word p₀ n RANK w) s))
 
 pub falling_all : {m : Machine} {n r len : ℕ} {p₀ p : List ℕ} → Falling m n r len p₀ p → r ≤ 0 → Fallen m n p₀ p
 falling_all s l = sweeping_all s (λ w h. (λ (d, k). k, λ k. (omega arith, k)))

@@ -36,15 +36,14 @@ fn rise(p: &mut [u16], n: usize, m: Machine)
 }
 
 // The ranks from the greatest on. What is noted is one more than a rank.
+// Not one function with `rise`: order, column, word and contract are all others.
 fn fall(p: &mut [u16], n: usize, m: Machine)
     requires { Blank n ABOVE 0 p.old × LinkedBothWays n p.old × Buckets n p.old × (m.second < positions) }
     ensures { Fallen m n p.old p.new }
 {
     let mut len = 0;
-    let mut r = n;
-    while 0 < r {
-        len = seed_rank(p, n, m, r - 1, len, Sweeps::ABOVE, r);
-        r -= 1;
+    for r in (0..n).rev() {
+        len = seed_rank(p, n, m, r, len, Sweeps::ABOVE, r + 1);
     }
 }
 

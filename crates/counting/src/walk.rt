@@ -12,6 +12,7 @@ use reach::expand::expand;
 use reach::list::{add, entry_at};
 
 // What a walk leaves: whether it has found as many nodes as are asked for, and how many entries its list has.
+// Not a Result or an Option: the entries are forgotten whether enough was found or not, so their number is asked for in both cases.
 #[derive(Clone, Copy)]
 pub struct Trail {
     pub enough: bool,

@@ -102,8 +102,7 @@ fn settle_tests(
     ensures { (ns : List Library.Node) (T : Test) → Queue s.now rule.now ns T n t.old offsets.now order.now → Drives e ns n T order.now t.old t.new result }
 {
     let mut snippets = 0;
-    for i in 0..order.len() {
-        let k = order[i];
+    for &k in order {
         let own = settle(e, s, rule, t, n, offsets[k], k);
         snippets += own;
     }
@@ -115,12 +114,8 @@ fn inner_first(order: &mut [usize], count: usize)
     requires { count ≤ length order.old }
     ensures { Falling count order.new }
 {
-    let mut place = 0;
-    let mut k = count;
-    while 0 < k {
-        k -= 1;
-        order[place] = k;
-        place += 1;
+    for (place, k) in order[..count].iter_mut().enumerate() {
+        *k = count - 1 - place;
     }
 }
 

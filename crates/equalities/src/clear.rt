@@ -12,9 +12,7 @@ fn clear_rows(p: &mut [u16], at: usize)
     requires { at + positions ≤ length p.old }
     ensures { Zeroed at positions p.old p.new }
 {
-    for i in 0..Rule::MAX_POSITIONS {
-        p[at + i] = 0;
-    }
+    p[at..at + Rule::MAX_POSITIONS].fill(0);
 }
 
 // Those of all exponents below `b` and all nodes: the blocks stand one behind the other.

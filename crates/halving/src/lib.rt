@@ -15,9 +15,7 @@ pub fn halve(p: &mut [u16], n: usize, b: usize)
     requires { BlockRoom n b p.old }
     ensures { Halving n b p.old p.new }
 {
-    let mut k = b;
-    while 1 < k {
-        k -= 1;
+    for k in (1..b).rev() {
         pass(p, n, k - 1);
     }
 }

@@ -26,6 +26,7 @@ fn add_upper(p: &mut [u16], source: usize, down: usize, to: usize)
 }
 
 // The matrix at `to` gets the lower halves of the snippets at `source`: each first position is taken on along `up`.
+// Not one function with `add_upper`: there the snippets give the rows and the way is the matrix, here it is the other way round, so a flag would exchange all but the last line.
 fn add_lower(p: &mut [u16], source: usize, up: usize, to: usize)
     requires { Apart source to × Apart up to × (source + positions ≤ length p.old) × (up + positions ≤ length p.old) × (to + positions ≤ length p.old) }
     ensures { Drawing (With p.old to (Lower p.old source up)) to positions p.old p.new }

@@ -1,17 +1,16 @@
 -- The loop that marks the nodes one by one.
-use Prim.Native.Nat.{ℕ, ◌+◌, ◌≤◌, ◌<◌}
+use Prim.Native.Nat.{ℕ, ◌+◌, ◌-◌, ◌≤◌, ◌<◌}
 use mathlib.Core.Path.{◌≡◌, refl, sym, ap, ◌∙◌, subst}
 use mathlib.Core.Logic.{◌⊎◌, inl, inr}
 use mathlib.Core.Bool.{Bool, true, false, false≢true}
-use mathlib.Core.List.{List, [], ◌∷◌}
-use lib.ListN.{length, get_or, set, length-set}
+use mathlib.Core.List.{List, [], ◌∷◌, ◌++◌}
+use lib.ListN.{length, get_or, set, drop, length-set, length-append, length-drop, get_or-append}
 use lib.Seq.{get_or-set_same, get_or-set_other}
+use Rattle.std.proofs.lemmas.List.{get_or-append_right, get_or-drop}
 use native.Mathlib.Omega.{arith}
 use mir.Val.{bool_byte}
 use native.Mathlib.Decide.{ℕ_discrete}
 use Rattle.lists.specs.Lists.{Number, Occurs}
-use Rattle.layout.specs.Words.{Kept}
-use Rattle.layout.proofs.Frames.{frame_none, frame_then}
 use Rattle.bits.specs.Sets.{one}
 use Rattle.test_bits.specs.Columns.{held}
 use Rattle.marking.specs.Marking.{Marked}
@@ -59,57 +58,66 @@ passing_step b i c h = go (b i) refl
         every v (inr p) q = h.all v p
 
 -- a truth value as a byte
-byte_one : (b : Bool) → bool_byte b ≡ one b
+pub byte_one : (b : Bool) → bool_byte b ≡ one b
 byte_one true = refl
 byte_one false = refl
 
-pub byte_small : (b : Bool) → bool_byte b ≤ 1
-byte_small true = omega arith
-byte_small false = omega arith
+one_small : (b : Bool) → one b ≤ 1
+one_small true = omega arith
+one_small false = omega arith
 
 -- ── The loop ──
 -- the first i of n nodes are marked, and c of them hold
-pub record Marking (n i c : ℕ) (t before after : List ℕ) : Type 0 where
+pub record Marking (n i c : ℕ) (t marks : List ℕ) : Type 0 where
   pub inside : i ≤ n
   pub few : c ≤ i
-  pub marked : (v : ℕ) → v < i → get_or after v 0 ≡ one (held t n 0 v)
-  pub kept : Kept n before after
+  pub long : length marks ≡ n
+  pub marked : (v : ℕ) → v < i → get_or marks v 0 ≡ one (held t n 0 v)
   pub count : Number (Passing (λ v. held t n 0 v) i) c
 
-pub marking_none : (n : ℕ) (t marks : List ℕ) → Marking n 0 0 t marks marks
-marking_none n t marks = record {
+pub marking_none : (n : ℕ) (t marks : List ℕ) → length marks ≡ n → Marking n 0 0 t marks
+marking_none n t marks e = record {
   inside = omega arith;
   few = omega arith;
+  long = e;
   marked = λ v l. absurd (omega arith);
-  kept = frame_none marks;
   count = passing_none (λ v. held t n 0 v);
 }
 
-pub marking_step : {n i c : ℕ} {t before after : List ℕ} → n ≤ length before → Marking n i c t before after → i < n
-    → {b : Bool} → b ≡ held t n 0 i → Marking n (i + 1) (c + bool_byte b) t before (set after i (bool_byte b))
-marking_step {n} {i} {c} {t} {before} {after} room m l {b} q =
-    let few = m.few in let small = byte_small b in
+pub marking_step : {n i c x y : ℕ} {t marks : List ℕ} → Marking n i c t marks → i < n → x ≡ one (held t n 0 i) → y ≡ one (held t n 0 i)
+    → Marking n (i + 1) (c + y) t (set marks i x)
+marking_step {n} {i} {c} {x} {y} {t} {marks} m l e f =
+    let few = m.few in let small = one_small (held t n 0 i) in
     record {
       inside = omega arith;
       few = omega arith;
+      long = length-set marks i x ∙ m.long;
       marked = λ v h. here v h (ℕ_discrete v i);
-      kept = frame_then m.kept (record { long = length-set after i (bool_byte b); front = λ k h. absurd (omega arith); behind = λ k h. get_or-set_other after i k (bool_byte b) 0 (omega arith) });
-      count = rw value (passing_step (λ v. held t n 0 v) i c m.count);
+      count = rw f (passing_step (λ v. held t n 0 v) i c m.count);
     }
   where
-    value : bool_byte b ≡ one (held t n 0 i)
-    value = byte_one b ∙ ap one q
+    here : (v : ℕ) → v < i + 1 → Dec (v ≡ i) → get_or (set marks i x) v 0 ≡ one (held t n 0 v)
+    here v h (yes o) = let long = m.long in rw o (get_or-set_same marks i x 0 (omega arith) ∙ e)
+    here v h (no o) = get_or-set_other marks i v x 0 o ∙ m.marked v (omega arith)
 
-    here : (v : ℕ) → v < i + 1 → Dec (v ≡ i) → get_or (set after i (bool_byte b)) v 0 ≡ one (held t n 0 v)
-    here v h (yes e) = let long = m.kept.long in rw e (get_or-set_same after i (bool_byte b) 0 (omega arith) ∙ value)
-    here v h (no f) = get_or-set_other after i v (bool_byte b) 0 f ∙ m.marked v (omega arith)
-
-pub marking_all : {n i c : ℕ} {t before after : List ℕ} → Marking n i c t before after → n ≤ i → Marked n t before after c
-marking_all {n} {i} {c} {t} {before} {after} m l =
+-- the marks that the loop went over are the first n, and all behind them are as before
+pub marking_all : {n i c : ℕ} {t before marks : List ℕ} → n ≤ length before → Marking n i c t marks → n ≤ i → Marked n t before (marks ++ drop n before) c
+marking_all {n} {i} {c} {t} {before} {marks} room m l =
     let h = m.inside in
+    let long = m.long in
     let e : i ≡ n = omega arith in
     record {
-      marked = λ v r. m.marked v (omega arith);
-      kept = m.kept;
+      marked = λ v r. get_or-append marks (drop n before) 0 v (omega arith) ∙ m.marked v (omega arith);
+      kept = record {
+        long = simp (length-append, length-drop) (omega arith);
+        front = λ k r. absurd (omega arith);
+        behind = λ k r. behind k r;
+      };
       count = subst (λ j. Number (Passing (λ v. held t n 0 v) j) c) e m.count;
     }
+  where
+    behind : (k : ℕ) → n ≤ k → get_or (marks ++ drop n before) k 0 ≡ get_or before k 0
+    behind k r =
+        let long = m.long in
+        let o : n + (k - n) ≡ k = omega arith in
+        get_or-append_right marks (drop n before) n k 0 long r ∙ get_or-drop n before (k - n) 0 ∙ ap (λ j. get_or before j 0) o

@@ -13,10 +13,10 @@ pub fn mark(t: &[u16], n: usize, marks: &mut [u8]) -> usize
     ensures { Marked n t.now marks.old marks.new result }
 {
     let mut count = 0;
-    for v in 0..n {
+    for (v, mark) in marks[..n].iter_mut().enumerate() {
         let h = holds(t, n, 0, v);
-        marks[v] = h as u8;
-        count += h as usize;
+        *mark = u8::from(h);
+        count += usize::from(h);
     }
     count
 }
@@ -26,7 +26,5 @@ pub fn clear(t: &mut [u16], m: usize)
     requires { m ≤ length t.old }
     ensures { (take m t.new ≡ replicate m 0) × (drop m t.new ≡ drop m t.old) }
 {
-    for i in 0..m {
-        t[i] = 0;
-    }
+    t[..m].fill(0);
 }

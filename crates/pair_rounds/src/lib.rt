@@ -21,6 +21,7 @@ fn rise(p: &mut [u16], n: usize, y: usize) -> usize
 }
 
 // Node `y` gets what comes to the pairs of its parent.
+// Not one function with `rise`: the edge and both its ends are others, and those are all that the call of `widen` is given.
 fn fall(p: &mut [u16], n: usize, y: usize) -> usize
     requires { Ready n p.old × (0 < y) × (y < n) }
     ensures { Passed (Falls n p.old y) n p.old p.new result }
@@ -36,15 +37,14 @@ fn upwards(p: &mut [u16], n: usize) -> usize
     ensures { Passed (Everywhere (Rises n p.old) n) n p.old p.new result }
 {
     let mut r: usize = 0;
-    let mut y = n;
-    while 1 < y {
-        y -= 1;
+    for y in (1..n).rev() {
         r += rise(p, n, y);
     }
     r
 }
 
 // From the root down to the last node.
+// Not one function with `upwards`: it would take the order and the step, and its contract would have to speak of any.
 fn downwards(p: &mut [u16], n: usize) -> usize
     requires { Ready n p.old }
     ensures { Passed (Everywhere (Falls n p.old) n) n p.old p.new result }

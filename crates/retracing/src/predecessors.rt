@@ -24,8 +24,8 @@ pub fn predecessors(rows: [u16; Rule::MAX_POSITIONS], w: u16) -> u16
     ensures { Exactly result (Precedes rows w) }
 {
     let mut r = 0;
-    for i in 0..Rule::MAX_POSITIONS {
-        r = with_row(r, rows[i], i, w);
+    for (i, row) in rows.iter().enumerate() {
+        r = with_row(r, *row, i, w);
     }
     r
 }

@@ -17,10 +17,7 @@ fn one_if_has(w: u16, b: usize) -> usize
     requires { b < positions }
     ensures { (result ≡ one (bit w b)) × (result ≤ 1) }
 {
-    if has(w, b as u16) {
-        return 1;
-    }
-    0
+    usize::from(has(w, b as u16))
 }
 
 // The answer of node `v`.

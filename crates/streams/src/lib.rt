@@ -28,19 +28,15 @@ pub struct Bounds {
 pub fn split(input: &[u8]) -> Bounds
     ensures { SplitAt input.now result.rule result.document }
 {
-    let mut i = 0;
-    while i < input.len() {
-        if input[i] == LF {
-            return Bounds {
-                rule: i,
-                document: i + 1,
-            };
-        }
-        i += 1;
-    }
-    Bounds {
-        rule: i,
-        document: i,
+    match input.iter().position(|b| *b == LF) {
+        Some(i) => Bounds {
+            rule: i,
+            document: i + 1,
+        },
+        None => Bounds {
+            rule: input.len(),
+            document: input.len(),
+        },
     }
 }
 
@@ -48,10 +44,7 @@ pub fn split(input: &[u8]) -> Bounds
 pub fn next_marked(marks: &[u8], from: usize) -> usize
     ensures { NextMarked marks.now from result }
 {
-    for node in from..marks.len() {
-        if marks[node] == 1 {
-            return node;
-        }
-    }
-    marks.len()
+    (from..marks.len())
+        .find(|node| marks[*node] == 1)
+        .unwrap_or(marks.len())
 }

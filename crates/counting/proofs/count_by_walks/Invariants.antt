@@ -1,5 +1,4 @@
 -- `counting::count_by_walks` meets its contract.
-use Prim.Native.Nat.{◌-◌}
 use Rattle.counting.proofs.Counting.{Counting}
 use Rattle.counting.proofs.count_by_walks.Given as goal
 

@@ -8,29 +8,11 @@ use Rattle.halving.specs.Halving.{Counts}
 use Rattle.halving.proofs.Counting.{total, total_more, total_le, total_counts}
 use Rattle.halving.proofs.count.Goals as goal
 
-pub overflow_mul-blocks : goal.overflow_mul-blocks
-overflow_mul-blocks c = omega arith
-
 pub loop-i-init : goal.loop-i-init
 unfolding total
 loop-i-init c = (omega arith, refl)
 
 -- ── Counting one block: sums that fit ──
-pub overflow_mul-n : goal.overflow_mul-n
-overflow_mul-n c = omega arith
-
-pub overflow_mul-i : goal.overflow_mul-i
-overflow_mul-i c = omega arith
-
-pub overflow_add-n : goal.overflow_add-n
-overflow_add-n c = omega arith
-
-pub overflow_add-n-in-loop-i : goal.overflow_add-n-in-loop-i
-overflow_add-n-in-loop-i c = omega arith
-
-pub size-r-requires : goal.size-r-requires
-size-r-requires c = omega arith
-
 pub overflow_add-r : goal.overflow_add-r
 overflow_add-r c =
     let x = c.args in

@@ -1,5 +1,5 @@
 -- `halving::count` meets its contract.
-use Prim.Native.Nat.{◌-◌, ◌≤◌}
+use Prim.Native.Nat.{◌≤◌}
 use mathlib.Core.Path.{◌≡◌}
 use Rattle.halving.proofs.Counting.{total}
 use Rattle.halving.proofs.count.Given as goal

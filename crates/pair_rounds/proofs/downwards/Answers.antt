@@ -17,8 +17,5 @@ overflow_add-r c = omega (arith, c.requires.few, passed_small c.loop-y.invariant
 pub loop-y-preserved : goal.loop-y-preserved
 loop-y-preserved c = (omega arith, down_more (Falls _) c.loop-y.invariant.1 c.fall-r.ensures)
 
-pub shape_of-p : goal.shape_of-p
-shape_of-p c = c.loop-y.invariant.1.grown.framed.long
-
 pub returns : goal.returns
 returns c = passed_map (λ f u h l. f u h (omega arith)) c.loop-y.invariant.1

@@ -1,5 +1,5 @@
 -- `pair_rounds::downwards` meets its contract.
-use Prim.Native.Nat.{◌<◌, ◌-◌}
+use Prim.Native.Nat.{◌<◌}
 use Rattle.pair_rounds.specs.Rounds.{Passed, Falls}
 use Rattle.pairs.specs.Growing.{Everywhere}
 use Rattle.pair_rounds.proofs.downwards.Given as goal

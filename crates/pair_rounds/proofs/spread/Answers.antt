@@ -16,9 +16,3 @@ loop-r-smaller c = omega (arith, round_less c.round-r.ensures)
 
 pub loop-r-preserved : goal.loop-r-preserved
 loop-r-preserved c = (grown_then c.loop-r.invariant.0 c.round-r.ensures.grown, passed_still c.round-r.ensures)
-
-pub shape_of-p : goal.shape_of-p
-shape_of-p c = c.loop-r.invariant.0.framed.long
-
-pub returns : goal.returns
-returns c = (c.loop-r.invariant.0, c.loop-r.invariant.1 (omega arith))

@@ -6,25 +6,16 @@ use Rattle.pair_rounds.proofs.Passing.{passed_map, passed_none, passed_small, up
 use Rattle.pair_rounds.proofs.upwards.Goals as goal
 
 pub loop-y-init : goal.loop-y-init
-loop-y-init c = (omega arith, passed_none _ _ (λ u h k l. absurd (let f : ⊥ = omega arith in f)))
-
-pub overflow_sub-y : goal.overflow_sub-y
-overflow_sub-y c = omega arith
+loop-y-init c = passed_none _ _ (λ u h k l. absurd (let f : ⊥ = omega arith in f))
 
 pub rise-r-requires : goal.rise-r-requires
-rise-r-requires c = (ready_kept c.loop-y.invariant.1.grown.framed c.requires, omega arith, omega arith)
+rise-r-requires c = (ready_kept c.loop-y.invariant.grown.framed c.requires, omega arith, omega arith)
 
 pub overflow_add-r : goal.overflow_add-r
-overflow_add-r c = omega (arith, c.requires.few, passed_small c.loop-y.invariant.1, passed_small c.rise-r.ensures)
-
-pub loop-y-smaller : goal.loop-y-smaller
-loop-y-smaller c = omega arith
+overflow_add-r c = omega (arith, c.requires.few, passed_small c.loop-y.invariant, passed_small c.rise-r.ensures)
 
 pub loop-y-preserved : goal.loop-y-preserved
-loop-y-preserved c = (omega arith, up_more (Rises _) c.loop-y.invariant.1 c.rise-r.ensures)
-
-pub shape_of-p : goal.shape_of-p
-shape_of-p c = c.loop-y.invariant.1.grown.framed.long
+loop-y-preserved c = up_more (Rises _) c.loop-y.invariant c.rise-r.ensures
 
 pub returns : goal.returns
-returns c = passed_map (λ f u h l. f u h (omega arith) l) c.loop-y.invariant.1
+returns c = passed_map (λ f u h l. f u h (omega arith) l) c.loop-y.invariant

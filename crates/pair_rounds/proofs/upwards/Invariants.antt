@@ -4,7 +4,4 @@ use Rattle.pair_rounds.specs.Rounds.{Passed, Rises}
 use Rattle.pair_rounds.proofs.upwards.Given as goal
 
 abbrev pub invariant-loop-y : goal.invariant-loop-y
-invariant-loop-y l = (l.y ≤ l.n) × Passed ((u : ℕ) → 0 < u → l.y ≤ u → u < l.n → Rises l.n l.initial.p u) l.n l.initial.p l.p l.r
-
-abbrev pub decreases-loop-y : goal.decreases-loop-y
-decreases-loop-y l = l.y
+invariant-loop-y l = Passed ((u : ℕ) → 0 < u → l.y ≤ u → u < l.n → Rises l.n l.initial.p u) l.n l.initial.p l.p l.r

@@ -1,15 +1,17 @@
 -- `streams::split` meets its contract.
-use Rattle.streams.proofs.Splitting.{searched_none, searched_more, split_found, split_none}
+use Rattle.std.proofs.Common.{rules, ◌≡◌, ◌<◌, length, ℕ, get_or}
+use Rattle.streams.specs.Input.{lf}
+use Rattle.streams.proofs.Splitting.{split_found, split_none}
 use Rattle.streams.proofs.split.Goals as goal
 
-pub loop-i-init : goal.loop-i-init
-loop-i-init c = searched_none c.args.input.now
+pub returns-in-Some : goal.returns-in-Some
+returns-in-Some c =
+    let s = c.args.input.now in
+    let found : (c.in-Some.i < length s) × (get_or s c.in-Some.i 0 ≡ lf) × ((k : ℕ) → k < c.in-Some.i → get_or s k 0 ≡ lf → ⊥) = search rules in
+    split_found s c.in-Some.i found.0 found.1 found.2
 
-pub returns-then-input-i-eq-LF : goal.returns-then-input-i-eq-LF
-returns-then-input-i-eq-LF c = split_found c.loop-i.invariant c.loop-i-test.true c.if-input-i-eq-LF.true
-
-pub loop-i-preserved : goal.loop-i-preserved
-loop-i-preserved c = searched_more c.loop-i.invariant c.loop-i-test.true c.if-input-i-eq-LF.false
-
-pub returns : goal.returns
-returns c = split_none c.loop-i.invariant c.loop-i-test.false
+pub returns-in-None : goal.returns-in-None
+returns-in-None c =
+    let s = c.args.input.now in
+    let none : (k : ℕ) → k < length s → get_or s k 0 ≡ lf → ⊥ = search rules in
+    split_none s none

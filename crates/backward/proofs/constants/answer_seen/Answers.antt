@@ -15,12 +15,6 @@ loop-v-init c = let x = c.args in telling_none x.n (λ u. Seen x.p.now x.n u 0) 
 pub get-seen-requires : goal.get-seen-requires
 get-seen-requires c = let s = telling_space c.loop-v.invariant c.requires in let r = s.room in (omega arith, c.loop-v-test.true, omega arith)
 
-pub overflow_cast-seen : goal.overflow_cast-seen
-overflow_cast-seen c = let h = c.get-seen.ensures.1 in omega arith
-
-pub has-requires : goal.has-requires
-has-requires c = omega arith
-
 pub answer-requires : goal.answer-requires
 answer-requires c = (telling_space c.loop-v.invariant c.requires, c.loop-v-test.true)
 
@@ -30,9 +24,6 @@ loop-v-preserved c =
     let l = c.loop-v-test.true in let x = c.args in
     let e : h.result ≡ bit (word x.p.now x.n SEEN c.loop-v.v) 0 = h.ensures ∙ ap (λ (y : ℕ). bit y 0) (s.ensures.0 ∙ c.loop-v.invariant.kept.behind (cell x.n SEEN c.loop-v.v) (omega arith)) in
     telling_step h.result c.loop-v.invariant l (λ q. sym e ∙ q, λ q. e ∙ q) c.answer.ensures
-
-pub shape_of-p : goal.shape_of-p
-shape_of-p c = c.loop-v.invariant.kept.long
 
 pub returns : goal.returns
 returns c = telling_all c.loop-v.invariant c.loop-v-test.false

@@ -1,5 +1,4 @@
 -- `backward::constants::answer_seen` meets its contract.
-use Prim.Native.Nat.{◌-◌}
 use Rattle.reach.specs.Work.{Seen}
 use Rattle.backward.proofs.Telling.{Telling}
 use Rattle.backward.proofs.constants.answer_seen.Given as goal

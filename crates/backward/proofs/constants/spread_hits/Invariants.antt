@@ -1,5 +1,4 @@
 -- `backward::constants::spread_hits` meets its contract.
-use Prim.Native.Nat.{◌-◌}
 use Rattle.backward.proofs.Hitting.{Hitting}
 use Rattle.backward.proofs.constants.spread_hits.Given as goal
 

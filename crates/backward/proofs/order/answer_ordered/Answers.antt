@@ -19,9 +19,6 @@ range_at-b-requires c =
     let s = telling_space c.loop-v.invariant c.requires in let r = s.room in
     (omega arith, c.loop-v-test.true, omega arith)
 
-pub ordered-requires : goal.ordered-requires
-ordered-requires c = (c.range_at-a.ensures.1, c.range_at-b.ensures.1)
-
 pub answer-requires : goal.answer-requires
 answer-requires c =
     (telling_space c.loop-v.invariant c.requires, c.loop-v-test.true)
@@ -32,9 +29,6 @@ loop-v-preserved c =
     let same = telling_range c.loop-v.invariant v in
     telling_step c.ordered.result c.loop-v.invariant c.loop-v-test.true
     (subst₂ (λ y z. (c.ordered.result ≡ true) ↔ Across x.o y z) (c.range_at-a.ensures.0 ∙ same 0) (c.range_at-b.ensures.0 ∙ same 1) c.ordered.ensures) c.answer.ensures
-
-pub shape_of-p : goal.shape_of-p
-shape_of-p c = c.loop-v.invariant.kept.long
 
 pub returns : goal.returns
 returns c = telling_all c.loop-v.invariant c.loop-v-test.false

@@ -1,5 +1,4 @@
 -- `backward::order::answer_ordered` meets its contract.
-use Prim.Native.Nat.{◌-◌}
 use Rattle.rank_sets.specs.Ranges.{Across}
 use Rattle.backward.specs.Sweeps.{range_of}
 use Rattle.backward.proofs.Telling.{Telling}

@@ -5,29 +5,17 @@ use Rattle.backward.proofs.Ranking.{falling_none, falling_step, falling_all, spa
 use Rattle.backward.proofs.sweeps.fall.Goals as goal
 
 pub loop-r-init : goal.loop-r-init
-loop-r-init c = let x = c.requires in (omega arith, falling_none x.0 x.1)
-
-pub overflow_sub-r : goal.overflow_sub-r
-overflow_sub-r c = let l = c.loop-r-test.true in omega arith
+loop-r-init c = let x = c.requires in falling_none x.0 x.1
 
 pub seed_rank-len-requires : goal.seed_rank-len-requires
 seed_rank-len-requires c =
-    let b = c.loop-r.invariant in let s = b.1 in let i = b.0 in let x = c.requires in let few = s.added.work.space.few in let l = c.loop-r-test.true in
+    let s = c.loop-r.invariant in let x = c.requires in let few = s.added.work.space.few in let l = c.loop-r-test.true in
     (s.added.work, s.linked, s.closed, spared_buckets ABOVE (omega arith) s.added.spared x.2, omega arith, x.3, (omega arith, omega arith), omega arith)
-
-pub overflow_sub-r-in-loop-r : goal.overflow_sub-r-in-loop-r
-overflow_sub-r-in-loop-r c = let l = c.loop-r-test.true in omega arith
-
-pub loop-r-smaller : goal.loop-r-smaller
-loop-r-smaller c = let l = c.loop-r-test.true in omega arith
 
 pub loop-r-preserved : goal.loop-r-preserved
 loop-r-preserved c =
-    let i = c.loop-r.invariant.0 in let x = c.requires in let l = c.loop-r-test.true in
-    (omega arith, falling_step x.3 x.0.work c.loop-r.invariant.1 (omega arith) i c.seed_rank-len.ensures)
-
-pub shape_of-p : goal.shape_of-p
-shape_of-p c = c.loop-r.invariant.1.added.spared.same.long
+    let x = c.requires in let l = c.loop-r-test.true in
+    falling_step x.3 x.0.work c.loop-r.invariant (omega arith) (omega arith) c.seed_rank-len.ensures
 
 pub returns : goal.returns
-returns c = let l = c.loop-r-test.false in falling_all c.loop-r.invariant.1 (omega arith)
+returns c = let l = c.loop-r-test.false in falling_all c.loop-r.invariant (omega arith)

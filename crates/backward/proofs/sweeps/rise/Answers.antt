@@ -17,8 +17,5 @@ loop-r-preserved c =
     let x = c.requires in let l = c.loop-r-test.true in
     (omega arith, rising_step x.3 x.0.work c.loop-r.invariant.1 c.seed_rank-len.ensures)
 
-pub shape_of-p : goal.shape_of-p
-shape_of-p c = c.loop-r.invariant.1.added.spared.same.long
-
 pub returns : goal.returns
 returns c = let i = c.loop-r.invariant.0 in let l = c.loop-r-test.false in rising_all (omega arith) c.loop-r.invariant.1

@@ -1,5 +1,5 @@
 -- `backward::sweeps::rise` meets its contract.
-use Prim.Native.Nat.{◌-◌, ◌≤◌}
+use Prim.Native.Nat.{◌≤◌}
 use Rattle.backward.proofs.Ranking.{Rising}
 use Rattle.backward.proofs.sweeps.rise.Given as goal
 

@@ -24,8 +24,5 @@ loop-h-preserved c =
     forgetting_step c.loop-h.invariant c.node_at-u.ensures (let inside-here : c.node_at-u.result < c.args.n = subst (λ u. u < c.args.n) (sym c.node_at-u.ensures) (forgetting_inside c.requires c.loop-h.invariant c.loop-h-test.true) in inside-here) c.put.ensures c.put-in-loop-h.ensures
 
 -- ── Behind the last entry ──
-pub shape_of-p : goal.shape_of-p
-shape_of-p c = c.loop-h.invariant.within.long
-
 pub returns : goal.returns
 returns c = forgetting_all c.requires c.loop-h.invariant c.loop-h-test.false

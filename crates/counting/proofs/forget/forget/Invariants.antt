@@ -1,5 +1,4 @@
 -- `counting::forget::forget` meets its contract.
-use Prim.Native.Nat.{◌-◌}
 use Rattle.counting.proofs.Forgetting.{Forgetting}
 use Rattle.counting.proofs.forget.forget.Given as goal
 

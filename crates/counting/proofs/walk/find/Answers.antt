@@ -1,7 +1,5 @@
 -- `counting::walk::find` meets its contract.
-use Prim.Native.Nat.{◌<◌}
-use mathlib.Core.Path.{sym, ◌∙◌, subst}
-use native.Mathlib.Omega.{arith}
+use mathlib.Core.Path.{sym, ◌∙◌}
 use Rattle.rank_sets.proofs.Telling.{denied}
 use Rattle.counting.proofs.Finding.{find_passed, find_known, find_new}
 use Rattle.counting.proofs.walk.find.Goals as goal
@@ -9,14 +7,8 @@ use Rattle.counting.proofs.walk.find.Goals as goal
 pub returns-then-not-touches : goal.returns-then-not-touches
 returns-then-not-touches c = let x = c.args in find_passed x.last x.count c.entry_at-e.ensures (denied c.touches.ensures c.if-not-touches.true)
 
-pub get-requires : goal.get-requires
-get-requires c = let r = c.requires.0.space.room in (omega arith, (let inside-here : c.entry_at-e.result.node < c.args.n = subst (λ u. u < c.args.n) (sym c.entry_at-e.ensures.0) (c.requires.0.nodes c.args.h c.requires.1) in inside-here), omega arith)
-
 pub returns-then-get-eq1 : goal.returns-then-get-eq1
 returns-then-get-eq1 c = let x = c.args in find_known x.last x.count c.entry_at-e.ensures (sym c.get.ensures.0 ∙ c.if-get-eq1.true)
-
-pub put-requires : goal.put-requires
-put-requires c = let r = c.requires.0.space.room in (omega arith, (let inside-here : c.entry_at-e.result.node < c.args.n = subst (λ u. u < c.args.n) (sym c.entry_at-e.ensures.0) (c.requires.0.nodes c.args.h c.requires.1) in inside-here), omega arith, omega arith)
 
 pub returns : goal.returns
 returns c =

@@ -6,12 +6,6 @@ use Rattle.counting.proofs.Finding.{find_count}
 use Rattle.counting.proofs.Searching.{searching_start, searching_looked, searching_step, searching_enough, searching_all}
 use Rattle.counting.proofs.walk.search.Goals as goal
 
-pub insert-start-requires : goal.insert-start-requires
-insert-start-requires c = omega arith
-
-pub add-len-requires : goal.add-len-requires
-add-len-requires c = c.requires.0.work
-
 pub loop-h-init : goal.loop-h-init
 loop-h-init c =
     let x = c.requires in
@@ -48,8 +42,5 @@ loop-h-preserved c =
     searching_step (searching_looked c.loop-h.invariant c.loop-h-test.true c.find-count.ensures) c.loop-h-test.true (omega arith) c.expand-len.ensures
 
 -- ── Behind the last entry ──
-pub shape_of-p : goal.shape_of-p
-shape_of-p c = c.loop-h.invariant.working.spared.same.long ∙ c.add-len.ensures.spared.same.long
-
 pub returns : goal.returns
 returns c = searching_all c.add-len.ensures (omega (arith, c.well_formed.1.1.0)) c.loop-h.invariant c.loop-h-test.false

@@ -1,5 +1,5 @@
 -- `equalities::clear::clear_snippets` meets its contract.
-use Prim.Native.Nat.{◌≤◌, ◌-◌}
+use Prim.Native.Nat.{◌≤◌}
 use Rattle.equalities.specs.Steps.{Cleared}
 use Rattle.equalities.proofs.clear.clear_snippets.Given as goal
 

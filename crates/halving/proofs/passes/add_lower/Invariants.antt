@@ -1,5 +1,5 @@
 -- `halving::passes::add_lower` meets its contract.
-use Prim.Native.Nat.{◌≤◌, ◌-◌}
+use Prim.Native.Nat.{◌≤◌}
 use Rattle.matrices.specs.Matrices.{Drawing}
 use Rattle.halving.specs.Passes.{Lower, With}
 use Rattle.halving.proofs.passes.add_lower.Given as goal

@@ -8,14 +8,8 @@ use Rattle.halving.proofs.passes.pass.Goals as goal
 pub loop-y-init : goal.loop-y-init
 loop-y-init c = (omega arith, handed_none _ _ _)
 
-pub hand_down-requires : goal.hand_down-requires
-hand_down-requires c = (omega arith, omega (arith, c.loop-y.invariant.1.same.long))
-
 pub loop-y-preserved : goal.loop-y-preserved
 loop-y-preserved c = (omega arith, handed_step _ _ _ c.loop-y.invariant.1 c.hand_down.ensures)
-
-pub shape_of-p : goal.shape_of-p
-shape_of-p c = c.loop-y.invariant.1.same.long
 
 pub returns : goal.returns
 returns c =

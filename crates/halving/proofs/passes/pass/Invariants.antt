@@ -1,5 +1,5 @@
 -- `halving::passes::pass` meets its contract.
-use Prim.Native.Nat.{◌≤◌, ◌-◌}
+use Prim.Native.Nat.{◌≤◌}
 use Rattle.halving.specs.Passes.{Grown, Handed}
 use Rattle.halving.proofs.passes.pass.Given as goal
 

@@ -14,8 +14,5 @@ seed_edge-requires c = (ready_kept c.loop-y.invariant.1.framed c.requires, omega
 pub loop-y-preserved : goal.loop-y-preserved
 loop-y-preserved c = (omega arith, grown_then c.loop-y.invariant.1 c.seed_edge.ensures.0, met_more (ready_kept c.loop-y.invariant.1.framed c.requires) (omega arith) c.seed_edge.ensures.0 c.loop-y.invariant.2 c.seed_edge.ensures.1)
 
-pub shape_of-p : goal.shape_of-p
-shape_of-p c = c.loop-y.invariant.1.framed.long
-
 pub returns : goal.returns
 returns c = (c.loop-y.invariant.1, λ y h l. c.loop-y.invariant.2 y h (omega arith))

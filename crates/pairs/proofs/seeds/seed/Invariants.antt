@@ -1,5 +1,5 @@
 -- `pairs::seeds::seed` meets its contract.
-use Prim.Native.Nat.{◌-◌, ◌<◌}
+use Prim.Native.Nat.{◌<◌}
 use Rattle.pairs.specs.Growing.{Grown, Met, Everywhere}
 use Rattle.pairs.proofs.seeds.seed.Given as goal
 

@@ -4,8 +4,5 @@ use mathlib.Core.Bool.{false≢true}
 use Rattle.bits.proofs.SetLaws.{bit_none}
 use Rattle.pairs.proofs.start.if_has.Goals as goal
 
-pub returns-then-has : goal.returns-then-has
-returns-then-has c b = (λ e. (sym c.has.ensures ∙ c.if-has.true, e), λ e. e.1)
-
 pub returns : goal.returns
 returns c b = (λ e. absurd (false≢true (sym (bit_none b) ∙ e)), λ e. absurd (false≢true (sym c.if-has.false ∙ c.has.ensures ∙ e.0)))

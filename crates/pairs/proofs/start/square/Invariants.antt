@@ -1,5 +1,5 @@
 -- `pairs::start::square` meets its contract.
-use Prim.Native.Nat.{◌≤◌, ◌-◌}
+use Prim.Native.Nat.{◌≤◌}
 use Rattle.matrices.specs.Matrices.{Drawing}
 use Rattle.pairs.specs.Growing.{Square}
 use Rattle.pairs.proofs.start.square.Given as goal

@@ -1,5 +1,5 @@
 -- `pairs::start::start` meets its contract.
-use Prim.Native.Nat.{◌≤◌, ◌-◌}
+use Prim.Native.Nat.{◌≤◌}
 use Rattle.pairs.specs.Growing.{Started}
 use Rattle.pairs.proofs.start.start.Given as goal
 

@@ -7,23 +7,8 @@ use Rattle.pairs.proofs.widen.widen.Goals as goal
 pub loop-a-init : goal.loop-a-init
 loop-a-init c = (omega arith, widening_none _ _ _)
 
-pub row-w-requires : goal.row-w-requires
-row-w-requires c = omega arith
-
-pub overflow_add-at : goal.overflow_add-at
-overflow_add-at c = omega arith
-
-pub add-r-requires : goal.add-r-requires
-add-r-requires c = omega arith
-
-pub overflow_add-r : goal.overflow_add-r
-overflow_add-r c = omega arith
-
 pub loop-a-preserved : goal.loop-a-preserved
 loop-a-preserved c = (omega arith, widen_step c.args.back c.requires.0 c.requires.1 c.requires.2 (omega arith) c.row-w.ensures c.loop-a.invariant.1 c.add-r.ensures)
-
-pub shape_of-p : goal.shape_of-p
-shape_of-p c = omega arith
 
 pub returns : goal.returns
 returns c = widening_to (omega arith) c.loop-a.invariant.1

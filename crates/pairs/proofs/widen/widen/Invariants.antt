@@ -1,5 +1,5 @@
 -- `pairs::widen::widen` meets its contract.
-use Prim.Native.Nat.{◌≤◌, ◌-◌}
+use Prim.Native.Nat.{◌≤◌}
 use Rattle.matrices.specs.Widening.{Widening}
 use Rattle.pairs.specs.Growing.{Widened}
 use Rattle.pairs.proofs.widen.widen.Given as goal

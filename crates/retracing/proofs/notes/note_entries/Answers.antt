@@ -1,21 +1,14 @@
 -- `retracing::notes::note_entries` meets its contract.
-use native.Mathlib.Omega.{arith}
 use Rattle.retracing.proofs.Noting.{noting_none, noting_step, noting_all}
 use Rattle.retracing.proofs.notes.note_entries.Goals as goal
 
 pub loop-h-init : goal.loop-h-init
 loop-h-init c = let x = c.args in let y = c.requires in noting_none x.n x.c x.x x.second x.from x.len x.p.now y.1 y.0
 
-pub note_entry-requires : goal.note_entry-requires
-note_entry-requires c = let y = c.requires in (c.loop-h.invariant.work, c.loop-h-test.true, y.2, y.3, y.4)
-
 pub loop-h-preserved : goal.loop-h-preserved
 loop-h-preserved c =
     noting_step c.requires.3 c.loop-h.invariant c.loop-h-test.true
     c.note_entry.ensures
-
-pub shape_of-p : goal.shape_of-p
-shape_of-p c = c.loop-h.invariant.notes.frame.long
 
 pub returns : goal.returns
 returns c = noting_all c.loop-h.invariant c.loop-h-test.false

@@ -1,5 +1,4 @@
 -- `retracing::notes::note_entries` meets its contract.
-use Prim.Native.Nat.{◌-◌}
 use Rattle.retracing.proofs.Noting.{Noting}
 use Rattle.retracing.proofs.notes.note_entries.Given as goal
 

@@ -5,11 +5,6 @@ use native.Mathlib.Omega.{arith}
 use Rattle.retracing.proofs.Noting.{notes_put, notes_tested, put_long}
 use Rattle.retracing.proofs.notes.note_entry.Goals as goal
 
-pub put_if-requires : goal.put_if-requires
-put_if-requires c =
-    let w = c.requires.0 in let r = w.space.room in let q = c.requires.3.1 in
-    (omega arith, subst (λ v. v < c.args.n) (sym c.entry_at-e.ensures.0) (w.nodes c.args.h c.requires.1), omega arith, c.requires.4)
-
 pub put_if-requires-2 : goal.put_if-requires-2
 put_if-requires-2 c =
     let w = c.requires.0 in let r = w.space.room in let q = c.requires.3.1 in let e = put_long c.put_if.ensures in

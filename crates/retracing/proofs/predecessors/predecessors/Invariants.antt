@@ -1,7 +1,6 @@
 -- `retracing::predecessors::predecessors` meets its contract.
-use Prim.Native.Nat.{◌-◌}
 use Rattle.retracing.proofs.Preceding.{Preceding}
 use Rattle.retracing.proofs.predecessors.predecessors.Given as goal
 
 abbrev pub invariant-loop-i : goal.invariant-loop-i
-invariant-loop-i l = Preceding l.rows l.w l.i l.r
+invariant-loop-i l = Preceding l.fn.rows l.w l.i l.r

@@ -1,10 +1,6 @@
 -- `retracing::retrace::downward` meets its contract.
-use native.Mathlib.Omega.{arith}
 use Rattle.reach.proofs.Spreading.{either}
 use Rattle.retracing.proofs.retrace.downward.Goals as goal
-
-pub returns-then-n-v : goal.returns-then-n-v
-returns-then-n-v c h = absurd (omega arith)
 
 pub returns : goal.returns
 returns c h =

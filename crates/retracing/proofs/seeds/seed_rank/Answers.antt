@@ -3,19 +3,8 @@ use native.Mathlib.Omega.{arith}
 use Rattle.retracing.proofs.Seeding.{seeding_start, seeding_on, seeding_step, seeding_all}
 use Rattle.retracing.proofs.seeds.seed_rank.Goals as goal
 
-pub get-w-requires : goal.get-w-requires
-get-w-requires c = let x = c.requires in let r = x.0.space.room in (omega arith, x.4, omega arith)
-
 pub loop-w-init : goal.loop-w-init
 loop-w-init c = let x = c.requires in seeding_start x.0 x.1 x.2 x.3 x.4 c.get-w.ensures.0
-
-pub seed-end-requires : goal.seed-end-requires
-seed-end-requires c =
-    let b = c.loop-w.invariant in let x = c.requires in
-    (b.seeded.added.work, b.linked, b.closed, c.loop-w-test.true, x.5, x.6, x.7)
-
-pub get-w-requires-in-loop-w : goal.get-w-requires-in-loop-w
-get-w-requires-in-loop-w c = let r = c.seed-end.ensures.added.work.space.room in (omega arith, c.loop-w-test.true, omega arith)
 
 pub loop-w-smaller : goal.loop-w-smaller
 loop-w-smaller c =
@@ -27,9 +16,6 @@ pub loop-w-preserved : goal.loop-w-preserved
 loop-w-preserved c =
     let x = c.requires in
     seeding_step x.5 x.6 x.3 x.4 c.loop-w.invariant c.loop-w-test.true c.seed-end.ensures c.get-w-in-loop-w.ensures.0
-
-pub shape_of-p : goal.shape_of-p
-shape_of-p c = c.loop-w.invariant.seeded.added.spared.same.long
 
 pub returns : goal.returns
 returns c = seeding_all c.loop-w.invariant c.loop-w-test.false

@@ -1,18 +1,11 @@
 -- `retracing::spread::spread` meets its contract.
-use mathlib.Core.Path.{◌∙◌}
 use native.Mathlib.Omega.{arith}
 use Rattle.reach.proofs.Totals.{work_room}
 use Rattle.retracing.proofs.Spreading.{backing_start, backing_step, backing_all}
 use Rattle.retracing.proofs.spread.spread.Goals as goal
 
-pub add-end-requires : goal.add-end-requires
-add-end-requires c = c.requires.0
-
 pub loop-h-init : goal.loop-h-init
 loop-h-init c = let x = c.requires in backing_start x.0 x.1 x.2 c.add-end.ensures
-
-pub retrace-end-requires : goal.retrace-end-requires
-retrace-end-requires c = let b = c.loop-h.invariant in (b.grown.work, b.linked, c.loop-h-test.true)
 
 pub overflow_add-h : goal.overflow_add-h
 overflow_add-h c =
@@ -26,9 +19,6 @@ loop-h-smaller c =
 
 pub loop-h-preserved : goal.loop-h-preserved
 loop-h-preserved c = backing_step c.loop-h.invariant c.loop-h-test.true c.retrace-end.ensures
-
-pub shape_of-p : goal.shape_of-p
-shape_of-p c = c.loop-h.invariant.grown.spared.same.long ∙ c.add-end.ensures.spared.same.long
 
 pub returns : goal.returns
 returns c =

@@ -12,8 +12,5 @@ answer_at-requires c = (answering_ready c.loop-v.invariant.0 c.requires.0 c.loop
 pub loop-v-preserved : goal.loop-v-preserved
 loop-v-preserved c = (omega arith, answering_step c.requires.0 (omega arith) c.loop-v.invariant.1 c.answer_at.ensures)
 
-pub shape_of-p : goal.shape_of-p
-shape_of-p c = omega arith
-
 pub returns : goal.returns
 returns c = answering_to (omega arith) c.loop-v.invariant.1

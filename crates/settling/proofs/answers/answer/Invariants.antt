@@ -1,5 +1,5 @@
 -- `settling::answers::answer` meets its contract.
-use Prim.Native.Nat.{◌≤◌, ◌-◌}
+use Prim.Native.Nat.{◌≤◌}
 use Rattle.settling.specs.Settled.{Answering}
 use Rattle.settling.proofs.answers.answer.Given as goal
 
