@@ -40,9 +40,7 @@ fn upwards(p: &mut [u16], n: usize, m: Machine) -> usize
     ensures { Passed (Everywhere (Rises m n p.old) n) m n p.old p.new result }
 {
     let mut r: usize = 0;
-    let mut v = n;
-    while 1 < v {
-        v -= 1;
+    for v in (1..n).rev() {
         r += climb(p, n, m, v);
     }
     r
