@@ -17,7 +17,7 @@ pub is_skeleton-requires : goal.is_skeleton-requires
 is_skeleton-requires c = (c.requires.1, c.loop-x-test.true)
 
 pub returns-then-is_skeleton : goal.returns-then-is_skeleton
-returns-then-is_skeleton c = climbing_met c.loop-x.invariant c.requires.2 (λ t d g. (c.is_skeleton.ensures t d g).0 c.if-is_skeleton.true)
+returns-then-is_skeleton c = let p = c.requires in climbing_met c.loop-x.invariant p.0.1.few p.2 c.loop-x-test.true (λ t d g. (c.is_skeleton.ensures t d g).0 c.if-is_skeleton.true)
 
 pub overflow_add-length : goal.overflow_add-length
 overflow_add-length c = let p = c.requires in let y = p.2 in let few = p.0.1.few in let h = c.loop-x.invariant.short in omega arith
@@ -36,4 +36,4 @@ loop-x-preserved c =
     (λ t d g k. false≢true (sym c.if-is_skeleton.false ∙ (c.is_skeleton.ensures t d g).1 k)) c.parent-x-in-loop-x.ensures.0
 
 pub returns : goal.returns
-returns c = climbing_top c.loop-x.invariant c.requires.2 c.loop-x-test.false
+returns c = climbing_top c.loop-x.invariant c.loop-x-test.false
