@@ -1,14 +1,6 @@
 -- `loops::rounds::climb` meets its contract.
-use mathlib.Core.Logic.{inr}
-use native.Mathlib.Omega.{arith}
 use Rattle.loops.proofs.Grows.{climbed}
 use Rattle.loops.proofs.rounds.climb.Goals as goal
-
-pub visit-requires : goal.visit-requires
-visit-requires c =
-    let e = c.loop_at-here.ensures in
-    let u = c.above-there.ensures.1 in
-    (inr (omega arith), omega arith, omega arith)
 
 pub returns : goal.returns
 returns c =

@@ -1,14 +1,6 @@
 -- `loops::rounds::descend` meets its contract.
-use mathlib.Core.Logic.{inl}
-use native.Mathlib.Omega.{arith}
 use Rattle.loops.proofs.Grows.{descended}
 use Rattle.loops.proofs.rounds.descend.Goals as goal
-
-pub visit-requires : goal.visit-requires
-visit-requires c =
-    let e = c.loop_at-here.ensures in
-    let u = c.above-there.ensures.1 in
-    (inl (omega arith), omega arith, omega arith)
 
 pub returns : goal.returns
 returns c =
