@@ -25,8 +25,5 @@ loop-v-preserved c =
     let s = c.requires.0.1 in let w = root_within (some_nodes s) c.put.ensures in let e = c.enter.ensures in
     levelling_step (shape_within (omega arith) w s) c.loop-v.invariant c.loop-v-test.true e.0 e.1 (c.max-r.ensures ∙ greater_is c.loop-v.r c.enter.result)
 
-pub shape_of-p : goal.shape_of-p
-shape_of-p c = c.loop-v.invariant.within.long ∙ c.put.ensures.long
-
 pub returns : goal.returns
 returns c = let s = c.requires.0.1 in let l = c.loop-v-test.false in levelling_all (some_nodes s) c.put.ensures (omega arith) c.loop-v.invariant
