@@ -24,8 +24,5 @@ loop-w-preserved c =
     taking_step c.requires.1 (omega arith) c.get-r.ensures.0
     c.loop-w.invariant c.add_rank.ensures
 
-pub shape_of-p : goal.shape_of-p
-shape_of-p c = c.loop-w.invariant.added.rest.same.long
-
 pub returns : goal.returns
 returns c = let l = c.loop-w-test.false in taking_all c.requires.1 (omega arith) c.loop-w.invariant
