@@ -2,7 +2,8 @@
 ghost use Rattle.std.specs.Prelude.{true, List, ◌↔◌, ◌≡◌, ℕ, ◌<◌};
 ghost use Rattle.xpath.specs.Tree.{Tree};
 ghost use Rattle.snippets.specs.Snippets.{Skeleton};
-ghost use Rattle.layout.specs.Table.{Room};
+ghost use Rattle.layout.specs.Table.{LEFT, RIGHT, Room};
+ghost use Rattle.layout.specs.Words.{word};
 ghost use Rattle.machine.specs.Shape.{Shape};
 ghost use Rattle.group_marks.specs.Groups.{Group};
 ghost use Rattle.skeletons.specs.Skeletons.{Climbs};
@@ -21,13 +22,22 @@ fn is_marked(p: &[u16], n: usize, v: usize) -> bool
     v < n && get(p, n, Groups::MARKED, v) % 2 == 1
 }
 
+// Both children of node `v` have nodes of the group at or below them.
+fn both_marked(p: &[u16], n: usize, v: usize) -> bool
+    requires { Room n p.now × (v < n) }
+    ensures { (result ≡ true) ↔ (MarkedNode p.now n (word p.now n LEFT v) × MarkedNode p.now n (word p.now n RIGHT v)) }
+{
+    let a = left(p, n, v);
+    let b = right(p, n, v);
+    is_marked(p, n, a) && is_marked(p, n, b)
+}
+
 // Node `v` has the rank `r` of the group, or both its children have nodes of the group at or below them.
 fn belongs(p: &[u16], n: usize, v: usize, r: usize) -> bool
     requires { Room n p.now × (v < n) }
     ensures { (t : Tree) (d : List ℕ) → Group t d n r p.now → (result ≡ true) ↔ Skeleton t d v }
 {
-    get(p, n, Table::RANK, v) == r
-        || (is_marked(p, n, left(p, n, v)) && is_marked(p, n, right(p, n, v)))
+    get(p, n, Table::RANK, v) == r || both_marked(p, n, v)
 }
 
 // Whether node `v` is in the skeleton. Most ways up pass blocks that have no skeleton node: there a look at the block is enough.
