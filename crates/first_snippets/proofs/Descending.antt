@@ -8,7 +8,7 @@ use lib.ListN.{get_or}
 use native.Mathlib.Nat.{eq-or-lt_of_le}
 use native.Mathlib.Omega.{arith}
 use Rattle.xpath.specs.Syntax.{XPath}
-use Rattle.xpath.specs.Tree.{Tree, WellFormed, Down, Under}
+use Rattle.xpath.specs.Tree.{Tree, WellFormed, Down}
 use Rattle.xpath.proofs.Trees.{down_le}
 use Rattle.snippets.specs.Snippets.{Skeleton, Edge}
 use Rattle.snippets.specs.Ways.{In, Out, Above, FromChild}
@@ -24,7 +24,7 @@ use Rattle.matrices.specs.Matrices.{Exactly}
 use Rattle.lifting.specs.Ladder.{Lifts, Ladder}
 use Rattle.powers.proofs.Kept.{founded_ready}
 use Rattle.group_marks.specs.Groups.{IsNoted}
-use Rattle.skeletons.specs.Skeletons.{Arrives, Ascent}
+use Rattle.skeletons.specs.Skeletons.{Arrives, Ascent, Topmost}
 use Rattle.skeletons.proofs.Judging.{empty_block}
 use Rattle.group_ends.specs.Ends.{inward, Setting, Risen}
 use Rattle.layout.specs.Blocks.{Rest}
@@ -80,24 +80,20 @@ module _ {m : Machine} {n b first r v : ℕ} where
   pub sinks_by : {p p' : List ℕ} → ((P R : XPath) (t : Tree) (d : List ℕ) → Setting P R t d m n b r p → Skeleton t d v) → SinksBy m n b first r v p p' → Sinks m n b first r v p p'
   sinks_by k h = record { rest = h.rest; found = λ P R t d s split risen sunk. h.found P R t d s (k P R t d s) split risen sunk }
 
-  module _ {x l c : ℕ} {p p₁ : List ℕ} (w : ℕ) (node : v < n) (a : Ascent n r v x l c p) (put : Wrote ((cell n ABOVE v, w) ∷ []) p p₁) where
+  module _ {p p₁ : List ℕ} (w : ℕ) (node : v < n) (put : Wrote ((cell n ABOVE v, w) ∷ []) p p₁) where
     -- the topmost skeleton node
-    pub sinks_top : n ≤ 4096 → ¬ (x < n) → w ≡ 0 → SinksBy m n b first r v p p₁
-    sinks_top few f e = record {
+    pub sinks_top : Topmost n r v p → w ≡ 0 → SinksBy m n b first r v p p₁
+    sinks_top above e = record {
       rest = put_rest node put;
       found = λ P R t d s k split risen sunk.
-          let top = go P R t d s (a.arrives t d s.group k) in (
+          let top = above t d s.group k in (
             sunk_more n p p₁ (λ u h. put.other (cell n ABOVE u) (omega arith, tt)) (λ _. exactly_none (word p₁ n ABOVE v) (put.here.0 ∙ e) (λ i. above_top t P R d s.founded.stage.formed v i k top)) sunk,
             gains_same (put_behind node put) (λ k x y i j (z, l, e, g). top_none P R t d s.founded.stage.formed top z l e),
           );
     }
-      where
-        go : (P R : XPath) (t : Tree) (d : List ℕ) → Setting P R t d m n b r p → Arrives t d v x l c → (s : ℕ) → Skeleton t d s → Under t s v → s ≡ v
-        go P R t d s (inl (e, (side, child, under))) = let h = skeleton_inside t d s.founded.stage.formed x e.top in let z = s.founded.stage.drawn.size in absurd (f (omega arith))
-        go P R t d s (inr (e, top)) = top
 
     -- one with an edge above it
-    module _ {out inside : ℕ} {p₂ : List ℕ} (outs : Outside m n r x c out p) (ins : inside ≡ word p n IN v)
+    module _ {x l c out inside : ℕ} {p₂ : List ℕ} (a : Ascent n r v x l c p) (outs : Outside m n r x c out p) (ins : inside ≡ word p n IN v)
         (lowers : (P R : XPath) (t : Tree) (u : ℕ) → Ladder P R t n b p → Down t u v l → Lifts P R t v u out w) (gained : Gained (BothParts v l) n b v l first inside out p₁ p₂) where
       above_found : (P R : XPath) (t : Tree) (d : List ℕ) → Setting P R t d m n b r p → Edge t d x v l → Exactly out (Out t P R d x v) → Exactly w (Above t P R d v)
       above_found P R t d s e q i h = (
@@ -111,16 +107,15 @@ module _ {m : Machine} {n b first r v : ℕ} where
           back : Yields P R t d v k a y i j → OfEdge P R t d x v l k a y i j
           back (u, q, g, z) = let (s, h) = edge_one t d wf u x v q l g e in subst (λ (u : ℕ). OfEdge P R t d u v l k a y i j) s (subst (λ (q : ℕ). OfEdge P R t d u v q k a y i j) h z)
 
-      pub sinks_edge : n ≤ 4096 → x < n → SinksBy m n b first r v p p₂
-      sinks_edge few upper = record {
+      pub sinks_edge : SinksBy m n b first r v p p₂
+      sinks_edge = record {
         rest = rest_then (put_rest node put) (rest_more (omega arith) gained.rest);
         found = λ P R t d s k split risen sunk. go P R t d s k split risen sunk (a.arrives t d s.group k);
       }
         where
           go : (P R : XPath) (t : Tree) (d : List ℕ) → Setting P R t d m n b r p → Skeleton t d v → OfFirst P first → Risen P R t d n p 0 → Sunk P R t d n p v → Arrives t d v x l c
               → Sunk P R t d n p₂ (suc v) × Gains t n b (Yields P R t d v) p p₂
-          go P R t d s k split risen sunk (inr (e, top)) = absurd (omega arith)
-          go P R t d s k split risen sunk (inl (e, (side, child, under))) =
+          go P R t d s k split risen sunk (e, (side, child, under)) =
               let wf = s.founded.stage.formed in
               let h = down_le t wf e.far in
               let proper = e.proper in

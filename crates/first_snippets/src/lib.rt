@@ -33,10 +33,7 @@ fn is_shared(p: &[u16], n: usize, r: usize) -> bool
     ensures { (result ≡ true → Somewhere n r p.now) × (result ≡ false → Alone n r p.now) }
 {
     let w = get(p, n, Groups::FIRST, r);
-    if w < n {
-        return get(p, n, Groups::NEXT, w) < n;
-    }
-    false
+    w < n && get(p, n, Groups::NEXT, w) < n
 }
 
 // The same of a rank that no node or one node may have.
@@ -54,8 +51,8 @@ pub fn add_values(p: &mut [u16], n: usize, b: usize, m: Machine, first: u16, val
     requires { Base m n b p.old × All (λ w. w < n) values.now }
     ensures { AddedBy values.now m n b first p.old p.new }
 {
-    for i in 0..values.len() {
-        let r = get(p, n, Table::RANK, values[i] as usize);
+    for &w in values {
+        let r = get(p, n, Table::RANK, w as usize);
         add_rank(p, n, b, m, first, r);
     }
 }

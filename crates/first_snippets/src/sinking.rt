@@ -17,7 +17,7 @@ use skeletons::skeleton::{climb, is_skeleton};
 
 // The skeleton node `v`, which has the edge `c` above it.
 fn sink_by(p: &mut [u16], n: usize, b: usize, m: Machine, v: usize, r: usize, first: u16, c: Climb)
-    requires { Placed n b r v p.old × Ascent n r v c.node c.length c.child p.old × (c.node < n) }
+    requires { Placed n b r v p.old × Ascent n r v c.node c.length c.child p.old }
     ensures { SinksBy m n b first r v p.old p.new }
 {
     let out = outside(p, n, m, c.node, c.child, r);
@@ -33,11 +33,9 @@ fn sink_at(p: &mut [u16], n: usize, b: usize, m: Machine, v: usize, r: usize, fi
     ensures { Sinks m n b first r v p.old p.new }
 {
     if is_skeleton(p, n, v, r) {
-        let c = climb(p, n, v, r);
-        if c.node < n {
-            sink_by(p, n, b, m, v, r, first, c);
-        } else {
-            put(p, n, Groups::ABOVE, v, 0);
+        match climb(p, n, v, r) {
+            Some(c) => sink_by(p, n, b, m, v, r, first, c),
+            None => put(p, n, Groups::ABOVE, v, 0),
         }
     }
 }

@@ -30,7 +30,7 @@ use Rattle.matrices.specs.Matrices.{Exactly}
 use Rattle.loops.specs.Loops.{Stage}
 use Rattle.lifting.specs.Ladder.{Lifts, Ladder, Stretch}
 use Rattle.group_marks.specs.Groups.{IsNoted, Group}
-use Rattle.skeletons.specs.Skeletons.{Arrives, Ascent}
+use Rattle.skeletons.specs.Skeletons.{Ascent, Topmost}
 use Rattle.skeletons.proofs.Judging.{empty_block}
 use Rattle.group_ends.specs.Ends.{inward, Setting, Given, Sides, Risen}
 use Rattle.layout.specs.Blocks.{Rest}
@@ -253,28 +253,25 @@ cleared_block {n} {v} {u} {p} {p₁} low high same f c = record { inside = high;
 
 -- ── Handing up ──
 -- the way up that the powers lead
-pub placed_stretch : {n b r v x l c : ℕ} {p : List ℕ} → Placed n b r v p → Ascent n r v x l c p → x < n → Stretch n b v l p
-placed_stretch {n} {b} {r} {v} {x} {l} {c} {p} s a node = go (a.arrives s.tree s.value s.group s.skeleton)
-  where
-    go : Arrives s.tree s.value v x l c → Stretch n b v l p
-    go (inr (e, top)) = let f = s.sizes.few in absurd (omega arith)
-    go (inl (e, (side, child, under))) =
-        let q = skeleton_inside s.tree s.value s.ladder.formed v s.skeleton in
-        let z = s.group.shape.size in
-        let o = s.enough x v l e.far in
-        record {
-          first = s.first;
-          second = s.second;
-          tree = s.tree;
-          top = x;
-          ladder = s.ladder;
-          down = e.far;
-          node = omega arith;
-          few = s.sizes.few;
-          low = s.sizes.low;
-          short = omega arith;
-          room = s.sizes.room;
-        }
+pub placed_stretch : {n b r v x l c : ℕ} {p : List ℕ} → Placed n b r v p → Ascent n r v x l c p → Stretch n b v l p
+placed_stretch {v = v} {x} {l} s a =
+    let e = (a.arrives s.tree s.value s.group s.skeleton).0 in
+    let q = skeleton_inside s.tree s.value s.ladder.formed v s.skeleton in
+    let z = s.group.shape.size in
+    let o = s.enough x v l e.far in
+    record {
+      first = s.first;
+      second = s.second;
+      tree = s.tree;
+      top = x;
+      ladder = s.ladder;
+      down = e.far;
+      node = omega arith;
+      few = s.sizes.few;
+      low = s.sizes.low;
+      short = omega arith;
+      room = s.sizes.room;
+    }
 
 module _ {t : Tree} {d : List ℕ} {n r x c : ℕ} {p : List ℕ} (group : Group t d n r p) (node : x < n) where
   -- the word for the left child tells the side
@@ -293,36 +290,28 @@ module _ {t : Tree} {d : List ℕ} {n r x c : ℕ} {p : List ℕ} (group : Group
       go (inr (none, g)) = g c k
   on_right {side = false} k f = refl
 
-module _ {n b r v x l c : ℕ} {p : List ℕ} (s : Placed n b r v p) (a : Ascent n r v x l c p) where
-  -- there is none to hand it to
-  pub handed_none : {set : ℕ} → ¬ (x < n) → Handed n b r v set p p
-  handed_none f = record {
-    within = within_none p;
-    found = λ P R t d ladder group k ins q. sides_skip P R t d ladder.formed group.shape.size v p (go P R t d ladder group (a.arrives t d group k)) q;
+-- there is none to hand it to
+pub handed_none : {n b r v set : ℕ} {p : List ℕ} → Topmost n r v p → Handed n b r v set p p
+handed_none {v = v} {p = p} top = record {
+  within = within_none p;
+  found = λ P R t d ladder group k ins q. sides_skip P R t d ladder.formed group.shape.size v p (top_none P R t d ladder.formed (top t d group k)) q;
+}
+
+module _ {n b r v x l c : ℕ} {p : List ℕ} (a : Ascent n r v x l c p) (set w : ℕ) {p' : List ℕ} (lifts : (P R : XPath) (t : Tree) (u : ℕ) → Ladder P R t n b p → Down t u v l → Lifts P R t u v set w) where
+  handed_to : (side : Bool) → ((t : Tree) (d : List ℕ) → Group t d n r p → (other : Bool) → Child t other x c → other ≡ side) → Wrote ((cell n (inward side) x, w) ∷ []) p p' → Within n LEFTIN ABOVE p p' → Handed n b r v set p p'
+  handed_to side which put within = record {
+    within = within;
+    found = λ P R t d ladder group k ins q.
+        let (e, (other, child, under)) = a.arrives t d group k in
+        sides_put P R t d ladder.formed group.shape.size v p set w (λ i j g h. comes_few P R t ladder.few g h) e
+        (subst (λ z. Child t z x c) (which t d group other child) child) under (lifts P R t x ladder e.far) ins put q;
   }
-    where
-      go : (P R : XPath) (t : Tree) (d : List ℕ) → Ladder P R t n b p → Group t d n r p → Arrives t d v x l c → (u m : ℕ) → ¬ Edge t d u v m
-      go P R t d ladder group (inl (e, (side, child, under))) = let h = skeleton_inside t d ladder.formed x e.top in let z = group.shape.size in absurd (f (omega arith))
-      go P R t d ladder group (inr (e, top)) = top_none P R t d ladder.formed top
 
-  module _ (set w : ℕ) {p' : List ℕ} (node : x < n) (lifts : (P R : XPath) (t : Tree) (u : ℕ) → Ladder P R t n b p → Down t u v l → Lifts P R t u v set w) where
-    handed_to : (side : Bool) → ((t : Tree) (d : List ℕ) → Group t d n r p → (other : Bool) → Child t other x c → other ≡ side) → Wrote ((cell n (inward side) x, w) ∷ []) p p' → Within n LEFTIN ABOVE p p' → Handed n b r v set p p'
-    handed_to side which put within = record {
-      within = within;
-      found = λ P R t d ladder group k ins q. go P R t d ladder group k ins q (a.arrives t d group k);
-    }
-      where
-        go : (P R : XPath) (t : Tree) (d : List ℕ) → Ladder P R t n b p → Group t d n r p → Skeleton t d v → Exactly set (In t P R d v) → Sides P R t d n p (suc v) → Arrives t d v x l c → Sides P R t d n p' v
-        go P R t d ladder group k ins q (inl (e, (other, child, under))) =
-            sides_put P R t d ladder.formed group.shape.size v p set w (λ i j g h. comes_few P R t ladder.few g h) e
-            (subst (λ z. Child t z x c) (which t d group other child) child) under (lifts P R t x ladder e.far) ins put q
-        go P R t d ladder group k ins q (inr (e, top)) = let few = s.sizes.few in absurd (omega arith)
+  pub handed_left : word p n LEFT x ≡ c → Wrote ((cell n LEFTIN x, w) ∷ []) p p' → Handed n b r v set p p'
+  handed_left e put = handed_to true (λ t d group other child. on_left group a.node child e) put (within_put (omega arith) (omega arith) a.node put)
 
-    pub handed_left : word p n LEFT x ≡ c → Wrote ((cell n LEFTIN x, w) ∷ []) p p' → Handed n b r v set p p'
-    handed_left e put = handed_to true (λ t d group other child. on_left group node child e) put (within_put (omega arith) (omega arith) node put)
-
-    pub handed_right : word p n LEFT x ≢ c → Wrote ((cell n RIGHTIN x, w) ∷ []) p p' → Handed n b r v set p p'
-    handed_right e put = handed_to false (λ t d group other child. on_right group node child e) put (within_put (omega arith) (omega arith) node put)
+  pub handed_right : word p n LEFT x ≢ c → Wrote ((cell n RIGHTIN x, w) ∷ []) p p' → Handed n b r v set p p'
+  handed_right e put = handed_to false (λ t d group other child. on_right group a.node child e) put (within_put (omega arith) (omega arith) a.node put)
 
 pub given_placed : {m : Machine} {n b r v : ℕ} {p : List ℕ} (g : Given m n b r p) → Skeleton g.tree g.value v → Placed n b r v p
 given_placed g k = record { first = g.first; second = g.second; tree = g.tree; value = g.value; ladder = ladder_of g.setting; group = g.setting.group; skeleton = k; enough = g.enough; sizes = g.sizes }

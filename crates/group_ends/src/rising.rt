@@ -62,8 +62,7 @@ fn hand_up(p: &mut [u16], n: usize, b: usize, v: usize, r: usize, set: u16)
     requires { Placed n b r v p.old }
     ensures { Handed n b r v set p.old p.new }
 {
-    let c = climb(p, n, v, r);
-    if c.node < n {
+    if let Some(c) = climb(p, n, v, r) {
         let w = lift(p, n, b, v, c.length, set);
         if left(p, n, c.node) == c.child {
             put(p, n, Groups::LEFTIN, c.node, w as usize);

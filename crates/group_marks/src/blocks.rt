@@ -40,8 +40,5 @@ pub fn block_end(n: usize, v: usize) -> usize
     ensures { (v < result) × (result ≤ n) × ((u : ℕ) → v ≤ u → u < result → u / BLOCK ≡ v / BLOCK) }
 {
     let next = (v / Groups::BLOCK + 1) * Groups::BLOCK;
-    if next < n {
-        return next;
-    }
-    n
+    next.min(n)
 }

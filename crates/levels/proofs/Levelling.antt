@@ -1,5 +1,7 @@
 -- One pass over the nodes: the levels so far, and the greatest of them.
-use Prim.Native.Nat.{ℕ, zero, suc, ◌+◌, ◌≤◌, ◌<◌}
+use Prim.Native.Nat.{ℕ, zero, suc, ◌+◌, ◌≤◌, ◌<◌, max}
+use Rattle.std.specs.Ordering.{ord_max, nat_cmp}
+use Rattle.std.proofs.lemmas.Grind.{common_steps}
 use mathlib.Core.Path.{◌≡◌, ap, ◌∙◌, subst}
 use mathlib.Core.Logic.{◌⊎◌, inl, inr}
 use mathlib.Core.List.{List, [], ◌∷◌}
@@ -60,21 +62,21 @@ parent_known {t} {n} {v} {r} {p} {p₁} s g l = go (parent_case s v l)
     go (inl (e, none)) = let a = g.some in let b = g.few in absurd (omega arith)
     go (inr (h, c)) = let e = before_within g.within PARENT v (omega arith) l in let k : word p₁ n PARENT v < v = omega arith in (k, g.greatest (word p₁ n PARENT v) k)
 
+-- the greater of two numbers, in the words of `Ord::max`
+pub greater_is : (a b : ℕ) → ord_max nat_cmp a b ≡ max a b
+greater_is a b = grind (arith, common_steps)
+
 pub levelling_step : {t : Tree} {n v r l r' : ℕ} {p p₁ p₂ : List ℕ} → Shape t n p → Levelling n v r p p₁ → v < n → l ≡ suc (word p₁ n LEVEL (word p₁ n PARENT v)) → Wrote ((cell n LEVEL v, l) ∷ []) p₁ p₂
-    → (r ≤ r') × (l ≤ r') × ((r' ≡ r) ⊎ (r' ≡ l)) → Levelling n (v + 1) r' p p₂
-levelling_step {t = t₀} {n} {v} {r} {l} {r'} {p} {p₁} {p₂} s₀ g node e w (old, new, which) = record {
+    → r' ≡ max r l → Levelling n (v + 1) r' p p₂
+levelling_step {t = t₀} {n} {v} {r} {l} {r'} {p} {p₁} {p₂} s₀ g node e w greater = record {
   inside = omega arith;
   some = let a = g.some in omega arith;
-  few = let a = g.few in let (f, h) = parent_known s₀ g node in grown which;
+  few = let a = g.few in let (f, h) = parent_known s₀ g node in omega arith;
   within = within_then g.within (within_put (omega arith) (omega arith) node w);
   greatest = λ u i. high u i (ℕ_discrete u v);
   ways = λ t s x y m i d. way t s x y m i d (ℕ_discrete y v);
 }
   where
-    grown : (r' ≡ r) ⊎ (r' ≡ l) → r' ≤ v + 1
-    grown (inl q) = let a = g.few in omega arith
-    grown (inr q) = let a = g.few in let h = (parent_known s₀ g node).1 in omega arith
-
     before : (u : ℕ) → u < v → word p₂ n LEVEL u ≡ word p₁ n LEVEL u
     before u i = w.other (cell n LEVEL u) (omega arith, tt)
 

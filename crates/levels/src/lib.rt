@@ -1,7 +1,7 @@
 // How many levels the tree in a comparison's part has: one more than the edges of its longest way down.
 #![tactic(auto)]
 
-ghost use Rattle.std.specs.Prelude.{[], ◌∷◌, ◌⊎◌, ◌≡◌, suc, ◌≤◌, ◌<◌, ◌-◌};
+ghost use Rattle.std.specs.Prelude.{[], ◌∷◌, ◌≡◌, suc, ◌<◌, ◌-◌};
 ghost use Rattle.limits.specs.Limits.{word_values};
 ghost use Rattle.xpath.specs.Tree.{Tree};
 ghost use Rattle.layout.specs.Groups.{LEVEL};
@@ -24,16 +24,6 @@ fn enter(p: &mut [u16], n: usize, v: usize) -> usize
     l
 }
 
-// The greater one of two numbers.
-fn greater(a: usize, b: usize) -> usize
-    ensures { (a ≤ result) × (b ≤ result) × ((result ≡ a) ⊎ (result ≡ b)) }
-{
-    if a < b {
-        return b;
-    }
-    a
-}
-
 // The root is on level 1. A parent has a smaller number than its children, so one pass over the nodes in order does.
 pub fn levels(p: &mut [u16], n: usize) -> usize
     requires { ((t : Tree) × Shape t n p.old) × Room n p.old }
@@ -42,8 +32,7 @@ pub fn levels(p: &mut [u16], n: usize) -> usize
     put(p, n, Groups::LEVEL, 0, 1);
     let mut r = 1;
     for v in 1..n {
-        let l = enter(p, n, v);
-        r = greater(r, l);
+        r = r.max(enter(p, n, v));
     }
     r
 }

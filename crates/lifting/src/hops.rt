@@ -22,7 +22,7 @@ pub fn first_hop(p: &[u16], n: usize, b: usize, y: usize, len: usize) -> Hop
     let over = upper(p, n, k, y);
     Hop {
         exponent: k,
-        over: over,
+        over,
         rest: len - two_to(k),
     }
 }

@@ -92,9 +92,9 @@ one_side p n v false true e f = absurd (e f)
 upper : {n v : ℕ} {p : List ℕ} → Ready n p → 0 < v → v < n → word p n PARENT v < n
 upper {v = v} ready inner inside = let b = ready.parents v inner inside in omega arith
 
-module _ {m : Machine} {n v here there r : ℕ} {p p' : List ℕ} (side : Bool) (ready : Ready n p) (inner : 0 < v) (inside : v < n)
-    (at : here ≡ loop_at n v) (above : there ≡ loop_at n (word p n PARENT v)) (on : OnSide p n v side) where
-  pub climbed : Visited (Widened m p here there (downs m side) (ups m side)) there p p' r → Passed (Rises m n p v) m n p p' r
+module _ {m : Machine} {n v here there r : ℕ} {s : ℕ × ℕ} {p p' : List ℕ} (side : Bool) (ready : Ready n p) (inner : 0 < v) (inside : v < n)
+    (at : here ≡ loop_at n v) (above : there ≡ loop_at n (word p n PARENT v)) (on : OnSide p n v side) (steps : s ≡ (downs m side, ups m side)) where
+  pub climbed : Visited (Widened m p here there s.0 s.1) there p p' r → Passed (Rises m n p v) m n p p' r
   climbed seen = record { grown = visited_grown (upper ready inner inside) w (λ i j a. inl a) comes; settled = λ e b i j other h l d. w.full e i j h l (inr (again b other d)) }
     where
       A : ℕ → ℕ → Type 0
@@ -103,7 +103,8 @@ module _ {m : Machine} {n v here there r : ℕ} {p p' : List ℕ} (side : Bool) 
       w : Visited A (loop_at n (word p n PARENT v)) p p' r
       w =
           subst (λ (a : ℕ). Visited (Widened m p (loop_at n v) a (downs m side) (ups m side)) a p p' r) above
-          (subst (λ (a : ℕ). Visited (Widened m p a there (downs m side) (ups m side)) there p p' r) at seen)
+          (subst (λ (a : ℕ). Visited (Widened m p a there (downs m side) (ups m side)) there p p' r) at
+          (subst (λ (z : ℕ × ℕ). Visited (Widened m p here there z.0 z.1) there p p' r) steps seen))
 
       comes : (P R : XPath) (t : Tree) → Stage P R t m n p → SoundBelow P R t n n p → (i j : ℕ) → i < 16 → j < 16 → A i j → Comes P R t i (word p n PARENT v) j (word p n PARENT v)
       comes P R t stage old i j h l (inl a) = old (word p n PARENT v) (upper ready inner inside) i j h l a
@@ -112,7 +113,7 @@ module _ {m : Machine} {n v here there r : ℕ} {p p' : List ℕ} (side : Bool) 
       again : (b : Bool) {i j : ℕ} → OnSide p n v b → Detour m p (loop_at n v) (downs m b) (ups m b) i j → Detour m p (loop_at n v) (downs m side) (ups m side) i j
       again b {i} {j} other d = subst (λ (a : Bool). Detour m p (loop_at n v) (downs m a) (ups m a) i j) (one_side p n v b side other on) d
 
-  pub descended : Visited (Widened m p there here (ups m side) (downs m side)) here p p' r → Passed (Falls m n p v) m n p p' r
+  pub descended : Visited (Widened m p there here s.1 s.0) here p p' r → Passed (Falls m n p v) m n p p' r
   descended seen = record { grown = visited_grown inside w (λ i j a. inl a) comes; settled = λ e b i j other h l d. w.full e i j h l (inr (again b other d)) }
     where
       A : ℕ → ℕ → Type 0
@@ -121,7 +122,8 @@ module _ {m : Machine} {n v here there r : ℕ} {p p' : List ℕ} (side : Bool) 
       w : Visited A (loop_at n v) p p' r
       w =
           subst (λ (a : ℕ). Visited (Widened m p (loop_at n (word p n PARENT v)) a (ups m side) (downs m side)) a p p' r) at
-          (subst (λ (a : ℕ). Visited (Widened m p a here (ups m side) (downs m side)) here p p' r) above seen)
+          (subst (λ (a : ℕ). Visited (Widened m p a here (ups m side) (downs m side)) here p p' r) above
+          (subst (λ (z : ℕ × ℕ). Visited (Widened m p there here z.1 z.0) here p p' r) steps seen))
 
       comes : (P R : XPath) (t : Tree) → Stage P R t m n p → SoundBelow P R t n n p → (i j : ℕ) → i < 16 → j < 16 → A i j → Comes P R t i v j v
       comes P R t stage old i j h l (inl a) = old v inside i j h l a

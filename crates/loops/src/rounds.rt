@@ -1,5 +1,6 @@
 // A round over all nodes: the matrices grow by the detours over their neighbours.
-ghost use Rattle.std.specs.Prelude.{◌<◌};
+ghost use Rattle.std.specs.Prelude.{Bool, ◌≡◌, ◌<◌};
+ghost use Rattle.detours.specs.Detours.{OnSide, downs, ups};
 ghost use Rattle.detours.specs.Visits.{Ready};
 ghost use Rattle.loops.specs.Growing.{Passed, Rises, Falls, Everywhere, Settled};
 
@@ -8,6 +9,17 @@ use detours::visit::visit;
 use layout::places::loop_at;
 use machine::Machine;
 
+// The steps down to `v` from its parent, and those up from it, by the side that `v` is on.
+fn steps(p: &[u16], n: usize, m: Machine, v: usize) -> (u16, u16)
+    requires { Ready n p.now × (0 < v) × (v < n) }
+    ensures { (side : Bool) × OnSide p.now n v side × (result ≡ (downs m side, ups m side)) }
+{
+    if is_left(p, n, v) {
+        return (m.left, m.leftup);
+    }
+    (m.right, m.rightup)
+}
+
 // The matrix of the parent of `v` grows by the detours over `v`.
 fn climb(p: &mut [u16], n: usize, m: Machine, v: usize) -> usize
     requires { Ready n p.old × (0 < v) × (v < n) }
@@ -15,10 +27,8 @@ fn climb(p: &mut [u16], n: usize, m: Machine, v: usize) -> usize
 {
     let here = loop_at(n, v);
     let there = above(p, n, v);
-    if is_left(p, n, v) {
-        return visit(p, m, here, there, m.left, m.leftup);
-    }
-    visit(p, m, here, there, m.right, m.rightup)
+    let (down, up) = steps(p, n, m, v);
+    visit(p, m, here, there, down, up)
 }
 
 // The matrix of `v` grows by the detours over its parent.
@@ -28,10 +38,8 @@ fn descend(p: &mut [u16], n: usize, m: Machine, v: usize) -> usize
 {
     let here = loop_at(n, v);
     let there = above(p, n, v);
-    if is_left(p, n, v) {
-        return visit(p, m, there, here, m.leftup, m.left);
-    }
-    visit(p, m, there, here, m.rightup, m.right)
+    let (down, up) = steps(p, n, m, v);
+    visit(p, m, there, here, up, down)
 }
 
 // From the last node up to the root.
@@ -40,9 +48,7 @@ fn upwards(p: &mut [u16], n: usize, m: Machine) -> usize
     ensures { Passed (Everywhere (Rises m n p.old) n) m n p.old p.new result }
 {
     let mut r: usize = 0;
-    let mut v = n;
-    while 1 < v {
-        v -= 1;
+    for v in (1..n).rev() {
         r += climb(p, n, m, v);
     }
     r

@@ -14,7 +14,7 @@ use machine::Machine;
 use matrices::followers::followers;
 use matrices::{compose, image};
 
-// The node 2^k above node `y`, or none.
+// The node 2^k above node `y`, or none: the word of its block as it stands, since `twice` hands it on as it is.
 pub fn upper(p: &[u16], n: usize, k: usize, y: usize) -> usize
     requires { Fits n k y p.now }
     ensures { (result ≡ get_or p.now (upper_at n k y) 0) × (result < word_values) }

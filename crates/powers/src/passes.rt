@@ -14,12 +14,10 @@ fn first_power(p: &mut [u16], n: usize, m: Machine, y: usize)
     let x = parent(p, n, y);
     if n <= x {
         none(p, n, 0, y);
+    } else if left(p, n, x) == y {
+        edge(p, n, m, x, y, m.left, m.leftup);
     } else {
-        if left(p, n, x) == y {
-            edge(p, n, m, x, y, m.left, m.leftup);
-        } else {
-            edge(p, n, m, x, y, m.right, m.rightup);
-        }
+        edge(p, n, m, x, y, m.right, m.rightup);
     }
 }
 

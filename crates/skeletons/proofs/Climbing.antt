@@ -13,7 +13,7 @@ use Rattle.layout.specs.Table.{PARENT}
 use Rattle.layout.specs.Words.{NONE, word}
 use Rattle.machine.specs.Shape.{Shape}
 use Rattle.group_marks.specs.Groups.{Group}
-use Rattle.skeletons.specs.Skeletons.{Arrives, Ascent}
+use Rattle.skeletons.specs.Skeletons.{Arrives, Ascent, Topmost}
 use Rattle.machine.proofs.Shape.{parent_case}
 
 -- ── The way so far ──
@@ -24,7 +24,6 @@ OnWay t d y x m c =
     ⊎ ((x ≡ NONE) × ((s : ℕ) → Skeleton t d s → Under t s y → s ≡ y))
 
 pub record Climbing (n r y x m c : ℕ) (p : List ℕ) : Type 0 where
-  pub node : (x < n) ⊎ (x ≡ NONE)
   pub child : c < n
   pub proper : 0 < m
   -- each edge leads to a smaller number, so there are at most y of them
@@ -51,10 +50,6 @@ smaller {t} {n} {z} {x} {p} s l e = go (parent_case s z l)
     go (inl (o, none)) = inr (e ∙ none)
     go (inr (i, k)) = inl (omega arith)
 
-node_of : {n z x : ℕ} → z < n → (x < z) ⊎ (x ≡ NONE) → (x < n) ⊎ (x ≡ NONE)
-node_of l (inl i) = inl (omega arith)
-node_of l (inr e) = inr e
-
 low_of : {n z x y : ℕ} (m : ℕ) → n ≤ 4096 → z + m ≤ y → (x < z) ⊎ (x ≡ NONE) → x < n → x + (m + 1) ≤ y
 low_of m few k (inl i) l = omega arith
 low_of m few k (inr e) l = absurd (omega arith)
@@ -64,7 +59,6 @@ module _ {t : Tree} {n : ℕ} {p : List ℕ} (s : Shape t n p) {r y : ℕ} where
   pub climbing_none : {x : ℕ} → y < n → x ≡ word p n PARENT y → Climbing n r y x 1 y p
   climbing_none {x} l e =
       record {
-        node = node_of l (smaller s l e);
         child = l;
         proper = omega arith;
         short = omega arith;
@@ -76,7 +70,6 @@ module _ {t : Tree} {n : ℕ} {p : List ℕ} (s : Shape t n p) {r y : ℕ} where
   climbing_step {x} {m} {c} {z} h l f e =
       let a = h.low l in
       record {
-        node = node_of l (smaller s l e);
         child = l;
         proper = omega arith;
         short = omega arith;
@@ -89,24 +82,21 @@ module _ {t : Tree} {n : ℕ} {p : List ℕ} (s : Shape t n p) {r y : ℕ} where
       go t d g (inr (o, k)) = let few = s.few in absurd (omega arith)
 
 -- ── Where the way ends ──
-module _ {n r y x m c : ℕ} {p : List ℕ} (h : Climbing n r y x m c p) (l : y < n) where
-  ascent : ((t : Tree) (d : List ℕ) → Group t d n r p → Skeleton t d y → OnWay t d y x m c → Arrives t d y x m c) → Ascent n r y x m c p
-  ascent f =
+module _ {n r y x m c : ℕ} {p : List ℕ} (h : Climbing n r y x m c p) where
+  -- at a skeleton node
+  pub climbing_met : n ≤ 4096 → y < n → x < n → ((t : Tree) (d : List ℕ) → Group t d n r p → Skeleton t d x) → Ascent n r y x m c p
+  climbing_met few l node met =
       let a = h.short in
-      record { node = h.node; child = h.child; proper = h.proper; short = omega arith; arrives = λ t d g k. f t d g k (h.way t d g) }
-
-  -- the way ends at a skeleton node
-  pub climbing_met : ((t : Tree) (d : List ℕ) → Group t d n r p → Skeleton t d x) → Ascent n r y x m c p
-  climbing_met met = ascent go
+      record { node = node; child = h.child; proper = h.proper; short = omega arith; arrives = λ t d g k. go t d g k (h.way t d g) }
     where
       go : (t : Tree) (d : List ℕ) → Group t d n r p → Skeleton t d y → OnWay t d y x m c → Arrives t d y x m c
-      go t d g k (inl (i, j)) = inl ((edge_iff t d g.shape.formed x y m).1 (met t d g, k, h.proper, i), j)
-      go t d g k (inr none) = inr none
+      go t d g k (inl (i, j)) = ((edge_iff t d g.shape.formed x y m).1 (met t d g, k, h.proper, i), j)
+      go t d g k (inr (none, top)) = absurd (omega arith)
 
-  -- the way ends above the root
-  pub climbing_top : n ≤ x → Ascent n r y x m c p
-  climbing_top end = ascent go
+  -- above the root
+  pub climbing_top : n ≤ x → Topmost n r y p
+  climbing_top end t d g k = go (h.way t d g)
     where
-      go : (t : Tree) (d : List ℕ) → Group t d n r p → Skeleton t d y → OnWay t d y x m c → Arrives t d y x m c
-      go t d g k (inl (i, (side, j, u))) = let a = child_after g.shape.formed j in let b = j.inside in let e = g.shape.size in absurd (omega arith)
-      go t d g k (inr none) = inr none
+      go : OnWay t d y x m c → (s : ℕ) → Skeleton t d s → Under t s y → s ≡ y
+      go (inl (i, (side, j, u))) = let a = child_after g.shape.formed j in let b = j.inside in let e = g.shape.size in absurd (omega arith)
+      go (inr (none, top)) = top

@@ -50,13 +50,13 @@ module _ {t : Tree} {d : List ℕ} {n r : ℕ} {p : List ℕ} (g : Group t d n r
       from (inl h) = inl ((has_word v l).1 h)
       from (inr h) = inr ((both_words v l).1 h)
 
-  -- a node of another rank, with its children as read
-  pub skeleton_rest : (v a b : ℕ) → v < n → ¬ (word p n RANK v ≡ r) → a ≡ word p n LEFT v → b ≡ word p n RIGHT v → Skeleton t d v ↔ (MarkedNode p n a × MarkedNode p n b)
-  skeleton_rest v a b l f e k = (λ s. to ((skeleton_words v l).0 s), λ h. (skeleton_words v l).1 (inr (subst (λ x. MarkedNode p n x) e h.0, subst (λ x. MarkedNode p n x) k h.1)))
+  -- a node of another rank
+  pub skeleton_other : (v : ℕ) → v < n → ¬ (word p n RANK v ≡ r) → Skeleton t d v ↔ (MarkedNode p n (word p n LEFT v) × MarkedNode p n (word p n RIGHT v))
+  skeleton_other v l f = (λ s. to ((skeleton_words v l).0 s), λ h. (skeleton_words v l).1 (inr h))
     where
-      to : (word p n RANK v ≡ r) ⊎ (MarkedNode p n (word p n LEFT v) × MarkedNode p n (word p n RIGHT v)) → MarkedNode p n a × MarkedNode p n b
+      to : (word p n RANK v ≡ r) ⊎ (MarkedNode p n (word p n LEFT v) × MarkedNode p n (word p n RIGHT v)) → MarkedNode p n (word p n LEFT v) × MarkedNode p n (word p n RIGHT v)
       to (inl h) = absurd (f h)
-      to (inr (h, i)) = (subst (λ x. MarkedNode p n x) (sym e) h, subst (λ x. MarkedNode p n x) (sym k) i)
+      to (inr h) = h
 
 -- a block that is not noted has no node of the skeleton
 pub empty_block : {t : Tree} {d : List ℕ} {n r : ℕ} {p : List ℕ} (u v : ℕ) → ¬ IsNoted p n v → u / 16 ≡ v / 16 → Group t d n r p → ¬ Skeleton t d u

@@ -1,5 +1,4 @@
 -- `levels::levels` meets its contract.
-use Prim.Native.Nat.{◌-◌}
 use Rattle.levels.proofs.Levelling.{Levelling}
 use Rattle.levels.proofs.levels.Given as goal
 

@@ -1,5 +1,4 @@
 -- `loops::find_loops` meets its contract.
-use mathlib.Core.Path.{◌∙◌}
 use native.Mathlib.Omega.{arith}
 use Rattle.detours.specs.Visits.{Ready}
 use Rattle.loops.proofs.Grows.{ready_kept, grown_none, grown_then}
@@ -33,9 +32,6 @@ pub loop-changed-preserved : goal.loop-changed-preserved
 loop-changed-preserved c =
     let w = c.round-changed.ensures in
     ((_, grown_then c.loop-changed.invariant.0.1 w.grown), passed_settled w)
-
-pub shape_of-p : goal.shape_of-p
-shape_of-p c = c.loop-changed.invariant.0.1.frame.long ∙ c.start.ensures.frame.long
 
 pub returns : goal.returns
 returns c P R t stage =

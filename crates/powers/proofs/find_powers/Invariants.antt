@@ -1,5 +1,5 @@
 -- `powers::find_powers` meets its contract.
-use Prim.Native.Nat.{◌-◌, ◌≤◌}
+use Prim.Native.Nat.{◌≤◌}
 use Rattle.powers.proofs.Passing.{Rising}
 use Rattle.powers.proofs.find_powers.Given as goal
 

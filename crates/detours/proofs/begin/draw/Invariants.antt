@@ -1,5 +1,5 @@
 -- `detours::begin::draw` meets its contract.
-use Prim.Native.Nat.{◌≤◌, ◌-◌}
+use Prim.Native.Nat.{◌≤◌}
 use Rattle.matrices.specs.Matrices.{Drawing}
 use Rattle.detours.specs.Visits.{Steps}
 use Rattle.detours.proofs.begin.draw.Given as goal

@@ -4,12 +4,6 @@ use native.Mathlib.Omega.{arith}
 use Rattle.layout.specs.Part.{loop_at}
 use Rattle.detours.proofs.place.above.Goals as goal
 
-pub loop_at-requires : goal.loop_at-requires
-loop_at-requires c =
-    let h = c.requires in
-    let u = h.0.parents c.args.v h.1 h.2 in
-    omega (arith, c.get-u.ensures.0)
-
 pub returns : goal.returns
 returns c =
     let h = c.requires in

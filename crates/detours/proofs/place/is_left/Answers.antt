@@ -1,17 +1,10 @@
 -- `detours::place::is_left` meets its contract.
 use Prim.Native.Nat.{ℕ}
 use mathlib.Core.Path.{◌≡◌, sym, ap, ◌∙◌}
-use native.Mathlib.Omega.{arith}
 use borrow.Author.Tests.{eqb-true, eqb-false}
 use Rattle.layout.specs.Table.{LEFT, PARENT}
 use Rattle.layout.specs.Words.{word}
 use Rattle.detours.proofs.place.is_left.Goals as goal
-
-pub get-requires : goal.get-requires
-get-requires c =
-    let h = c.requires in
-    let u = h.0.parents c.args.v h.1 h.2 in
-    omega (arith, c.get-u.ensures.0)
 
 pub returns : goal.returns
 returns c =

@@ -7,25 +7,10 @@ use Rattle.detours.proofs.visit.widen.Goals as goal
 pub loop-i-init : goal.loop-i-init
 loop-i-init c = (omega arith, widening_none _ _ _)
 
-pub detour-w-requires : goal.detour-w-requires
-detour-w-requires c = omega arith
-
-pub overflow_add-at : goal.overflow_add-at
-overflow_add-at c = omega arith
-
-pub add-r-requires : goal.add-r-requires
-add-r-requires c = omega arith
-
-pub overflow_add-r : goal.overflow_add-r
-overflow_add-r c = omega arith
-
 pub loop-i-preserved : goal.loop-i-preserved
 loop-i-preserved c =
     let l = c.loop-i.invariant.1 in
     (omega arith, widening_step c.requires.0 (omega arith) c.detour-w.ensures l c.add-r.ensures)
-
-pub shape_of-p : goal.shape_of-p
-shape_of-p c = omega arith
 
 pub returns : goal.returns
 returns c = widening_to (omega arith) c.loop-i.invariant.1

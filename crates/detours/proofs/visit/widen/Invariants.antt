@@ -1,5 +1,5 @@
 -- `detours::visit::widen` meets its contract.
-use Prim.Native.Nat.{◌≤◌, ◌-◌}
+use Prim.Native.Nat.{◌≤◌}
 use Rattle.matrices.specs.Widening.{Widening}
 use Rattle.detours.specs.Visits.{Widened}
 use Rattle.detours.proofs.visit.widen.Given as goal

@@ -1,5 +1,5 @@
 -- `edge_snippets::rows::add_rows` meets its contract.
-use Prim.Native.Nat.{◌≤◌, ◌-◌}
+use Prim.Native.Nat.{◌≤◌}
 use Rattle.matrices.specs.Matrices.{Drawing}
 use Rattle.edge_snippets.specs.Edges.{Crossed}
 use Rattle.edge_snippets.proofs.rows.add_rows.Given as goal

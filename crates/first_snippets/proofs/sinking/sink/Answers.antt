@@ -13,14 +13,5 @@ loop-v-init c = (omega arith, sank_none c.args.p.now)
 pub sink_from-v-requires : goal.sink_from-v-requires
 sink_from-v-requires c = (given_rest (rest_more (omega arith) c.loop-v.invariant.1.rest) c.requires, c.loop-v-test.true)
 
-pub loop-v-smaller : goal.loop-v-smaller
-loop-v-smaller c = let h = c.sink_from-v.ensures.0 in let l = c.loop-v-test.true in omega arith
-
-pub loop-v-preserved : goal.loop-v-preserved
-loop-v-preserved c = let h = c.sink_from-v.ensures in (h.1, h.2 c.args.p.now c.loop-v.invariant.1)
-
-pub shape_of-p : goal.shape_of-p
-shape_of-p c = c.loop-v.invariant.1.rest.same.long
-
 pub returns : goal.returns
 returns c = let x = c.args in let i = c.loop-v.invariant.0 in let l = c.loop-v-test.false in let whole : c.loop-v.v ≡ x.n = omega arith in subst (λ v. Sank x.m x.n x.b x.first x.r v x.p.now c.loop-v.p) whole c.loop-v.invariant.1

@@ -7,7 +7,7 @@ use Rattle.first_snippets.proofs.Descending.{put_rest, sinks_edge}
 use Rattle.first_snippets.proofs.sinking.sink_by.Goals as goal
 
 pub lower-above-requires : goal.lower-above-requires
-lower-above-requires c = let s = c.requires in placed_stretch s.0 s.1 s.2
+lower-above-requires c = let s = c.requires in placed_stretch s.0 s.1
 
 pub get-inside-requires : goal.get-inside-requires
 get-inside-requires c = let s = c.requires.0 in let h = sizes_front s.sizes in (omega arith, placed_node s, omega arith)
@@ -16,7 +16,7 @@ pub put-requires : goal.put-requires
 put-requires c = let s = c.requires.0 in let h = sizes_front s.sizes in (omega arith, placed_node s, omega arith, omega arith)
 
 pub add_edge-requires : goal.add_edge-requires
-add_edge-requires c = let s = c.requires in (stretch_kept (put_rest (placed_node s.0) c.put.ensures) (placed_stretch s.0 s.1 s.2), s.1.proper)
+add_edge-requires c = let s = c.requires in (stretch_kept (put_rest (placed_node s.0) c.put.ensures) (placed_stretch s.0 s.1), s.1.proper)
 
 pub returns : goal.returns
-returns c = let s = c.requires in sinks_edge _ (placed_node s.0) s.1 c.put.ensures c.outside-out.ensures c.get-inside.ensures.0 c.lower-above.ensures c.add_edge.ensures s.0.sizes.few s.2
+returns c = let s = c.requires in sinks_edge _ (placed_node s.0) c.put.ensures s.1 c.outside-out.ensures c.get-inside.ensures.0 c.lower-above.ensures c.add_edge.ensures

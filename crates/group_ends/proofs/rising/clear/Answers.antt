@@ -12,14 +12,5 @@ loop-v-init c = cleared_none c.args.n c.args.p.now
 pub clear_from-v-requires : goal.clear_from-v-requires
 clear_from-v-requires c = let p = c.requires in (room_within c.loop-v.invariant.within p.0, c.loop-v-test.true, p.1)
 
-pub loop-v-smaller : goal.loop-v-smaller
-loop-v-smaller c = let h = c.clear_from-v.ensures.0 in let l = c.loop-v-test.true in omega arith
-
-pub loop-v-preserved : goal.loop-v-preserved
-loop-v-preserved c = c.clear_from-v.ensures.1 c.args.p.now c.loop-v.invariant
-
-pub shape_of-p : goal.shape_of-p
-shape_of-p c = c.loop-v.invariant.within.long
-
 pub returns : goal.returns
 returns c = let g = c.loop-v.invariant in let x = c.args in let i = g.inside in let l = c.loop-v-test.false in let whole : c.loop-v.v ≡ x.n = omega arith in subst (λ v. Cleared x.n v x.p.now c.loop-v.p) whole g

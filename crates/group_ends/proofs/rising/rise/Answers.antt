@@ -1,6 +1,6 @@
 -- `group_ends::rising::rise` meets its contract.
 use Prim.Native.Nat.{suc, ◌-◌}
-use mathlib.Core.Path.{◌≡◌, ◌∙◌, subst}
+use mathlib.Core.Path.{◌≡◌, subst}
 use native.Mathlib.Omega.{arith}
 use Rattle.group_ends.specs.Steps.{Rises}
 use Rattle.layout.proofs.Rest.{rest_within}
@@ -15,20 +15,11 @@ clear-requires c = let s = c.requires.sizes in let h = sizes_front s in (omega a
 pub loop-v-init : goal.loop-v-init
 loop-v-init c = (omega arith, rises_none _ _)
 
-pub overflow_sub-v : goal.overflow_sub-v
-overflow_sub-v c = let l = c.loop-v-test.true in omega arith
-
 pub rise_from-v-requires : goal.rise_from-v-requires
 rise_from-v-requires c = let i = c.loop-v.invariant in let l = c.loop-v-test.true in let h = i.0 in (given_rest (rest_within (omega arith) i.1.within) (given_rest (cleared_rest c.clear.ensures) c.requires), omega arith)
 
-pub loop-v-smaller : goal.loop-v-smaller
-loop-v-smaller c = let h = c.rise_from-v.ensures.0 in let l = c.loop-v-test.true in omega arith
-
 pub loop-v-preserved : goal.loop-v-preserved
 loop-v-preserved c = let i = c.loop-v in let h = i.invariant.0 in let g = c.rise_from-v.ensures in let a = g.0 in let l = c.loop-v-test.true in let x = c.args in let e : i.v ≡ suc (i.v - 1) = omega arith in (omega arith, rises_then (subst (λ v. Rises x.m x.n x.b x.r x.n v c.clear.new.p i.p) e i.invariant.1) g.1)
-
-pub shape_of-p : goal.shape_of-p
-shape_of-p c = c.loop-v.invariant.1.within.long ∙ c.clear.ensures.within.long
 
 pub returns : goal.returns
 returns c = let l = c.loop-v-test.false in rises_all (omega arith) c.clear.ensures c.loop-v.invariant.1

@@ -11,9 +11,6 @@ use Rattle.buckets.proofs.Least.{buckets_within, next_behind}
 use Rattle.group_marks.proofs.Grouping.{grouping_none, grouping_next, grouping_step, grouping_all}
 use Rattle.group_marks.proofs.marks.mark_group.Goals as goal
 
-pub fill-requires : goal.fill-requires
-fill-requires c = (omega arith, c.requires.1, omega arith)
-
 pub get-w-requires : goal.get-w-requires
 get-w-requires c = let p = c.requires in let l = p.3 in (omega arith, omega arith, room_within c.fill.ensures.within p.1)
 
@@ -44,9 +41,6 @@ loop-w-smaller c = next_behind c.requires.0.1.few c.loop-w-test.true (next c)
 
 pub loop-w-preserved : goal.loop-w-preserved
 loop-w-preserved c = grouping_step c.requires.0.1.few c.loop-w.invariant c.loop-w-test.true c.mark_member.ensures (next c)
-
-pub shape_of-p : goal.shape_of-p
-shape_of-p c = c.loop-w.invariant.within.long ∙ c.fill.ensures.within.long
 
 pub returns : goal.returns
 returns c = grouping_all c.fill.ensures c.loop-w.invariant c.loop-w-test.false

@@ -16,9 +16,6 @@ get-requires c = (omega arith, c.loop-v-test.true, room_within c.loop-v.invarian
 pub note-requires : goal.note-requires
 note-requires c = (room_within c.loop-v.invariant.within c.requires.1, c.loop-v-test.true)
 
-pub shape_of-p-then-get-eq1 : goal.shape_of-p-then-get-eq1
-shape_of-p-then-get-eq1 c = c.note.ensures.within.long ∙ c.loop-v.invariant.within.long
-
 pub returns-then-get-eq1 : goal.returns-then-get-eq1
 returns-then-get-eq1 c =
     let h = c.note.ensures in let l = c.loop-v-test.true in
@@ -40,9 +37,6 @@ loop-v-smaller c =
     let v = c.loop-v.v in let l = c.loop-v-test.true in
     let e = c.parent-v.ensures.0 ∙ before_within (loop-v-preserved c).within PARENT v (omega arith) l in
     subst (λ x. height x < height v) (sym e) (height_less c.requires.0.1 v l)
-
-pub shape_of-p : goal.shape_of-p
-shape_of-p c = c.loop-v.invariant.within.long
 
 pub returns : goal.returns
 returns c = raising_all c.loop-v.invariant (λ l. absurd (omega arith))

@@ -1,5 +1,4 @@
 -- `group_order::measuring::measure` meets its contract.
-use Prim.Native.Nat.{◌-◌}
 use Rattle.group_order.specs.Steps.{Sized}
 use Rattle.group_order.proofs.measuring.measure.Given as goal
 

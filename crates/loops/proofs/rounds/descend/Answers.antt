@@ -1,30 +1,9 @@
 -- `loops::rounds::descend` meets its contract.
-use mathlib.Core.Logic.{inl}
-use mathlib.Core.Bool.{true, false}
-use native.Mathlib.Omega.{arith}
 use Rattle.loops.proofs.Grows.{descended}
 use Rattle.loops.proofs.rounds.descend.Goals as goal
-
-pub visit-requires : goal.visit-requires
-visit-requires c =
-    let e = c.loop_at-here.ensures in
-    let u = c.above-there.ensures.1 in
-    (inl (omega arith), omega arith, omega arith)
-
-pub returns-then-is_left : goal.returns-then-is_left
-returns-then-is_left c =
-    let h = c.requires in
-    let on = c.is_left.ensures.0 c.if-is_left.true in
-    descended true h.0 h.1 h.2 c.loop_at-here.ensures c.above-there.ensures.0 on c.visit.ensures
-
-pub visit-requires-2 : goal.visit-requires-2
-visit-requires-2 c =
-    let e = c.loop_at-here.ensures in
-    let u = c.above-there.ensures.1 in
-    (inl (omega arith), omega arith, omega arith)
 
 pub returns : goal.returns
 returns c =
     let h = c.requires in
-    let on = c.is_left.ensures.1 c.if-is_left.false in
-    descended false h.0 h.1 h.2 c.loop_at-here.ensures c.above-there.ensures.0 on c.visit-2.ensures
+    let (side, on, e) = c.steps-down.ensures in
+    descended side h.0 h.1 h.2 c.loop_at-here.ensures c.above-there.ensures.0 on e c.visit.ensures

@@ -28,8 +28,5 @@ loop-v-preserved c =
       sweep_more (Falls a.m a.n) l.v (λ u. (0 < u) × (u < l.v)) (λ u. (0 < u) × (u < l.v + 1)) (λ u t. down_cover t) l.invariant.2 c.descend-r.ensures,
     )
 
-pub shape_of-p : goal.shape_of-p
-shape_of-p c = c.loop-v.invariant.2.grown.frame.long
-
 pub returns : goal.returns
 returns c = let w = c.loop-v.invariant.2 in record { grown = w.grown; settled = λ e u h l. w.settled e u (omega arith) }

@@ -1,5 +1,5 @@
 -- `loops::rounds::downwards` meets its contract.
-use Prim.Native.Nat.{ℕ, ◌-◌, ◌≤◌, ◌<◌}
+use Prim.Native.Nat.{ℕ, ◌≤◌, ◌<◌}
 use Rattle.loops.specs.Growing.{Passed, Falls}
 use Rattle.loops.proofs.rounds.downwards.Given as goal
 

@@ -2,28 +2,13 @@
 use Prim.Native.Nat.{◌-◌, ◌≤◌, ◌<◌}
 use native.Mathlib.Omega.{arith}
 use Rattle.loops.specs.Growing.{Rises}
-use Rattle.loops.proofs.Grows.{ready_kept, grown_none}
 use Rattle.loops.proofs.Passing.{sweep_more, up_cover, total_le}
 use Rattle.loops.proofs.rounds.upwards.Goals as goal
-
-pub loop-v-init : goal.loop-v-init
-loop-v-init c = (omega arith, omega arith, record { grown = grown_none _ _ _; settled = λ e u (h, l). absurd (let f : ⊥ = omega arith in f) })
-
-pub overflow_sub-v : goal.overflow_sub-v
-overflow_sub-v c = omega arith
-
-pub climb-r-requires : goal.climb-r-requires
-climb-r-requires c =
-    let g = c.loop-v.invariant.2.grown in
-    (ready_kept g.frame c.requires.0, omega arith, omega arith)
 
 pub overflow_add-r : goal.overflow_add-r
 overflow_add-r c =
     let t = total_le c.args.n c.climb-r.new.p in
     omega (arith, c.loop-v.invariant.2.grown.count, c.climb-r.ensures.grown.count)
-
-pub loop-v-smaller : goal.loop-v-smaller
-loop-v-smaller c = omega arith
 
 pub loop-v-preserved : goal.loop-v-preserved
 loop-v-preserved c =
@@ -34,9 +19,6 @@ loop-v-preserved c =
       omega arith,
       sweep_more (Rises a.m a.n) (l.v - 1) (λ u. (l.v ≤ u) × (u < a.n)) (λ u. (l.v - 1 ≤ u) × (u < a.n)) (λ u t. up_cover few t) l.invariant.2 c.climb-r.ensures,
     )
-
-pub shape_of-p : goal.shape_of-p
-shape_of-p c = c.loop-v.invariant.2.grown.frame.long
 
 pub returns : goal.returns
 returns c = let w = c.loop-v.invariant.2 in record { grown = w.grown; settled = λ e u h l. w.settled e u (omega arith) }

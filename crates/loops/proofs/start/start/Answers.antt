@@ -13,8 +13,5 @@ begin-requires c = let s = c.loop-v.invariant.1 in (ready_kept s.frame c.require
 pub loop-v-preserved : goal.loop-v-preserved
 loop-v-preserved c = (omega arith, started_step (omega arith) c.loop-v.invariant.1 c.begin.ensures)
 
-pub shape_of-p : goal.shape_of-p
-shape_of-p c = c.loop-v.invariant.1.frame.long
-
 pub returns : goal.returns
 returns c = started_to (omega arith) c.loop-v.invariant.1

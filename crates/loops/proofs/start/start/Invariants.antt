@@ -1,5 +1,5 @@
 -- `loops::start::start` meets its contract.
-use Prim.Native.Nat.{◌≤◌, ◌-◌}
+use Prim.Native.Nat.{◌≤◌}
 use Rattle.loops.specs.Growing.{Started}
 use Rattle.loops.proofs.start.start.Given as goal
 

@@ -1,5 +1,5 @@
 -- `powers::blocks::cross` meets its contract.
-use Prim.Native.Nat.{◌≤◌, ◌-◌}
+use Prim.Native.Nat.{◌≤◌}
 use Rattle.matrices.specs.Matrices.{Drawing}
 use Rattle.powers.specs.Blocks.{Crossed}
 use Rattle.powers.proofs.blocks.cross.Given as goal

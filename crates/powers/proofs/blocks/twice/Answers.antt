@@ -28,6 +28,3 @@ compose-requires-2 c =
 pub returns : goal.returns
 returns c =
     twice_made c.args.k c.requires.0 c.requires.1 c.block_at-at.ensures c.block_at-above.ensures c.block_at-below.ensures c.upper-x.ensures.0 c.compose.ensures c.compose-2.ensures
-
-pub shape_of-p : goal.shape_of-p
-shape_of-p c = (returns c).only.long

@@ -16,8 +16,5 @@ power-requires c =
 pub loop-y-preserved : goal.loop-y-preserved
 loop-y-preserved c = (omega arith, passed_step c.loop-y.invariant.1 c.power.ensures)
 
-pub shape_of-p : goal.shape_of-p
-shape_of-p c = c.loop-y.invariant.1.frame.long
-
 pub returns : goal.returns
 returns c = passed_to (omega arith) c.loop-y.invariant.1

@@ -1,5 +1,5 @@
 -- `powers::passes::pass` meets its contract.
-use Prim.Native.Nat.{◌-◌, ◌≤◌}
+use Prim.Native.Nat.{◌≤◌}
 use Rattle.powers.specs.Blocks.{Passed}
 use Rattle.powers.proofs.passes.pass.Given as goal
 
