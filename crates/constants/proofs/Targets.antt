@@ -12,8 +12,8 @@ use Rattle.layout.specs.Table.{COLUMNS, AMOUNT}
 use Rattle.layout.specs.Words.{NONE, word}
 use Rattle.string_order.specs.Bytes as Bytes
 use Rattle.string_order.specs.Ordered.{Ordered}
-use Rattle.string_order.specs.declared.Order.{Order}
-use Rattle.string_order.specs.declared.Order.TheVariants.{Less, Same, Greater}
+use Rattle.std.specs.declared.cmp.Ordering.{Ordering}
+use Rattle.std.specs.declared.cmp.Ordering.TheVariants.{Less, Equal, Greater}
 use Rattle.string_order.proofs.Bytes.{less_transitive}
 use Rattle.numerals.specs.Keys.{no_key}
 use Rattle.ranks.specs.Ranks.{Ranked}
@@ -30,13 +30,13 @@ column_inside (Text c) = omega arith
 column_inside (Amount k) = omega arith
 
 -- texts compare by their bytes
-pub compares_text : (bs cs : List ℕ) (o : Order) → Ordered bs cs o → Compares Bytes.Less bs cs o
+pub compares_text : (bs cs : List ℕ) (o : Ordering) → Ordered bs cs o → Compares Bytes.Less bs cs o
 compares_text bs cs Less h = h
-compares_text bs cs Same h = h
+compares_text bs cs Equal h = h
 compares_text bs cs Greater h = h
 
 -- ── What is read of node v ──
-module _ (ns : List Node) (rule : List ℕ) (v : ℕ) (c : Target) (o : Order) where
+module _ (ns : List Node) (rule : List ℕ) (v : ℕ) (c : Target) (o : Ordering) where
   pub compared_text : (w : Span) → c ≡ Text w → Ordered (compared_of ns v) (between rule w) o → ComparesAt (against ns rule c) v o
   compared_text w e h = subst (λ x. ComparesAt (against ns rule x) v o) (sym e) (compares_text (compared_of ns v) (between rule w) o h)
 

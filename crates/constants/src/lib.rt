@@ -18,7 +18,7 @@ use amounts::keys::node_key;
 use document_lines::entries::Span;
 use layout::Table;
 use layout::words::get;
-use string_order::Order;
+use std::cmp::Ordering;
 use value_order::constant::compare_constant;
 use values::{Reading, value_of};
 
@@ -67,7 +67,7 @@ fn nearest(t: &[u16], n: usize, column: usize, low: usize) -> usize
 }
 
 // How the text of node `v` compares with one that stands in the rule.
-fn compare_text(s: &[u8], rule: &[u8], t: &[u16], n: usize, v: usize, c: Span) -> Order
+fn compare_text(s: &[u8], rule: &[u8], t: &[u16], n: usize, v: usize, c: Span) -> Ordering
     requires { Annotated s.now n t.now × (v < n) × (c.from ≤ c.to) × (c.to ≤ length rule.now) }
     ensures { (ns : List Library.Node) → Accepts s.now ns → Ordered (compared_of ns v) (between rule.now c) result }
 {
@@ -75,20 +75,20 @@ fn compare_text(s: &[u8], rule: &[u8], t: &[u16], n: usize, v: usize, c: Span) -
     compare_constant(s, t, n, x, rule, c.from, c.to)
 }
 
-fn compare_keys(a: usize, b: usize) -> Order
+fn compare_keys(a: usize, b: usize) -> Ordering
     ensures { Compares ◌<◌ a b result }
 {
     if a < b {
-        return Order::Less;
+        return Ordering::Less;
     }
     if a == b {
-        return Order::Same;
+        return Ordering::Equal;
     }
-    Order::Greater
+    Ordering::Greater
 }
 
 // How the value of node `v` compares with the constant, by reading it.
-fn compare_value(s: &[u8], rule: &[u8], t: &[u16], n: usize, v: usize, c: Target) -> Order
+fn compare_value(s: &[u8], rule: &[u8], t: &[u16], n: usize, v: usize, c: Target) -> Ordering
     requires { Annotated s.now n t.now × (v < n) × InRule rule.now c }
     ensures { (ns : List Library.Node) → Accepts s.now ns → ComparesAt (against ns rule.now c) v result }
 {
@@ -115,14 +115,14 @@ pub fn find_place(s: &[u8], rule: &[u8], t: &[u16], n: usize, c: Target) -> Plac
         }
         let r = get(t, n, k, v);
         match compare_value(s, rule, t, n, v, c) {
-            Order::Less => lo = r + 1,
-            Order::Same => {
+            Ordering::Less => lo = r + 1,
+            Ordering::Equal => {
                 return Place {
                     first: r,
                     behind: r + 1,
                 };
             }
-            Order::Greater => hi = mid,
+            Ordering::Greater => hi = mid,
         }
     }
     Place {
@@ -132,14 +132,14 @@ pub fn find_place(s: &[u8], rule: &[u8], t: &[u16], n: usize, c: Target) -> Plac
 }
 
 // How a value with rank `r` compares with the constant that has this place.
-pub fn compare_rank(r: usize, p: Place) -> Order
+pub fn compare_rank(r: usize, p: Place) -> Ordering
     ensures { Told p r result }
 {
     if r < p.first {
-        return Order::Less;
+        return Ordering::Less;
     }
     if r < p.behind {
-        return Order::Same;
+        return Ordering::Equal;
     }
-    Order::Greater
+    Ordering::Greater
 }

@@ -8,8 +8,8 @@ use Rattle.document_spec.specs.Verdict.{Accepts}
 use Rattle.layout.specs.Ranking.{TWIN}
 use Rattle.layout.specs.Words.{word}
 use Rattle.bits.specs.Sets.{one}
-use Rattle.string_order.specs.declared.Order.{Order}
-use Rattle.string_order.specs.declared.Order.TheVariants.{Less, Same, Greater}
+use Rattle.std.specs.declared.cmp.Ordering.{Ordering}
+use Rattle.std.specs.declared.cmp.Ordering.TheVariants.{Less, Equal, Greater}
 use Rattle.string_order.specs.Ordered.{Ordered}
 use Rattle.value_order.specs.Less.{is_smaller}
 use Rattle.value_order.specs.Twins.{Prepared}
@@ -17,15 +17,15 @@ use Rattle.sorting.proofs.Order.{less_asymmetric, less_distinct, one_less, one_n
 use Rattle.ranks.proofs.Order.{string_order_lem}
 
 -- of node v, by how its value compares with that of the node before it
-abbrev pub rises : Order → ℕ
+abbrev pub rises : Ordering → ℕ
 rises Less = 0
-rises Same = 0
+rises Equal = 0
 rises Greater = 1
 
 module _ (ns : List Node) (v u : ℕ) where
-  pub rises_told : (o : Order) → Ordered (compared_of ns v) (compared_of ns u) o → rises o ≡ one (is_smaller ns v u)
+  pub rises_told : (o : Ordering) → Ordered (compared_of ns v) (compared_of ns u) o → rises o ≡ one (is_smaller ns v u)
   rises_told Less h = one_not string_order_lem (compared_of ns u) (compared_of ns v) (less_asymmetric string_order_lem (compared_of ns v) (compared_of ns u) h)
-  rises_told Same h = one_not string_order_lem (compared_of ns u) (compared_of ns v) (λ k. less_distinct string_order_lem (compared_of ns u) (compared_of ns v) k (sym h))
+  rises_told Equal h = one_not string_order_lem (compared_of ns u) (compared_of ns v) (λ k. less_distinct string_order_lem (compared_of ns u) (compared_of ns v) k (sym h))
   rises_told Greater h = one_less string_order_lem (compared_of ns u) (compared_of ns v) h
 
   -- both have the value of the one twin

@@ -10,7 +10,7 @@ ghost use Rattle.ranks.specs.Sorting.{Numbered};
 
 use layout::words::{get, put};
 use layout::{Ranking, Table};
-use string_order::Order;
+use std::cmp::Ordering;
 use value_order::comparison::compare_with;
 use values::value_of;
 
@@ -24,9 +24,9 @@ fn rise(s: &[u8], t: &[u16], n: usize, u: usize, v: usize) -> usize
     }
     let x = value_of(t, n, v);
     match compare_with(s, t, n, x, u) {
-        Order::Less => 0,
-        Order::Same => 0,
-        Order::Greater => 1,
+        Ordering::Less => 0,
+        Ordering::Equal => 0,
+        Ordering::Greater => 1,
     }
 }
 

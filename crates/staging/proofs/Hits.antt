@@ -26,7 +26,7 @@ use Rattle.rule_parts.specs.declared.kinds.Operator.{Operator}
 use Rattle.rule_parts.specs.Kinds.{operator}
 use Rattle.constants.specs.declared.Place.{Place}
 use Rattle.constants.specs.declared.Target.TheVariants.{Text, Amount}
-use Rattle.string_order.specs.declared.Order.{Order}
+use Rattle.std.specs.declared.cmp.Ordering.{Ordering}
 use Rattle.constants.specs.Places.{Compares, against, Told, Placed}
 use Rattle.amounts.proofs.Kept.{weighed_some}
 use Rattle.staging.specs.Signs.{Stands, ByText}
@@ -39,7 +39,7 @@ use Rattle.staging.proofs.Signs.{key, stands_text, stands_amount, amounts_both}
 pub hit_none : {n r w : ℕ} {p : Place} {o : Operator} → r ≡ w → n ≤ r → Hit n p o w 0
 hit_none e l = record { none = λ k. refl; some = λ k. absurd (omega arith) }
 
-pub hit_some : {n r w x : ℕ} (p : Place) {o : Operator} (c : Order) → r ≡ w → r < n → Told p r c → ((q : Op) → o ≡ operator q → (x ≡ 1) ↔ Stands q c) → Hit n p o w x
+pub hit_some : {n r w x : ℕ} (p : Place) {o : Operator} (c : Ordering) → r ≡ w → r < n → Told p r c → ((q : Op) → o ≡ operator q → (x ≡ 1) ↔ Stands q c) → Hit n p o w x
 hit_some p c e l h f = record { none = λ k. absurd (omega arith); some = λ k. (c, subst (λ (i : ℕ). Told p i c) e h, f) }
 
 -- ── The loops ──

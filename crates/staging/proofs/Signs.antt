@@ -15,8 +15,8 @@ use Rattle.rule_parts.specs.declared.kinds.Operator.TheVariants.{Equal, Unequal,
 use Rattle.rule_parts.specs.Kinds.{operator}
 use Rattle.layout.specs.Table.{RANK, AMOUNT}
 use Rattle.string_order.specs.Bytes as Bytes
-use Rattle.string_order.specs.declared.Order.{Order}
-use Rattle.string_order.specs.declared.Order.TheVariants.{Less, Same, Greater}
+use Rattle.std.specs.declared.cmp.Ordering.{Ordering}
+use Rattle.std.specs.declared.cmp.Ordering.TheVariants.{Less, Equal, Greater}
 use Rattle.string_order.proofs.Bytes.{less_distinct}
 use Rattle.numerals.specs.Keys.{no_key, key_of}
 use Rattle.numerals.proofs.Keys.{below_by_keys, at_most_by_keys}
@@ -83,35 +83,35 @@ ranks_amount gt f = refl
 ranks_amount ge f = refl
 
 -- ── How values compare: in one of three ways ──
-abbrev code : Order → ℕ
+abbrev code : Ordering → ℕ
 code Less = 0
-code Same = 1
+code Equal = 1
 code Greater = 2
 
 pub apart : {A : Type 0} {c d : Order} → c ≡ d → ¬ (code c ≡ code d) → A
-apart e f = absurd (f (ap (λ (c : Order). code c) e))
+apart e f = absurd (f (ap (λ (c : Ordering). code c) e))
 
-same_text : (bs cs : List ℕ) (c : Order) → Compares Bytes.Less bs cs c → (c ≡ Same) ↔ (bs ≡ cs)
+same_text : (bs cs : List ℕ) (c : Ordering) → Compares Bytes.Less bs cs c → (c ≡ Equal) ↔ (bs ≡ cs)
 same_text bs cs Less h = (λ e. apart e (λ z. omega arith), λ e. absurd (less_distinct bs cs h e))
-same_text bs cs Same h = (λ e. h, λ e. refl)
+same_text bs cs Equal h = (λ e. h, λ e. refl)
 same_text bs cs Greater h = (λ e. apart e (λ z. omega arith), λ e. absurd (less_distinct cs bs h (sym e)))
 
 module _ (a b : ℕ) where
-  less_number : (c : Order) → Compares ◌<◌ a b c → (c ≡ Less) ↔ (a < b)
+  less_number : (c : Ordering) → Compares ◌<◌ a b c → (c ≡ Less) ↔ (a < b)
   less_number Less h = (λ e. h, λ l. refl)
-  less_number Same h = (λ e. apart e (λ z. omega arith), λ l. absurd (omega arith))
+  less_number Equal h = (λ e. apart e (λ z. omega arith), λ l. absurd (omega arith))
   less_number Greater h = (λ e. apart e (λ z. omega arith), λ l. absurd (omega arith))
 
-  greater_number : (c : Order) → Compares ◌<◌ a b c → (c ≡ Greater) ↔ (b < a)
+  greater_number : (c : Ordering) → Compares ◌<◌ a b c → (c ≡ Greater) ↔ (b < a)
   greater_number Less h = (λ e. apart e (λ z. omega arith), λ l. absurd (omega arith))
-  greater_number Same h = (λ e. apart e (λ z. omega arith), λ l. absurd (omega arith))
+  greater_number Equal h = (λ e. apart e (λ z. omega arith), λ l. absurd (omega arith))
   greater_number Greater h = (λ e. h, λ l. refl)
 
   not_less : (¬ (a < b)) ↔ (b ≤ a)
   not_less = (λ f. omega arith, λ l h. omega arith)
 
 -- ── What a sign of text says ──
-pub stands_text : (q : Op) (bs cs : List ℕ) (c : Order) → ByText q → Compares Bytes.Less bs cs c → Stands q c ↔ Rel q bs cs
+pub stands_text : (q : Op) (bs cs : List ℕ) (c : Ordering) → ByText q → Compares Bytes.Less bs cs c → Stands q c ↔ Rel q bs cs
 stands_text eq bs cs c y h = same_text bs cs c h
 stands_text ne bs cs c y h = ¬-iff (same_text bs cs c h)
 stands_text lt bs cs c y h = absurd y
@@ -126,7 +126,7 @@ key bs = key_of (amount_of bs)
 keyed : {A B C D : Type 0} → A → B → D ↔ (A × B × C) → C ↔ D
 keyed a b f = (λ c. f.1 (a, b, c), λ d. (f.0 d).2)
 
-pub stands_amount : (q : Op) (bs cs : List ℕ) (c : Order) → ¬ ByText q → key bs < no_key → key cs < no_key → Compares ◌<◌ (key bs) (key cs) c → Stands q c ↔ Rel q bs cs
+pub stands_amount : (q : Op) (bs cs : List ℕ) (c : Ordering) → ¬ ByText q → key bs < no_key → key cs < no_key → Compares ◌<◌ (key bs) (key cs) c → Stands q c ↔ Rel q bs cs
 stands_amount eq bs cs c f x y h = absurd (f tt)
 stands_amount ne bs cs c f x y h = absurd (f tt)
 stands_amount lt bs cs c f x y h = trans (less_number (key bs) (key cs) c h) (keyed x y (below_by_keys bs cs))

@@ -2,44 +2,44 @@
 ghost use Rattle.std.specs.Prelude.{true, ◌↔◌, ◌≡◌};
 ghost use Rattle.xpath.specs.Syntax.{Op};
 ghost use Rattle.rule_parts.specs.Kinds.{operator};
-ghost use Rattle.string_order.specs.declared.Order.TheVariants.{Less, Same, Greater};
+ghost use Rattle.std.specs.declared.cmp.Ordering.TheVariants.{Less, Equal, Greater};
 ghost use Rattle.staging.specs.Signs.{ByText, Stands};
 
 use rule_parts::kinds::Operator;
-use string_order::Order;
+use std::cmp::Ordering;
 
-fn is_less(c: Order) -> bool
+fn is_less(c: Ordering) -> bool
     ensures { (result ≡ true) ↔ (c ≡ Less) }
 {
     match c {
-        Order::Less => true,
-        Order::Same => false,
-        Order::Greater => false,
+        Ordering::Less => true,
+        Ordering::Equal => false,
+        Ordering::Greater => false,
     }
 }
 
-fn is_same(c: Order) -> bool
-    ensures { (result ≡ true) ↔ (c ≡ Same) }
+fn is_same(c: Ordering) -> bool
+    ensures { (result ≡ true) ↔ (c ≡ Equal) }
 {
     match c {
-        Order::Less => false,
-        Order::Same => true,
-        Order::Greater => false,
+        Ordering::Less => false,
+        Ordering::Equal => true,
+        Ordering::Greater => false,
     }
 }
 
-fn is_greater(c: Order) -> bool
+fn is_greater(c: Ordering) -> bool
     ensures { (result ≡ true) ↔ (c ≡ Greater) }
 {
     match c {
-        Order::Less => false,
-        Order::Same => false,
-        Order::Greater => true,
+        Ordering::Less => false,
+        Ordering::Equal => false,
+        Ordering::Greater => true,
     }
 }
 
 // The sign stands for values that compare like this.
-pub fn fits(c: Order, o: Operator) -> bool
+pub fn fits(c: Ordering, o: Operator) -> bool
     ensures { (q : Op) → o ≡ operator q → (result ≡ true) ↔ Stands q c }
 {
     match o {

@@ -17,13 +17,13 @@ use Rattle.value_notes.specs.Values.{up_to, Several}
 use Rattle.values.specs.declared.Reading.{Reading}
 use Rattle.values.specs.Comes.{at_hand, Goes, Opens}
 use Rattle.values.proofs.Texts.{upto_more}
-use Rattle.string_order.specs.declared.Order.TheVariants as Order
+use Rattle.std.specs.declared.cmp.Ordering.TheVariants as Ordering
 use Rattle.string_order.proofs.Comparison.{behind_common}
 
 -- a proper prefix is smaller
 less_more : (ps qs : List ℕ) → 0 < length qs → Less ps (ps ++ qs)
 less_more ps [] h = absurd (omega arith)
-less_more ps (q ∷ qs) h = subst (λ xs. Less xs (ps ++ q ∷ qs)) (append-nil ps) (behind_common ps [] (q ∷ qs) Order.Less tt)
+less_more ps (q ∷ qs) h = subst (λ xs. Less xs (ps ++ q ∷ qs)) (append-nil ps) (behind_common ps [] (q ∷ qs) Ordering.Less tt)
 
 -- ── Several texts ──
 module _ {ns : List Node} {v w f l m : ℕ} (h : Several ns v f l) (g : Several ns w f m) where

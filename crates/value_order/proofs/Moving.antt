@@ -13,7 +13,7 @@ use Rattle.values.specs.declared.Reading.{Reading}
 use Rattle.value_notes.specs.Values.{up_to}
 use Rattle.values.specs.Comes.{at_hand, Goes, Comes, Filled}
 use Rattle.values.proofs.Texts.{first_of}
-use Rattle.string_order.specs.declared.Order.{Order}
+use Rattle.std.specs.declared.cmp.Ordering.{Ordering}
 use Rattle.string_order.specs.Ordered.{Ordered}
 use Rattle.string_order.proofs.Comparison.{prefix_less, behind_common}
 use Rattle.value_order.specs.Along.{Ready, Moved, Decides, Along, Shared, Looked}
@@ -96,7 +96,7 @@ module _ {s c : List ℕ} {ns : List Node} {bs cs : List ℕ} where
     ended_less e i = prefix_less e (comes_first g i).1
 
     -- the first bytes that are not the same decide
-    pub bytes_decide : (k : ℕ) (o : Order) → x.from + k < x.to → y.from + k < y.to → slice x.from (x.from + k) s ≡ slice y.from (y.from + k) c
+    pub bytes_decide : (k : ℕ) (o : Ordering) → x.from + k < x.to → y.from + k < y.to → slice x.from (x.from + k) s ≡ slice y.from (y.from + k) c
         → ((us vs : List ℕ) → Ordered (get_or s (x.from + k) 0 ∷ us) (get_or c (y.from + k) 0 ∷ vs) o) → Ordered bs cs o
     bytes_decide k o i j e f =
         let p = moved h k (omega arith) in let q = moved g k (omega arith) in

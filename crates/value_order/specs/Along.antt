@@ -4,7 +4,7 @@ use Rattle.std.proofs.Math.Seq.{slice}
 use Rattle.document_spec.specs.Library.{Node}
 use Rattle.values.specs.declared.Reading.{Reading}
 use Rattle.values.specs.Comes.{Comes, weight}
-use Rattle.string_order.specs.declared.Order.{Order}
+use Rattle.std.specs.declared.cmp.Ordering.{Ordering}
 use Rattle.string_order.specs.Ordered.{Ordered}
 use Rattle.value_order.specs.declared.stretches.Ahead.{Ahead}
 use Rattle.value_order.specs.declared.stretches.Ahead.TheVariants.{Decided, Common}
@@ -27,7 +27,7 @@ pub record Moved (s : List ℕ) (ns : List Node) (c : Reading) (k : ℕ) (bs : L
 -- ── Two cursors ──
 -- bs and cs compare as xs and ys do
 abbrev pub Decides : List ℕ → List ℕ → List ℕ → List ℕ → Type 0
-Decides bs cs xs ys = (o : Order) → Ordered xs ys o → Ordered bs cs o
+Decides bs cs xs ys = (o : Ordering) → Ordered xs ys o → Ordered bs cs o
 
 -- what x and y have to come decides how bs and cs compare
 pub record Along (s c : List ℕ) (ns : List Node) (bs cs : List ℕ) (x y : Reading) : Type 0 where

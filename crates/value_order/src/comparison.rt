@@ -11,11 +11,11 @@ ghost use Rattle.value_order.specs.Twins.{Prepared};
 use crate::cursors::behind;
 use crate::passing::{Both, pass};
 use crate::stretches::{Ahead, look};
-use string_order::Order;
+use std::cmp::Ordering;
 use values::{Reading, refill, value_of};
 
 // How the values compare that two cursors have to come.
-fn compare(s: &[u8], t: &[u16], n: usize, x: Reading, y: Reading) -> Order
+fn compare(s: &[u8], t: &[u16], n: usize, x: Reading, y: Reading) -> Ordering
     requires { Prepared s.now n t.now × ((ns : List Library.Node) × (bs cs : List ℕ) × Accepts s.now ns × Comes s.now ns x bs × Comes s.now ns y cs) }
     ensures { (ns : List Library.Node) (bs cs : List ℕ) → Accepts s.now ns → Comes s.now ns x bs → Comes s.now ns y cs → Ordered bs cs result }
 {
@@ -37,28 +37,28 @@ fn compare(s: &[u8], t: &[u16], n: usize, x: Reading, y: Reading) -> Order
 }
 
 // Two values that begin at the same place: one begins with the other, and how far they go decides.
-fn by_ends(x: Reading, y: Reading) -> Order
+fn by_ends(x: Reading, y: Reading) -> Ordering
     ensures { (s : List ℕ) (ns : List Library.Node) (v w : ℕ) → length ns ≤ NONE → Opens s ns v x → Opens s ns w y → x.from ≡ y.from → x.node ≡ y.node → Ordered (compared_of ns v) (compared_of ns w) result }
 {
     if x.last < y.last {
-        return Order::Less;
+        return Ordering::Less;
     }
     if y.last < x.last {
-        return Order::Greater;
+        return Ordering::Greater;
     }
     if x.node < x.last || x.to == y.to {
-        return Order::Same;
+        return Ordering::Equal;
     }
     if x.to < y.to {
-        Order::Less
+        Ordering::Less
     } else {
-        Order::Greater
+        Ordering::Greater
     }
 }
 
 // How the value at whose beginning `x` is compares with the value of node `w`.
 // Where both begin at the same place they need not be read.
-pub fn compare_with(s: &[u8], t: &[u16], n: usize, x: Reading, w: usize) -> Order
+pub fn compare_with(s: &[u8], t: &[u16], n: usize, x: Reading, w: usize) -> Ordering
     requires { Prepared s.now n t.now × (w < n) × ((ns : List Library.Node) × (v : ℕ) × Accepts s.now ns × Opens s.now ns v x) }
     ensures { (ns : List Library.Node) (v : ℕ) → Accepts s.now ns → Opens s.now ns v x → Ordered (compared_of ns v) (compared_of ns w) result }
 {

@@ -10,7 +10,7 @@ ghost use Rattle.string_order.specs.Ordered.{Ordered};
 use crate::cursors::behind;
 use crate::stretches::{Ahead, look};
 use layout::Table;
-use string_order::Order;
+use std::cmp::Ordering;
 use values::{Reading, refill};
 
 // How the value that a cursor has to come compares with the bytes of a constant from one offset up to another.
@@ -22,7 +22,7 @@ pub fn compare_constant(
     c: &[u8],
     from: usize,
     to: usize,
-) -> Order
+) -> Ordering
     requires { ((ns : List Library.Node) × (bs : List ℕ) × Annotated s.now n t.now × Accepts s.now ns × Comes s.now ns x bs) × (from ≤ to) × (to ≤ length c.now) }
     ensures { (ns : List Library.Node) (bs : List ℕ) → Accepts s.now ns → Comes s.now ns x bs → Ordered bs (slice from to c.now) result }
 {

@@ -2,13 +2,14 @@
 ghost use Rattle.std.specs.Prelude.{◌≤◌, ◌<◌, length};
 ghost use Rattle.value_order.specs.Along.{Looked};
 
-use string_order::{Order, agree, by_bytes};
+use std::cmp::Ordering;
+use string_order::{agree, by_bytes};
 use values::Reading;
 
 // How two values compare, or how many of the next bytes are the same.
 #[derive(Clone, Copy)]
 pub enum Ahead {
-    Decided(Order),
+    Decided(Ordering),
     Common(usize),
 }
 
@@ -26,12 +27,12 @@ pub fn look(s: &[u8], x: Reading, c: &[u8], y: Reading) -> Ahead
 {
     if x.to <= x.from {
         if y.to <= y.from {
-            return Ahead::Decided(Order::Same);
+            return Ahead::Decided(Ordering::Equal);
         }
-        return Ahead::Decided(Order::Less);
+        return Ahead::Decided(Ordering::Less);
     }
     if y.to <= y.from {
-        return Ahead::Decided(Order::Greater);
+        return Ahead::Decided(Ordering::Greater);
     }
     let most = least(x.to - x.from, y.to - y.from);
     let k = agree(s, x.from, c, y.from, most);

@@ -7,8 +7,8 @@ use Rattle.staging.proofs.relations.is_same.Goals as goal
 pub returns-in-Less : goal.returns-in-Less
 returns-in-Less c = told_no (λ e. apart (sym c.in-Less.is ∙ e) (λ z. omega arith))
 
-pub returns-in-Same : goal.returns-in-Same
-returns-in-Same c = told_yes c.in-Same.is
+pub returns-in-Equal : goal.returns-in-Equal
+returns-in-Equal c = told_yes c.in-Equal.is
 
 pub returns-in-Greater : goal.returns-in-Greater
 returns-in-Greater c = told_no (λ e. apart (sym c.in-Greater.is ∙ e) (λ z. omega arith))
