@@ -6,8 +6,8 @@ use Rattle.values.specs.declared.Reading.{Reading}
 use Rattle.values.specs.Comes.{Comes, weight}
 use Rattle.std.specs.declared.cmp.Ordering.{Ordering}
 use Rattle.string_order.specs.Ordered.{Ordered}
-use Rattle.value_order.specs.declared.stretches.Ahead.{Ahead}
-use Rattle.value_order.specs.declared.stretches.Ahead.TheVariants.{Decided, Common}
+use Rattle.std.specs.declared.ops.ControlFlow.{ControlFlow}
+use Rattle.std.specs.declared.ops.ControlFlow.TheVariants.{Break, Continue}
 
 -- ── One cursor ──
 -- c has the bytes bs to come, and one of them at hand if there is one
@@ -45,6 +45,6 @@ pub record Shared (s : List ℕ) (x : Reading) (c : List ℕ) (y : Reading) (k :
   pub same : slice x.from (x.from + k) s ≡ slice y.from (y.from + k) c
 
 -- what is at hand decides, or so many bytes are the same
-abbrev pub Looked : List ℕ → Reading → List ℕ → Reading → Ahead → Type 0
-Looked s x c y (Decided o) = (ns : List Node) (bs cs : List ℕ) → Ready s ns x bs → Ready c ns y cs → Ordered bs cs o
-Looked s x c y (Common k) = Shared s x c y k
+abbrev pub Looked : List ℕ → Reading → List ℕ → Reading → ControlFlow Ordering ℕ → Type 0
+Looked s x c y (Break o) = (ns : List Node) (bs cs : List ℕ) → Ready s ns x bs → Ready c ns y cs → Ordered bs cs o
+Looked s x c y (Continue k) = Shared s x c y k

@@ -8,9 +8,10 @@ ghost use Rattle.value_notes.specs.Notes.{Annotated};
 ghost use Rattle.string_order.specs.Ordered.{Ordered};
 
 use crate::cursors::behind;
-use crate::stretches::{Ahead, look};
+use crate::stretches::look;
 use layout::Table;
 use std::cmp::Ordering;
+use std::ops::ControlFlow;
 use values::{Reading, refill};
 
 // How the value that a cursor has to come compares with the bytes of a constant from one offset up to another.
@@ -35,10 +36,9 @@ pub fn compare_constant(
     };
     loop {
         i = refill(t, n, i);
-        let a = look(s, i, c, j);
-        match a {
-            Ahead::Decided(o) => return o,
-            Ahead::Common(k) => {
+        match look(s, i, c, j) {
+            ControlFlow::Break(o) => return o,
+            ControlFlow::Continue(k) => {
                 i = behind(i, k);
                 j = behind(j, k);
             }

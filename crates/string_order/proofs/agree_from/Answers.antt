@@ -1,6 +1,6 @@
 -- `string_order::agree_from` meets its contract.
 use native.Mathlib.Omega.{arith}
-use Rattle.string_order.proofs.Agreement.{begins_more, begins_all}
+use Rattle.string_order.proofs.Agreement.{begins_more}
 use Rattle.string_order.proofs.agree_from.Goals as goal
 
 pub loop-k-init : goal.loop-k-init
