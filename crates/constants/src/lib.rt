@@ -12,7 +12,7 @@ ghost use Rattle.string_order.specs.Ordered.{Ordered};
 ghost use Rattle.value_notes.specs.Notes.{Annotated};
 ghost use Rattle.ranks.specs.Ranks.{Ranked};
 ghost use Rattle.amounts.specs.Weighed.{Weighed};
-ghost use Rattle.constants.specs.Places.{Compares, ComparesAt, against, column_of, InRule, Nearest, Told, Placed};
+ghost use Rattle.constants.specs.Places.{ComparesAt, against, column_of, InRule, Nearest, Told, Placed};
 
 use amounts::keys::node_key;
 use document_lines::entries::Span;
@@ -53,15 +53,12 @@ fn nearest(t: &[u16], n: usize, column: usize, low: usize) -> usize
 {
     let mut best = n;
     let mut least = n;
-    let mut v = n;
-    while 0 < v {
-        v -= 1;
+    for v in (0..n).rev() {
         let r = get(t, n, column, v);
-        if r < low || least <= r {
-            continue;
+        if low <= r && r < least {
+            best = v;
+            least = r;
         }
-        best = v;
-        least = r;
     }
     best
 }
@@ -75,18 +72,6 @@ fn compare_text(s: &[u8], rule: &[u8], t: &[u16], n: usize, v: usize, c: Span) -
     compare_constant(s, t, n, x, rule, c.from, c.to)
 }
 
-fn compare_keys(a: usize, b: usize) -> Ordering
-    ensures { Compares ◌<◌ a b result }
-{
-    if a < b {
-        return Ordering::Less;
-    }
-    if a == b {
-        return Ordering::Equal;
-    }
-    Ordering::Greater
-}
-
 // How the value of node `v` compares with the constant, by reading it.
 fn compare_value(s: &[u8], rule: &[u8], t: &[u16], n: usize, v: usize, c: Target) -> Ordering
     requires { Annotated s.now n t.now × (v < n) × InRule rule.now c }
@@ -94,7 +79,7 @@ fn compare_value(s: &[u8], rule: &[u8], t: &[u16], n: usize, v: usize, c: Target
 {
     match c {
         Target::Text(w) => compare_text(s, rule, t, n, v, w),
-        Target::Amount(k) => compare_keys(node_key(s, t, n, v), k),
+        Target::Amount(k) => node_key(s, t, n, v).cmp(&k),
     }
 }
 
@@ -136,10 +121,10 @@ pub fn compare_rank(r: usize, p: Place) -> Ordering
     ensures { Told p r result }
 {
     if r < p.first {
-        return Ordering::Less;
+        Ordering::Less
+    } else if r < p.behind {
+        Ordering::Equal
+    } else {
+        Ordering::Greater
     }
-    if r < p.behind {
-        return Ordering::Equal;
-    }
-    Ordering::Greater
 }
