@@ -139,9 +139,6 @@ module _ (s : List ℕ) (from to : ℕ) (c : Scan) where
     pub fits : Fits r
     pub same : (bs : List ℕ) → resume r (slice i to s ++ bs) ≡ resume c (slice from to s ++ bs)
 
-  pub scanning_none : Fits c → Scanning from c
-  scanning_none f = record { fits = f; same = λ bs. refl }
-
   -- byte k of those that are read
   abbrev pub byte : ℕ → ℕ
   byte k = get_or (take (to - from) (drop from s)) k 0
@@ -156,9 +153,6 @@ module _ (s : List ℕ) (from to : ℕ) (c : Scan) where
 
   pub scanning_more : (k : ℕ) (r r' : Scan) → from + k < to → to ≤ length s → Scanning (from + k) r → Steps r.part r (byte k) (Some r') → Scanning (from + (k + 1)) r'
   scanning_more k r r' h l g p = record { fits = p.0; same = taken k (Some r') h l g p }
-
-  pub scanning_all : (i : ℕ) (r : Scan) → i ≡ to → Scanning i r → Scanned (Some r)
-  scanning_all i r e g = (g.fits, λ bs. ap (λ (x : List ℕ). resume r (x ++ bs)) (sym (slice_empty to s) ∙ ap (λ j. slice j to s) (sym e)) ∙ g.same bs)
 
   -- what has failed has failed with all bytes to come
   pub scanning_lost : (k : ℕ) (r : Scan) → from + k < to → to ≤ length s → Scanning (from + k) r → Steps r.part r (byte k) None → Scanned None
