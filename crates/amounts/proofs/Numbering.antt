@@ -8,18 +8,11 @@ use Rattle.bits.specs.Sets.{one}
 use Rattle.layout.specs.Table.{AMOUNT}
 use Rattle.layout.specs.Words.{cell, Wrote, Within}
 use Rattle.sorting.specs.Sorting.{entry, Entries}
-use Rattle.sorting.proofs.Order.{number_order, one_less, one_not}
+use Rattle.sorting.proofs.Order.{number_order}
 use Rattle.sorting.proofs.Numbering as Generic
 use Rattle.amounts.specs.Keys.{key_in, Keys}
 use Rattle.amounts.specs.Steps.{Numbered}
 use Rattle.amounts.proofs.Sorting.{keys_kept}
-
--- ── A rise ──
-pub rise_some : {a b k l : ℕ} → k ≡ a → l ≡ b → k < l → 1 ≡ one (ltb a b)
-rise_some {a} {b} p q h = one_less number_order a b (omega arith)
-
-pub rise_none : {a b k l : ℕ} → k ≡ a → l ≡ b → l ≤ k → 0 ≡ one (ltb a b)
-rise_none {a} {b} p q h = one_not number_order a b (λ z. omega arith)
 
 -- ── The ranks so far ──
 pub record Numbering (n i u r : ℕ) (t₀ t : List ℕ) : Type 0 where

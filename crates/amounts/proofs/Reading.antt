@@ -64,6 +64,6 @@ module _ {s : List ℕ} {ns : List Node} {v : ℕ} {x : Reading} {c : Scan} (h :
   pub read_all : {k : ℕ} → h.rest ≡ [] → k ≡ key_of (resume c []) → k ≡ key_at ns v
   read_all e f = f ∙ ap key_of (ap (λ bs. resume c bs) (sym e) ∙ h.amount)
 
-  -- what is left does not matter
-  pub read_failed : ((bs : List ℕ) → resume c bs ≡ none) → no_key ≡ key_at ns v
-  read_failed e = ap key_of (sym (e h.rest) ∙ h.amount)
+  -- they make no numeral, whatever is left
+  pub read_failed : ((bs : List ℕ) → none ≡ resume c (at_hand s x ++ bs)) → no_key ≡ key_at ns v
+  read_failed e = let z = spend h.comes in ap key_of (e z.rest ∙ ap (λ bs. resume c bs) z.whole ∙ h.amount)

@@ -7,7 +7,7 @@ ghost use Rattle.amounts.specs.Weighed.{key_at};
 ghost use Rattle.amounts.specs.Steps.{Keyed};
 
 use crate::columns::put_key;
-use numerals::{NO_KEY, Scan, begin, has_failed, key, scan_bytes};
+use numerals::{NO_KEY, Scan, begin, key, scan_bytes};
 use values::{Reading, refill, value_of};
 
 // The cursor behind the bytes at hand.
@@ -29,15 +29,17 @@ pub fn node_key(s: &[u8], t: &[u16], n: usize, v: usize) -> usize
 {
     let mut x: Reading = value_of(t, n, v);
     let mut c: Scan = begin();
-    while !has_failed(c) {
+    loop {
         x = refill(t, n, x);
         if x.to <= x.from {
             return key(c);
         }
-        c = scan_bytes(s, x.from, x.to, c);
+        let Some(r) = scan_bytes(s, x.from, x.to, c) else {
+            return NO_KEY;
+        };
+        c = r;
         x = spent(x);
     }
-    NO_KEY
 }
 
 // The keys of all nodes.

@@ -18,11 +18,7 @@ fn rise(t: &[u16], n: usize, u: usize, v: usize) -> usize
     requires { Room n t.now × (u < n) × (v < n) }
     ensures { (result ≤ 1) × (result ≡ one (ltb (key_in t.now n u) (key_in t.now n v))) }
 {
-    if get_key(t, n, u) < get_key(t, n, v) {
-        1
-    } else {
-        0
-    }
+    usize::from(get_key(t, n, u) < get_key(t, n, v))
 }
 
 // The first node is compared with itself, and gets 0.

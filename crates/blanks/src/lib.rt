@@ -14,11 +14,12 @@ fn skip(s: &[u8], p: Span) -> usize
     requires { (p.from ≤ p.to) × (p.to ≤ length s.now) }
     ensures { Skipped s.now p result }
 {
-    let mut i = p.from;
-    while i < p.to && s[i] == BLANK {
-        i += 1;
+    for i in p.from..p.to {
+        if s[i] != BLANK {
+            return i;
+        }
     }
-    i
+    p.to
 }
 
 // The bytes of a span without the blanks at both ends.
@@ -27,9 +28,10 @@ pub fn trim(s: &[u8], p: Span) -> Span
     ensures { Trimmed s.now p result }
 {
     let from = skip(s, p);
-    let mut to = p.to;
-    while from < to && s[to - 1] == BLANK {
-        to -= 1;
+    for last in (from..p.to).rev() {
+        if s[last] != BLANK {
+            return Span { from, to: last + 1 };
+        }
     }
-    Span { from, to }
+    Span { from, to: from }
 }

@@ -3,8 +3,8 @@ use Prim.Native.Nat.{ℕ, ◌+◌, ◌≤◌, ◌<◌}
 use mathlib.Core.Path.{◌≡◌, sym, ◌∙◌, subst}
 use native.Mathlib.Omega.{arith}
 use native.Mathlib.Decide.{ℕ_discrete}
-use Rattle.string_order.specs.declared.Order.{Order}
-use Rattle.string_order.specs.declared.Order.TheVariants.{Less, Same, Greater}
+use Rattle.std.specs.declared.cmp.Ordering.{Ordering}
+use Rattle.std.specs.declared.cmp.Ordering.TheVariants.{Less, Equal, Greater}
 use Rattle.constants.specs.Places.{Against, ComparesAt, Nearest, Told, Placed}
 
 -- what is used of the ranks of n nodes
@@ -29,9 +29,9 @@ module _ {k : Against} {n : ℕ} {rank : ℕ → ℕ} where
   pub placed_between : {lo hi : ℕ} → Around k n rank lo hi → hi ≤ lo → Placed k n rank (record { first = lo; behind = lo })
   placed_between {lo} {hi} a e = record { tells = go }
     where
-      go : (v : ℕ) (o : Order) → v < n → rank v < n → Told (record { first = lo; behind = lo }) (rank v) o → ComparesAt k v o
+      go : (v : ℕ) (o : Ordering) → v < n → rank v < n → Told (record { first = lo; behind = lo }) (rank v) o → ComparesAt k v o
       go v Less l s h = a.smaller v l s h
-      go v Same l s h = let x = h.0 in let y = h.1 in absurd (omega arith)
+      go v Equal l s h = let x = h.0 in let y = h.1 in absurd (omega arith)
       go v Greater l s h = a.greater v l s (omega arith)
 
   -- ── A node v whose value was read ──
@@ -50,10 +50,10 @@ module _ {k : Against} {n : ℕ} {rank : ℕ → ℕ} where
         go w l s q (yes p) = subst (λ x. k.Smaller k.wanted x) (g.agrees v w z l (m.high z).1 s p) h
         go w l s q (no p) = g.transitive k.wanted (k.value v) (k.value w) h (g.rises v w z l (m.high z).1 s (omega arith))
 
-    pub placed_same : ComparesAt k v Same → Placed k n rank (record { first = r; behind = r + 1 })
+    pub placed_same : ComparesAt k v Equal → Placed k n rank (record { first = r; behind = r + 1 })
     placed_same h = record { tells = go }
       where
-        go : (w : ℕ) (o : Order) → w < n → rank w < n → Told (record { first = r; behind = r + 1 }) (rank w) o → ComparesAt k w o
+        go : (w : ℕ) (o : Ordering) → w < n → rank w < n → Told (record { first = r; behind = r + 1 }) (rank w) o → ComparesAt k w o
         go w Less l s q = subst (λ x. k.Smaller (k.value w) x) h (g.rises w v l z s (m.high z).1 (omega arith))
-        go w Same l s q = let x = q.0 in let y = q.1 in g.agrees w v l z s (m.high z).1 (omega arith) ∙ h
+        go w Equal l s q = let x = q.0 in let y = q.1 in g.agrees w v l z s (m.high z).1 (omega arith) ∙ h
         go w Greater l s q = subst (λ x. k.Smaller x (k.value w)) h (g.rises v w z l (m.high z).1 s (omega arith))

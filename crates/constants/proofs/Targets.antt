@@ -12,8 +12,10 @@ use Rattle.layout.specs.Table.{COLUMNS, AMOUNT}
 use Rattle.layout.specs.Words.{NONE, word}
 use Rattle.string_order.specs.Bytes as Bytes
 use Rattle.string_order.specs.Ordered.{Ordered}
-use Rattle.string_order.specs.declared.Order.{Order}
-use Rattle.string_order.specs.declared.Order.TheVariants.{Less, Same, Greater}
+use Rattle.std.specs.declared.cmp.Ordering.{Ordering}
+use Rattle.std.specs.declared.cmp.Ordering.TheVariants.{Less, Equal, Greater}
+use Rattle.std.specs.Ordering.{nat_cmp}
+use Rattle.std.proofs.lemmas.Cmp.{ranked}
 use Rattle.string_order.proofs.Bytes.{less_transitive}
 use Rattle.numerals.specs.Keys.{no_key}
 use Rattle.ranks.specs.Ranks.{Ranked}
@@ -30,18 +32,24 @@ column_inside (Text c) = omega arith
 column_inside (Amount k) = omega arith
 
 -- texts compare by their bytes
-pub compares_text : (bs cs : List ℕ) (o : Order) → Ordered bs cs o → Compares Bytes.Less bs cs o
+pub compares_text : (bs cs : List ℕ) (o : Ordering) → Ordered bs cs o → Compares Bytes.Less bs cs o
 compares_text bs cs Less h = h
-compares_text bs cs Same h = h
+compares_text bs cs Equal h = h
 compares_text bs cs Greater h = h
 
+-- and numbers as std compares them
+compares_number : (a b : ℕ) (o : Ordering) → o ≡ nat_cmp a b → Compares ◌<◌ a b o
+compares_number a b Less e = ranked a b Less e
+compares_number a b Equal e = ranked a b Equal e
+compares_number a b Greater e = ranked a b Greater e
+
 -- ── What is read of node v ──
-module _ (ns : List Node) (rule : List ℕ) (v : ℕ) (c : Target) (o : Order) where
+module _ (ns : List Node) (rule : List ℕ) (v : ℕ) (c : Target) (o : Ordering) where
   pub compared_text : (w : Span) → c ≡ Text w → Ordered (compared_of ns v) (between rule w) o → ComparesAt (against ns rule c) v o
   compared_text w e h = subst (λ x. ComparesAt (against ns rule x) v o) (sym e) (compares_text (compared_of ns v) (between rule w) o h)
 
-  pub compared_amount : (a k : ℕ) → c ≡ Amount k → a ≡ key_at ns v → Compares ◌<◌ a k o → ComparesAt (against ns rule c) v o
-  compared_amount a k e f h = subst (λ x. ComparesAt (against ns rule x) v o) (sym e) (subst (λ x. Compares ◌<◌ x k o) f h)
+  pub compared_amount : (a k : ℕ) → c ≡ Amount k → a ≡ key_at ns v → o ≡ nat_cmp a k → ComparesAt (against ns rule c) v o
+  compared_amount a k e f h = subst (λ x. ComparesAt (against ns rule x) v o) (sym e) (subst (λ x. Compares ◌<◌ x k o) f (compares_number a k o h))
 
 -- ── The ranks ──
 -- k is the column that goes with c

@@ -12,16 +12,16 @@ use Rattle.document_spec.specs.Binary.{compared_of}
 use Rattle.layout.specs.Table.{RANK, AMOUNT}
 use Rattle.blanks.specs.Trimmed.{between}
 use Rattle.string_order.specs.Bytes as Bytes
-use Rattle.string_order.specs.declared.Order.{Order}
-use Rattle.string_order.specs.declared.Order.TheVariants.{Less, Same, Greater}
+use Rattle.std.specs.declared.cmp.Ordering.{Ordering}
+use Rattle.std.specs.declared.cmp.Ordering.TheVariants.{Less, Equal, Greater}
 use Rattle.amounts.specs.Weighed.{key_at}
 use Rattle.constants.specs.declared.Place.{Place}
 use Rattle.constants.specs.declared.Target.{Target}
 use Rattle.constants.specs.declared.Target.TheVariants.{Text, Amount}
 
-abbrev pub Compares : {A : Type 0} → (A → A → Type 0) → A → A → Order → Type 0
+abbrev pub Compares : {A : Type 0} → (A → A → Type 0) → A → A → Ordering → Type 0
 Compares Smaller x y Less = Smaller x y
-Compares Smaller x y Same = x ≡ y
+Compares Smaller x y Equal = x ≡ y
 Compares Smaller x y Greater = Smaller y x
 
 -- ── What values are held against ──
@@ -31,7 +31,7 @@ pub record Against : Type 1 where
   pub value : ℕ → Kind
   pub wanted : Kind
 
-abbrev pub ComparesAt : Against → ℕ → Order → Type 0
+abbrev pub ComparesAt : Against → ℕ → Ordering → Type 0
 ComparesAt k v o = Compares k.Smaller (k.value v) k.wanted o
 
 abbrev pub against : List Node → List ℕ → Target → Against
@@ -54,10 +54,10 @@ pub record Nearest (n : ℕ) (rank : ℕ → ℕ) (low v : ℕ) : Type 0 where
   pub high : v < n → (low ≤ rank v) × (rank v < n)
   pub least : (w : ℕ) → w < n → low ≤ rank w → rank w < n → (v < n) × (rank v ≤ rank w)
 
-abbrev pub Told : Place → ℕ → Order → Type 0
+abbrev pub Told : Place → ℕ → Ordering → Type 0
 Told p r Less = r < p.first
-Told p r Same = (p.first ≤ r) × (r < p.behind)
+Told p r Equal = (p.first ≤ r) × (r < p.behind)
 Told p r Greater = p.behind ≤ r
 
 pub record Placed (k : Against) (n : ℕ) (rank : ℕ → ℕ) (p : Place) : Type 0 where
-  pub tells : (v : ℕ) (o : Order) → v < n → rank v < n → Told p (rank v) o → ComparesAt k v o
+  pub tells : (v : ℕ) (o : Ordering) → v < n → rank v < n → Told p (rank v) o → ComparesAt k v o

@@ -12,13 +12,13 @@ ghost use Rattle.string_order.specs.Ordered.{Ordered};
 ghost use Rattle.value_notes.specs.Notes.{Annotated};
 ghost use Rattle.ranks.specs.Ranks.{Ranked};
 ghost use Rattle.amounts.specs.Weighed.{Weighed};
-ghost use Rattle.constants.specs.Places.{Compares, ComparesAt, against, column_of, InRule, Nearest, Told, Placed};
+ghost use Rattle.constants.specs.Places.{ComparesAt, against, column_of, InRule, Nearest, Told, Placed};
 
 use amounts::keys::node_key;
 use document_lines::entries::Span;
 use layout::Table;
 use layout::words::get;
-use string_order::Order;
+use std::cmp::Ordering;
 use value_order::constant::compare_constant;
 use values::{Reading, value_of};
 
@@ -53,21 +53,18 @@ fn nearest(t: &[u16], n: usize, column: usize, low: usize) -> usize
 {
     let mut best = n;
     let mut least = n;
-    let mut v = n;
-    while 0 < v {
-        v -= 1;
+    for v in (0..n).rev() {
         let r = get(t, n, column, v);
-        if r < low || least <= r {
-            continue;
+        if low <= r && r < least {
+            best = v;
+            least = r;
         }
-        best = v;
-        least = r;
     }
     best
 }
 
 // How the text of node `v` compares with one that stands in the rule.
-fn compare_text(s: &[u8], rule: &[u8], t: &[u16], n: usize, v: usize, c: Span) -> Order
+fn compare_text(s: &[u8], rule: &[u8], t: &[u16], n: usize, v: usize, c: Span) -> Ordering
     requires { Annotated s.now n t.now × (v < n) × (c.from ≤ c.to) × (c.to ≤ length rule.now) }
     ensures { (ns : List Library.Node) → Accepts s.now ns → Ordered (compared_of ns v) (between rule.now c) result }
 {
@@ -75,26 +72,14 @@ fn compare_text(s: &[u8], rule: &[u8], t: &[u16], n: usize, v: usize, c: Span) -
     compare_constant(s, t, n, x, rule, c.from, c.to)
 }
 
-fn compare_keys(a: usize, b: usize) -> Order
-    ensures { Compares ◌<◌ a b result }
-{
-    if a < b {
-        return Order::Less;
-    }
-    if a == b {
-        return Order::Same;
-    }
-    Order::Greater
-}
-
 // How the value of node `v` compares with the constant, by reading it.
-fn compare_value(s: &[u8], rule: &[u8], t: &[u16], n: usize, v: usize, c: Target) -> Order
+fn compare_value(s: &[u8], rule: &[u8], t: &[u16], n: usize, v: usize, c: Target) -> Ordering
     requires { Annotated s.now n t.now × (v < n) × InRule rule.now c }
     ensures { (ns : List Library.Node) → Accepts s.now ns → ComparesAt (against ns rule.now c) v result }
 {
     match c {
         Target::Text(w) => compare_text(s, rule, t, n, v, w),
-        Target::Amount(k) => compare_keys(node_key(s, t, n, v), k),
+        Target::Amount(k) => node_key(s, t, n, v).cmp(&k),
     }
 }
 
@@ -115,14 +100,14 @@ pub fn find_place(s: &[u8], rule: &[u8], t: &[u16], n: usize, c: Target) -> Plac
         }
         let r = get(t, n, k, v);
         match compare_value(s, rule, t, n, v, c) {
-            Order::Less => lo = r + 1,
-            Order::Same => {
+            Ordering::Less => lo = r + 1,
+            Ordering::Equal => {
                 return Place {
                     first: r,
                     behind: r + 1,
                 };
             }
-            Order::Greater => hi = mid,
+            Ordering::Greater => hi = mid,
         }
     }
     Place {
@@ -132,14 +117,14 @@ pub fn find_place(s: &[u8], rule: &[u8], t: &[u16], n: usize, c: Target) -> Plac
 }
 
 // How a value with rank `r` compares with the constant that has this place.
-pub fn compare_rank(r: usize, p: Place) -> Order
+pub fn compare_rank(r: usize, p: Place) -> Ordering
     ensures { Told p r result }
 {
     if r < p.first {
-        return Order::Less;
+        Ordering::Less
+    } else if r < p.behind {
+        Ordering::Equal
+    } else {
+        Ordering::Greater
     }
-    if r < p.behind {
-        return Order::Same;
-    }
-    Order::Greater
 }

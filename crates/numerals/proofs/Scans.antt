@@ -1,26 +1,28 @@
 -- What one byte more makes of a scan, and what is left of it where no byte follows.
-use Prim.Native.Nat.{ℕ, suc, ◌+◌, ◌-◌, ◌*◌, ◌^◌, ◌≤◌, ◌<◌}
-use mathlib.Core.Path.{◌≡◌, refl, sym, ap, ◌∙◌}
+use Prim.Native.Nat.{ℕ, zero-le, suc, ◌+◌, ◌-◌, ◌*◌, ◌^◌, ◌≤◌, ◌<◌}
+use mathlib.Core.Path.{◌≡◌, refl, sym, ap, ◌∙◌, subst}
 use mathlib.Core.Bool.{Bool, true, false}
 use mathlib.Core.Logic.{◌⊎◌, inl, inr}
-use mathlib.Core.Option.{none, some}
+use mathlib.Core.Option.{some}
 use mathlib.Core.List.{List, [], ◌∷◌, ◌++◌, append-nil}
-use lib.ListN.{length, get_or}
-use lib.Seq.{slice, slice_empty, slice-cons}
+use lib.ListN.{length, get_or, take, drop}
+use lib.Seq.{slice, slice_empty, slice-cons, get_or-take, get_or-drop}
 use lib.Dec.{lit<, ltb, leb, eqb}
 use native.Mathlib.Omega.{arith}
-use native.Mathlib.Nat.{pow-le-pow_right, pow-succ', mul_assoc}
-use native.Mathlib.Numerals.{add-one}
+use native.Mathlib.Nat.{pow-le-pow_right, mul-lt-mul_of_pos_right}
 use borrow.Author.Tests.{ltb-true, leb-true, leb-false, lt-leb, lt-ltb, le-ltb, eq-eqb, ne_eqb}
+use Rattle.std.proofs.lemmas.Nat.{pow-add}
 use Rattle.limits.specs.Limits.{numeral_digits, numeral_decimals}
 use Rattle.xpath.specs.Booleans.{both}
 use Rattle.lists.specs.Text.{Digit}
 use Rattle.xpath.specs.Reading.{given, is_digit, decimals_from, whole_from, with_sign, amount_of}
+use Rattle.std.specs.Prelude.{Some, None}
+use Rattle.std.specs.Prelude.{Option as Possibly}
 use Rattle.numerals.specs.declared.Scan.{Scan}
 use Rattle.numerals.specs.declared.Part.{Part}
 use Rattle.numerals.specs.declared.Part.TheVariants.{Whole, Decimals}
 use Rattle.numerals.specs.Keys.{bias, no_key, key_of}
-use Rattle.numerals.specs.Scans.{resumed, resume, FitsIn, Fits, further}
+use Rattle.numerals.specs.Scans.{resumed, resume, resume_if, FitsIn, Fits, FitsIf, further}
 
 -- ── Digits ──
 pub both_true : (x y : Bool) → both x y ≡ true → (x ≡ true) × (y ≡ true)
@@ -61,16 +63,12 @@ pub number_whole : (k n : ℕ) → n < 10 ^ k → k ≤ numeral_digits → n < 1
 number_whole = number_below numeral_digits
 
 -- ── One byte more ──
--- a scan that has taken the byte
-abbrev pub Steps : Part → Scan → ℕ → Scan → Type 0
-Steps p c b r = Fits r × ((bs : List ℕ) → resume r bs ≡ resumed p c (b ∷ bs))
-
--- a scan of nothing
-abbrev pub Lost : Scan → Type 0
-Lost r = Fits r × ((bs : List ℕ) → resume r bs ≡ none)
+-- what a scan is when it has taken the byte
+abbrev pub Steps : Part → Scan → ℕ → Possibly Scan → Type 0
+Steps p c b r = FitsIf r × ((bs : List ℕ) → resume_if r bs ≡ resumed p c (b ∷ bs))
 
 module _ (c : Scan) (b : ℕ) where
-  pub decimals_more : FitsIn Decimals c → is_digit b ≡ true → c.count < numeral_decimals → Steps Decimals c b (further Decimals c b)
+  pub decimals_more : FitsIn Decimals c → is_digit b ≡ true → c.count < numeral_decimals → Steps Decimals c b (Some (further Decimals c b))
   unfolding decimals_from
   decimals_more f d h =
       let i = digit_is b d in
@@ -80,15 +78,15 @@ module _ (c : Scan) (b : ℕ) where
       )
 
   -- no digit, or one too many
-  pub decimals_lost : (r : Scan) → Lost r → (is_digit b ≡ false) ⊎ (numeral_decimals ≤ c.count) → Steps Decimals c b r
+  pub decimals_lost : (is_digit b ≡ false) ⊎ (numeral_decimals ≤ c.count) → Steps Decimals c b None
   unfolding decimals_from
-  decimals_lost r l w = let k = go w in (l.0, λ bs. l.1 bs ∙ rw (decimals_from, k))
+  decimals_lost w = let k = go w in (tt, λ bs. rw (decimals_from, k))
     where
       go : (is_digit b ≡ false) ⊎ (numeral_decimals ≤ c.count) → both (is_digit b) (ltb c.count numeral_decimals) ≡ false
       go (inl d) = ap (λ x. both x (ltb c.count numeral_decimals)) d
       go (inr h) = ap (both (is_digit b)) (le-ltb c.count numeral_decimals h) ∙ both_false (is_digit b)
 
-  pub whole_more : FitsIn Whole c → is_digit b ≡ true → c.count < numeral_digits → Steps Whole c b (further Whole c b)
+  pub whole_more : FitsIn Whole c → is_digit b ≡ true → c.count < numeral_digits → Steps Whole c b (Some (further Whole c b))
   unfolding whole_from
   whole_more f d h =
       let i = digit_is b d in let l = lt-ltb c.count numeral_digits h in (
@@ -97,14 +95,14 @@ module _ (c : Scan) (b : ℕ) where
       )
 
   -- one digit too many
-  pub whole_full : (r : Scan) → Lost r → is_digit b ≡ true → numeral_digits ≤ c.count → Steps Whole c b r
+  pub whole_full : is_digit b ≡ true → numeral_digits ≤ c.count → Steps Whole c b None
   unfolding whole_from
-  whole_full r l d h = let k = le-ltb c.count numeral_digits h in (l.0, λ bs. l.1 bs ∙ rw (whole_from, d, k))
+  whole_full d h = let k = le-ltb c.count numeral_digits h in (tt, λ bs. rw (whole_from, d, k))
 
   abbrev point : Scan
   point = record { part = Decimals; minus = c.minus; count = 0; number = c.number }
 
-  pub whole_point : FitsIn Whole c → is_digit b ≡ false → b ≡ 46 → 0 < c.count → Steps Whole c b point
+  pub whole_point : FitsIn Whole c → is_digit b ≡ false → b ≡ 46 → 0 < c.count → Steps Whole c b (Some point)
   unfolding whole_from
   whole_point f d e h =
       let l = lt-ltb 0 c.count h in let i = eq-eqb b 46 e in (
@@ -113,9 +111,9 @@ module _ (c : Scan) (b : ℕ) where
       )
 
   -- no digit and no point, or a point without a digit before it
-  pub whole_lost : (r : Scan) → Lost r → is_digit b ≡ false → ¬ (b ≡ 46) ⊎ (c.count ≡ 0) → Steps Whole c b r
+  pub whole_lost : is_digit b ≡ false → ¬ (b ≡ 46) ⊎ (c.count ≡ 0) → Steps Whole c b None
   unfolding whole_from
-  whole_lost r l d w = let k = go w in (l.0, λ bs. l.1 bs ∙ rw (whole_from, d, k))
+  whole_lost d w = let k = go w in (tt, λ bs. rw (whole_from, d, k))
     where
       go : ¬ (b ≡ 46) ⊎ (c.count ≡ 0) → both (eqb b 46) (ltb 0 c.count) ≡ false
       go (inl n) = ap (λ x. both x (ltb 0 c.count)) (ne_eqb b 46 n)
@@ -132,40 +130,45 @@ start_plain b n bs = let t = ne_eqb b 45 n in rw (amount_of, t)
 
 -- ── Many bytes ──
 module _ (s : List ℕ) (from to : ℕ) (c : Scan) where
+  -- what is made of the bytes from `from` on
+  abbrev pub Scanned : Possibly Scan → Type 0
+  Scanned r = FitsIf r × ((bs : List ℕ) → resume_if r bs ≡ resume c (slice from to s ++ bs))
+
   -- at an offset, the bytes before it are in the scan
   pub record Scanning (i : ℕ) (r : Scan) : Type 0 where
     pub fits : Fits r
     pub same : (bs : List ℕ) → resume r (slice i to s ++ bs) ≡ resume c (slice from to s ++ bs)
 
-  pub scanning_none : Fits c → Scanning from c
-  scanning_none f = record { fits = f; same = λ bs. refl }
+  -- byte k of those that are read
+  abbrev pub byte : ℕ → ℕ
+  byte k = get_or (take (to - from) (drop from s)) k 0
 
-  pub scanning_more : (i : ℕ) (r r' : Scan) → i < to → to ≤ length s → Scanning i r → Steps r.part r (get_or s i 0) r' → Scanning (i + 1) r'
-  scanning_more i r r' h l g p = record {
-    fits = p.0;
-    same = λ bs. rw add-one (p.1 (slice (suc i) to s ++ bs) ∙ ap (λ (x : List ℕ). resume r (x ++ bs)) (sym (slice-cons i to s 0 h l)) ∙ g.same bs);
-  }
+  taken : (k : ℕ) {r : Scan} (q : Possibly Scan) → from + k < to → to ≤ length s → Scanning (from + k) r → Steps r.part r (byte k) q
+      → (bs : List ℕ) → resume_if q (slice (from + (k + 1)) to s ++ bs) ≡ resume c (slice from to s ++ bs)
+  taken k {r} q h l g p bs =
+      let e : from + (k + 1) ≡ suc (from + k) = omega arith in
+      let same : byte k ≡ get_or s (from + k) 0 = get_or-take (to - from) (drop from s) k 0 (omega arith) ∙ get_or-drop from s k 0 in
+      let rest = slice (suc (from + k)) to s ++ bs in
+      rw e (p.1 rest ∙ ap (λ y. resume r (y ∷ rest)) same ∙ ap (λ (x : List ℕ). resume r (x ++ bs)) (sym (slice-cons (from + k) to s 0 h l)) ∙ g.same bs)
 
-  pub scanning_all : (i : ℕ) (r : Scan) → i ≡ to → Scanning i r → Fits r × ((bs : List ℕ) → resume r bs ≡ resume c (slice from to s ++ bs))
-  scanning_all i r e g = (g.fits, λ bs. ap (λ (x : List ℕ). resume r (x ++ bs)) (sym (slice_empty to s) ∙ ap (λ j. slice j to s) (sym e)) ∙ g.same bs)
+  pub scanning_more : (k : ℕ) (r r' : Scan) → from + k < to → to ≤ length s → Scanning (from + k) r → Steps r.part r (byte k) (Some r') → Scanning (from + (k + 1)) r'
+  scanning_more k r r' h l g p = record { fits = p.0; same = taken k (Some r') h l g p }
 
   -- what has failed has failed with all bytes to come
-  pub scanning_lost : (i : ℕ) (r : Scan) → ((bs : List ℕ) → resume r bs ≡ none) → Scanning i r → Fits r × ((bs : List ℕ) → resume r bs ≡ resume c (slice from to s ++ bs))
-  scanning_lost i r n g = (g.fits, λ bs. n bs ∙ sym (n (slice i to s ++ bs)) ∙ g.same bs)
+  pub scanning_lost : (k : ℕ) (r : Scan) → from + k < to → to ≤ length s → Scanning (from + k) r → Steps r.part r (byte k) None → Scanned None
+  scanning_lost k r h l g p = (tt, taken k None h l g p)
 
 -- a scan of all bytes of a string
-pub scanned : (x : List ℕ) (c r : Scan) → ((bs : List ℕ) → resume c bs ≡ amount_of bs) → ((bs : List ℕ) → resume r bs ≡ resume c (x ++ bs)) → resume r [] ≡ amount_of x
+pub scanned : (x : List ℕ) (c : Scan) (r : Possibly Scan) → ((bs : List ℕ) → resume c bs ≡ amount_of bs) → ((bs : List ℕ) → resume_if r bs ≡ resume c (x ++ bs)) → resume_if r [] ≡ amount_of x
 scanned x c r f g = g [] ∙ f (x ++ []) ∙ ap amount_of (append-nil x)
 
 -- ── The end ──
 -- a zero for each decimal that is not there
-pub padded_more : (n k : ℕ) → k < numeral_decimals → n * 10 * 10 ^ (numeral_decimals - (k + 1)) ≡ n * 10 ^ (numeral_decimals - k)
-padded_more n k h =
-    let e : numeral_decimals - k ≡ suc (numeral_decimals - (k + 1)) = omega arith in
-    rw (e, pow-succ') (mul_assoc n 10 (10 ^ (numeral_decimals - (k + 1))))
-
-pub padded_all : (n k : ℕ) → k ≡ numeral_decimals → n ≡ n * 10 ^ (numeral_decimals - k)
-padded_all n k e = rw e (omega arith)
+pub padded_small : (n k : ℕ) → k ≤ numeral_decimals → n < 10 ^ (numeral_digits + k) → n * 10 ^ (numeral_decimals - k) < bias
+padded_small n k h l =
+    let e : numeral_digits + numeral_decimals ≡ numeral_digits + k + (numeral_decimals - k) = omega arith in
+    subst (λ m. n * 10 ^ (numeral_decimals - k) < 10 ^ m) (sym e)
+    (rw (pow-add 10 (numeral_digits + k) (numeral_decimals - k)) (mul-lt-mul_of_pos_right l (let z : 10 ^ 0 ≤ 10 ^ (numeral_decimals - k) = pow-le-pow_right {n = 10} (lit< tt) zero-le in omega arith)))
 
 module _ (m : Bool) (k n : ℕ) where
   pub key_none : k ≡ 0 → no_key ≡ key_of (with_sign m (given (ltb 0 k) (some n)))

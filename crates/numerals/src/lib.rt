@@ -8,7 +8,7 @@ ghost use Rattle.limits.specs.Limits.{numeral_digits, numeral_decimals};
 ghost use Rattle.xpath.specs.Reading.{is_digit, given, with_sign, amount_of};
 ghost use Rattle.numerals.specs.declared.Part.TheVariants.{Whole, Decimals};
 ghost use Rattle.numerals.specs.Keys.{bias, no_key, key_of};
-ghost use Rattle.numerals.specs.Scans.{resumed, resume, FitsIn, Fits, further};
+ghost use Rattle.numerals.specs.Scans.{resumed, resume, resume_if, FitsIn, Fits, FitsIf, further};
 
 use limits::Numeral;
 
@@ -30,10 +30,9 @@ pub enum Part {
     Start,
     Whole,
     Decimals,
-    Failed,
 }
 
-// What the bytes so far have made: the digits of this part, and the number that all digits make.
+// What the bytes so far have made: the digits of this part, and the number that all digits make. Where they have made no beginning of a numeral, there is no scan.
 #[derive(Clone, Copy)]
 pub struct Scan {
     pub part: Part,
@@ -51,31 +50,6 @@ pub fn begin() -> Scan
         minus: false,
         count: 0,
         number: 0,
-    }
-}
-
-// Whatever comes, it is no numeral.
-fn failed() -> Scan
-    ensures { Fits result × ((bs : List ℕ) → resume result bs ≡ none) }
-{
-    Scan {
-        part: Part::Failed,
-        minus: false,
-        count: 0,
-        number: 0,
-    }
-}
-
-// Whether a scan can find no numeral any more.
-pub fn has_failed(c: Scan) -> bool
-    ensures { result ≡ true → (bs : List ℕ) → resume c bs ≡ none }
-{
-    let part = c.part;
-    match part {
-        Part::Start => false,
-        Part::Whole => false,
-        Part::Decimals => false,
-        Part::Failed => true,
     }
 }
 
@@ -99,45 +73,41 @@ fn more(c: Scan, part: Part, b: u8) -> Scan
 }
 
 // Behind the point.
-fn in_decimals(c: Scan, b: u8) -> Scan
+fn in_decimals(c: Scan, b: u8) -> Option<Scan>
     requires { FitsIn Decimals c }
-    ensures { Fits result × ((bs : List ℕ) → resume result bs ≡ resumed Decimals c (b ∷ bs)) }
+    ensures { FitsIf result × ((bs : List ℕ) → resume_if result bs ≡ resumed Decimals c (b ∷ bs)) }
 {
-    if is_digit(b) {
-        if c.count < Numeral::MAX_DECIMALS {
-            return more(c, Part::Decimals, b);
-        }
+    if is_digit(b) && c.count < Numeral::MAX_DECIMALS {
+        return Some(more(c, Part::Decimals, b));
     }
-    failed()
+    None
 }
 
 // Behind the sign: a digit, or the point behind the last of them.
-fn in_whole(c: Scan, b: u8) -> Scan
+fn in_whole(c: Scan, b: u8) -> Option<Scan>
     requires { FitsIn Whole c }
-    ensures { Fits result × ((bs : List ℕ) → resume result bs ≡ resumed Whole c (b ∷ bs)) }
+    ensures { FitsIf result × ((bs : List ℕ) → resume_if result bs ≡ resumed Whole c (b ∷ bs)) }
 {
     if is_digit(b) {
         if c.count < Numeral::MAX_DIGITS {
-            return more(c, Part::Whole, b);
+            return Some(more(c, Part::Whole, b));
         }
-        return failed();
+        return None;
     }
-    if b == b'.' {
-        if 0 < c.count {
-            return Scan {
-                part: Part::Decimals,
-                minus: c.minus,
-                count: 0,
-                number: c.number,
-            };
-        }
+    if b == b'.' && 0 < c.count {
+        return Some(Scan {
+            part: Part::Decimals,
+            minus: c.minus,
+            count: 0,
+            number: c.number,
+        });
     }
-    failed()
+    None
 }
 
 // The first byte: a minus, or the first digit.
-fn at_start(b: u8) -> Scan
-    ensures { Fits result × ((bs : List ℕ) → resume result bs ≡ amount_of (b ∷ bs)) }
+fn at_start(b: u8) -> Option<Scan>
+    ensures { FitsIf result × ((bs : List ℕ) → resume_if result bs ≡ amount_of (b ∷ bs)) }
 {
     let c = Scan {
         part: Part::Whole,
@@ -145,36 +115,31 @@ fn at_start(b: u8) -> Scan
         count: 0,
         number: 0,
     };
-    if b == b'-' { c } else { in_whole(c, b) }
+    if b == b'-' { Some(c) } else { in_whole(c, b) }
 }
 
 // One byte more.
-pub fn step(c: Scan, b: u8) -> Scan
+fn step(c: Scan, b: u8) -> Option<Scan>
     requires { Fits c }
-    ensures { Fits result × ((bs : List ℕ) → resume result bs ≡ resume c (b ∷ bs)) }
+    ensures { FitsIf result × ((bs : List ℕ) → resume_if result bs ≡ resume c (b ∷ bs)) }
 {
-    let part = c.part;
-    match part {
+    match c.part {
         Part::Start => at_start(b),
         Part::Whole => in_whole(c, b),
         Part::Decimals => in_decimals(c, b),
-        Part::Failed => failed(),
     }
 }
 
 // The bytes of a slice from one offset to another, as far as they can still make a numeral.
-pub fn scan_bytes(s: &[u8], from: usize, to: usize, c: Scan) -> Scan
+pub fn scan_bytes(s: &[u8], from: usize, to: usize, c: Scan) -> Option<Scan>
     requires { Fits c × (from ≤ to) × (to ≤ length s.now) }
-    ensures { Fits result × ((bs : List ℕ) → resume result bs ≡ resume c (slice from to s.now ++ bs)) }
+    ensures { FitsIf result × ((bs : List ℕ) → resume_if result bs ≡ resume c (slice from to s.now ++ bs)) }
 {
     let mut r = c;
-    for i in from..to {
-        if has_failed(r) {
-            return r;
-        }
-        r = step(r, s[i]);
+    for b in &s[from..to] {
+        r = step(r, *b)?;
     }
-    r
+    Some(r)
 }
 
 // The ten-thousandths that digits make, so many of them behind the point.
@@ -182,11 +147,7 @@ fn padded(number: usize, decimals: usize) -> usize
     requires { (decimals ≤ numeral_decimals) × (number < 10 ^ (numeral_digits + decimals)) }
     ensures { (result ≡ number * 10 ^ (numeral_decimals - decimals)) × (result < bias) }
 {
-    let mut n = number;
-    for k in decimals..Numeral::MAX_DECIMALS {
-        n *= 10;
-    }
-    n
+    number * 10_usize.pow((Numeral::MAX_DECIMALS - decimals) as u32)
 }
 
 // The key of the digits of a scan, so many of them behind the point.
@@ -206,12 +167,10 @@ pub fn key(c: Scan) -> usize
     requires { Fits c }
     ensures { result ≡ key_of (resume c []) }
 {
-    let part = c.part;
-    match part {
+    match c.part {
         Part::Start => NO_KEY,
         Part::Whole => key_at_end(c, 0),
         Part::Decimals => key_at_end(c, c.count),
-        Part::Failed => NO_KEY,
     }
 }
 
@@ -220,5 +179,8 @@ pub fn key_of(s: &[u8], from: usize, to: usize) -> usize
     requires { (from ≤ to) × (to ≤ length s.now) }
     ensures { result ≡ key_of (amount_of (slice from to s.now)) }
 {
-    key(scan_bytes(s, from, to, begin()))
+    match scan_bytes(s, from, to, begin()) {
+        Some(c) => key(c),
+        None => NO_KEY,
+    }
 }

@@ -10,7 +10,6 @@ ghost use Rattle.ranks.specs.Sorting.{Numbered};
 
 use layout::words::{get, put};
 use layout::{Ranking, Table};
-use string_order::Order;
 use value_order::comparison::compare_with;
 use values::value_of;
 
@@ -23,11 +22,7 @@ fn rise(s: &[u8], t: &[u16], n: usize, u: usize, v: usize) -> usize
         return 0;
     }
     let x = value_of(t, n, v);
-    match compare_with(s, t, n, x, u) {
-        Order::Less => 0,
-        Order::Same => 0,
-        Order::Greater => 1,
-    }
+    usize::from(compare_with(s, t, n, x, u).is_gt())
 }
 
 // The first node is compared with itself, and gets 0.

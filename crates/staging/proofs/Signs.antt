@@ -11,12 +11,13 @@ use Rattle.xpath.specs.Meaning.{Rel}
 use Rattle.xpath.proofs.Booleans.{trans, ¬-iff}
 use Rattle.rule_spec.proofs.Bytes.{clash}
 use Rattle.rule_parts.specs.declared.kinds.Operator.{Operator}
-use Rattle.rule_parts.specs.declared.kinds.Operator.TheVariants.{Equal, Unequal, Less as Smaller, LessEqual, Greater as Larger, GreaterEqual}
+use Rattle.rule_parts.specs.declared.kinds.Operator.TheVariants.{Equal as Alike, Unequal, Less as Smaller, LessEqual, Greater as Larger, GreaterEqual}
 use Rattle.rule_parts.specs.Kinds.{operator}
 use Rattle.layout.specs.Table.{RANK, AMOUNT}
 use Rattle.string_order.specs.Bytes as Bytes
-use Rattle.string_order.specs.declared.Order.{Order}
-use Rattle.string_order.specs.declared.Order.TheVariants.{Less, Same, Greater}
+use Rattle.std.specs.declared.cmp.Ordering.{Ordering}
+use Rattle.std.specs.declared.cmp.Ordering.TheVariants.{Less, Equal, Greater}
+use Rattle.std.specs.Ordering.{is_eq, is_ne, is_lt, is_le, is_gt, is_ge}
 use Rattle.string_order.proofs.Bytes.{less_distinct}
 use Rattle.numerals.specs.Keys.{no_key, key_of}
 use Rattle.numerals.proofs.Keys.{below_by_keys, at_most_by_keys}
@@ -37,16 +38,9 @@ told_not false h = told_yes (λ a. clash (h.1 a))
 pub told_left : {A : Type 0} {r : Bool} → r ≡ false → (r ≡ true) ↔ A → ¬ A
 told_left e h a = clash (sym e ∙ h.1 a)
 
--- 1 and 0 tell it too
-pub counted_yes : {A : Type 0} {r : Bool} → r ≡ true → (r ≡ true) ↔ A → (◌≡◌ {A = ℕ} 1 1) ↔ A
-counted_yes e h = (λ z. h.0 e, λ a. refl)
-
-pub counted_no : {A : Type 0} {r : Bool} → r ≡ false → (r ≡ true) ↔ A → (◌≡◌ {A = ℕ} 0 1) ↔ A
-counted_no e h = (λ z. absurd (omega arith), λ a. absurd (told_left e h a))
-
 -- ── The sign that an operator stands for ──
 abbrev sign : Operator → Op
-sign Equal = eq
+sign Alike = eq
 sign Unequal = ne
 sign Smaller = lt
 sign LessEqual = le
@@ -83,35 +77,59 @@ ranks_amount gt f = refl
 ranks_amount ge f = refl
 
 -- ── How values compare: in one of three ways ──
-abbrev code : Order → ℕ
-code Less = 0
-code Same = 1
-code Greater = 2
-
-pub apart : {A : Type 0} {c d : Order} → c ≡ d → ¬ (code c ≡ code d) → A
-apart e f = absurd (f (ap (λ (c : Order). code c) e))
-
-same_text : (bs cs : List ℕ) (c : Order) → Compares Bytes.Less bs cs c → (c ≡ Same) ↔ (bs ≡ cs)
-same_text bs cs Less h = (λ e. apart e (λ z. omega arith), λ e. absurd (less_distinct bs cs h e))
-same_text bs cs Same h = (λ e. h, λ e. refl)
-same_text bs cs Greater h = (λ e. apart e (λ z. omega arith), λ e. absurd (less_distinct cs bs h (sym e)))
+same_text : (bs cs : List ℕ) (c : Ordering) → Compares Bytes.Less bs cs c → (c ≡ Equal) ↔ (bs ≡ cs)
+same_text bs cs Less h = (λ e. absurd (cc), λ e. absurd (less_distinct bs cs h e))
+same_text bs cs Equal h = (λ e. h, λ e. refl)
+same_text bs cs Greater h = (λ e. absurd (cc), λ e. absurd (less_distinct cs bs h (sym e)))
 
 module _ (a b : ℕ) where
-  less_number : (c : Order) → Compares ◌<◌ a b c → (c ≡ Less) ↔ (a < b)
+  less_number : (c : Ordering) → Compares ◌<◌ a b c → (c ≡ Less) ↔ (a < b)
   less_number Less h = (λ e. h, λ l. refl)
-  less_number Same h = (λ e. apart e (λ z. omega arith), λ l. absurd (omega arith))
-  less_number Greater h = (λ e. apart e (λ z. omega arith), λ l. absurd (omega arith))
+  less_number Equal h = (λ e. absurd (cc), λ l. absurd (omega arith))
+  less_number Greater h = (λ e. absurd (cc), λ l. absurd (omega arith))
 
-  greater_number : (c : Order) → Compares ◌<◌ a b c → (c ≡ Greater) ↔ (b < a)
-  greater_number Less h = (λ e. apart e (λ z. omega arith), λ l. absurd (omega arith))
-  greater_number Same h = (λ e. apart e (λ z. omega arith), λ l. absurd (omega arith))
+  greater_number : (c : Ordering) → Compares ◌<◌ a b c → (c ≡ Greater) ↔ (b < a)
+  greater_number Less h = (λ e. absurd (cc), λ l. absurd (omega arith))
+  greater_number Equal h = (λ e. absurd (cc), λ l. absurd (omega arith))
   greater_number Greater h = (λ e. h, λ l. refl)
 
   not_less : (¬ (a < b)) ↔ (b ≤ a)
   not_less = (λ f. omega arith, λ l h. omega arith)
 
+-- the test of std for each sign
+abbrev test : Op → Ordering → Bool
+test eq c = is_eq c
+test ne c = is_ne c
+test lt c = is_lt c
+test le c = is_le c
+test gt c = is_gt c
+test ge c = is_ge c
+
+stands_if : (q : Op) (c : Ordering) → (test q c ≡ true) ↔ Stands q c
+stands_if eq Less = told_no (λ e. cc)
+stands_if eq Equal = told_yes refl
+stands_if eq Greater = told_no (λ e. cc)
+stands_if ne Less = told_yes (λ e. cc)
+stands_if ne Equal = told_no (λ f. f refl)
+stands_if ne Greater = told_yes (λ e. cc)
+stands_if lt Less = told_yes refl
+stands_if lt Equal = told_no (λ e. cc)
+stands_if lt Greater = told_no (λ e. cc)
+stands_if le Less = told_yes (λ e. cc)
+stands_if le Equal = told_yes (λ e. cc)
+stands_if le Greater = told_no (λ f. f refl)
+stands_if gt Less = told_no (λ e. cc)
+stands_if gt Equal = told_no (λ e. cc)
+stands_if gt Greater = told_yes refl
+stands_if ge Less = told_no (λ f. f refl)
+stands_if ge Equal = told_yes (λ e. cc)
+stands_if ge Greater = told_yes (λ e. cc)
+
+pub fits_by : {o : Operator} {r : Bool} (p : Op) (c : Ordering) → o ≡ operator p → r ≡ test p c → (q : Op) → o ≡ operator q → (r ≡ true) ↔ Stands q c
+fits_by {o} {r} p c e h q f = said_by (λ x. (r ≡ true) ↔ Stands x c) p q e f (rw h (stands_if p c))
+
 -- ── What a sign of text says ──
-pub stands_text : (q : Op) (bs cs : List ℕ) (c : Order) → ByText q → Compares Bytes.Less bs cs c → Stands q c ↔ Rel q bs cs
+pub stands_text : (q : Op) (bs cs : List ℕ) (c : Ordering) → ByText q → Compares Bytes.Less bs cs c → Stands q c ↔ Rel q bs cs
 stands_text eq bs cs c y h = same_text bs cs c h
 stands_text ne bs cs c y h = ¬-iff (same_text bs cs c h)
 stands_text lt bs cs c y h = absurd y
@@ -126,7 +144,7 @@ key bs = key_of (amount_of bs)
 keyed : {A B C D : Type 0} → A → B → D ↔ (A × B × C) → C ↔ D
 keyed a b f = (λ c. f.1 (a, b, c), λ d. (f.0 d).2)
 
-pub stands_amount : (q : Op) (bs cs : List ℕ) (c : Order) → ¬ ByText q → key bs < no_key → key cs < no_key → Compares ◌<◌ (key bs) (key cs) c → Stands q c ↔ Rel q bs cs
+pub stands_amount : (q : Op) (bs cs : List ℕ) (c : Ordering) → ¬ ByText q → key bs < no_key → key cs < no_key → Compares ◌<◌ (key bs) (key cs) c → Stands q c ↔ Rel q bs cs
 stands_amount eq bs cs c f x y h = absurd (f tt)
 stands_amount ne bs cs c f x y h = absurd (f tt)
 stands_amount lt bs cs c f x y h = trans (less_number (key bs) (key cs) c h) (keyed x y (below_by_keys bs cs))

@@ -13,7 +13,7 @@ use Rattle.layout.specs.Words.{word, Frame, Within}
 use Rattle.test_bits.specs.Columns.{held}
 use Rattle.rule_parts.specs.declared.kinds.Operator.{Operator}
 use Rattle.rule_parts.specs.Kinds.{operator}
-use Rattle.string_order.specs.declared.Order.{Order}
+use Rattle.std.specs.declared.cmp.Ordering.{Ordering}
 use Rattle.constants.specs.declared.Place.{Place}
 use Rattle.constants.specs.Places.{Told}
 use Rattle.staging.specs.Signs.{Stands}
@@ -41,7 +41,7 @@ pub record Stayed (n brackets : ℕ) (numbers : List ℕ) (t t' : List ℕ) : Ty
 -- x is 1 exactly if the sign o stands for what the place p tells of the rank r; where r is no rank, it is 0
 pub record Hit (n : ℕ) (p : Place) (o : Operator) (r x : ℕ) : Type 0 where
   pub none : n ≤ r → x ≡ 0
-  pub some : r < n → (c : Order) × Told p r c × ((q : Op) → o ≡ operator q → (x ≡ 1) ↔ Stands q c)
+  pub some : r < n → (c : Ordering) × Told p r c × ((q : Op) → o ≡ operator q → (x ≡ 1) ↔ Stands q c)
 
 -- for each node by its rank in column c
 pub record HitsFilled (n c : ℕ) (p : Place) (o : Operator) (t t' : List ℕ) : Type 0 where

@@ -5,12 +5,12 @@
 use Rattle.std.specs.Prelude.{ℕ, ◌≡◌, ◌≢◌}
 use Rattle.xpath.specs.Syntax.{Op, eq, ne, lt, le, gt, ge}
 use Rattle.layout.specs.Table.{RANK, AMOUNT}
-use Rattle.string_order.specs.declared.Order.{Order}
-use Rattle.string_order.specs.declared.Order.TheVariants.{Less, Same, Greater}
+use Rattle.std.specs.declared.cmp.Ordering.{Ordering}
+use Rattle.std.specs.declared.cmp.Ordering.TheVariants.{Less, Equal, Greater}
 
-abbrev pub Stands : Op → Order → Type 0
-Stands eq c = c ≡ Same
-Stands ne c = c ≢ Same
+abbrev pub Stands : Op → Ordering → Type 0
+Stands eq c = c ≡ Equal
+Stands ne c = c ≢ Equal
 Stands lt c = c ≡ Less
 Stands le c = c ≢ Greater
 Stands gt c = c ≡ Greater

@@ -49,9 +49,7 @@ fn copy(t: &mut [u16], from: usize, to: usize, size: usize)
     requires { (from + size ≤ to) × (to + size ≤ length t.old) }
     ensures { Repeated from to size t.old t.new }
 {
-    for k in 0..size {
-        t[to + k] = t[from + k];
-    }
+    t.copy_within(from..from + size, to);
 }
 
 // The links, which stand in three columns.
@@ -122,7 +120,7 @@ fn hit(t: &[u16], n: usize, column: usize, v: usize, p: Place, o: Operator) -> u
     if n <= r {
         return 0;
     }
-    if fits(compare_rank(r, p), o) { 1 } else { 0 }
+    u16::from(fits(compare_rank(r, p), o))
 }
 
 // The hits of all nodes, by their ranks in a column.
@@ -143,9 +141,7 @@ fn clear_hits(t: &mut [u16], n: usize)
     ensures { HitsCleared n t.old t.new }
 {
     let hits = HITS * n;
-    for v in 0..n {
-        t[hits + v] = 0;
-    }
+    t[hits..hits + n].fill(0);
 }
 
 // Where the text is in the relation to the constant, which stands in the rule without blanks at its ends.

@@ -43,18 +43,3 @@ module _ (x : List ℕ) (i : ℕ) (y : List ℕ) (j most : ℕ) where
 
   pub begins_more : (k : ℕ) → Begins x i y j most k → k < most → get_or x (i + k) 0 ≡ get_or y (j + k) 0 → Begins x i y j most (k + 1)
   begins_more k a h e = record { within = omega arith; common = common_more x i y j k a.common e }
-
--- ── And no further one ──
-slice_at : (f t : ℕ) (s : List ℕ) (k : ℕ) → f + k < t → get_or (slice f t s) k 0 ≡ get_or s (f + k) 0
-slice_at f t s k h = get_or-drop f (take t s) k 0 ∙ get_or-take t s (f + k) 0 h
-
-pub begins_all : (x : List ℕ) (i : ℕ) (y : List ℕ) (j most k : ℕ) → i + most ≤ length x → j + most ≤ length y → Begins x i y j most k
-    → (k < most → get_or x (i + k) 0 ≢ get_or y (j + k) 0) → Agrees x i y j most k
-begins_all x i y j most k h l a d =
-    let w = a.within in let m = length-slice i (i + k) x (omega arith) in let o = length-slice j (j + k) y (omega arith) in
-    record {
-      within = w;
-      same = ext_get_or 0 (slice i (i + k) x) (slice j (j + k) y) (omega arith)
-          (λ n z. slice_at i (i + k) x n (omega arith) ∙ a.common n (omega arith) ∙ sym (slice_at j (j + k) y n (omega arith)));
-      differ = d;
-    }

@@ -2,12 +2,12 @@
 use Rattle.std.specs.Prelude.{ℕ, ◌+◌, ◌≤◌, ◌<◌, ◌≡◌, ◌≢◌, List, get_or}
 use Rattle.std.proofs.Math.Seq.{slice}
 use Rattle.string_order.specs.Bytes as Bytes
-use Rattle.string_order.specs.declared.Order.{Order}
-use Rattle.string_order.specs.declared.Order.TheVariants.{Less, Same, Greater}
+use Rattle.std.specs.declared.cmp.Ordering.{Ordering}
+use Rattle.std.specs.declared.cmp.Ordering.TheVariants.{Less, Equal, Greater}
 
-abbrev pub Ordered : List ℕ → List ℕ → Order → Type 0
+abbrev pub Ordered : List ℕ → List ℕ → Ordering → Type 0
 Ordered bs cs Less = Bytes.Less bs cs
-Ordered bs cs Same = bs ≡ cs
+Ordered bs cs Equal = bs ≡ cs
 Ordered bs cs Greater = Bytes.Less cs bs
 
 -- the first k bytes are the same in x from i on and in y from j on

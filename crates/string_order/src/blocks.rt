@@ -10,6 +10,7 @@ fn same_block(x: &[u8], i: usize, y: &[u8], j: usize) -> bool
     requires { (i + block ≤ length x.now) × (j + block ≤ length y.now) }
     ensures { result ≡ true → Common x.now i y.now j block }
 {
+    // A flag, and no `all` or `==` that would end at the first byte that differs.
     let mut all = true;
     for k in 0..BLOCK {
         if x[i + k] != y[j + k] {

@@ -7,25 +7,19 @@ ghost use Rattle.std.specs.Prelude.{List, ◌∷◌, ◌≢◌, ℕ, ◌+◌, �
 ghost use Rattle.string_order.specs.Ordered.{Ordered, Begins, Agrees};
 
 use blocks::{BLOCK, same_blocks};
-
-// How the first of two strings compares with the second.
-#[derive(Clone, Copy)]
-pub enum Order {
-    Less,
-    Same,
-    Greater,
-}
+use std::cmp::Ordering;
 
 // How many of `most` bytes are the same, where the first `from` are known to be.
 fn agree_from(x: &[u8], i: usize, y: &[u8], j: usize, most: usize, from: usize) -> usize
     requires { (i + most ≤ length x.now) × (j + most ≤ length y.now) × Begins x.now i y.now j most from }
     ensures { Agrees x.now i y.now j most result }
 {
-    let mut k = from;
-    while k < most && x[i + k] == y[j + k] {
-        k += 1;
+    for k in from..most {
+        if x[i + k] != y[j + k] {
+            return k;
+        }
     }
-    k
+    most
 }
 
 // How many of `most` bytes are the same in `x` from `i` on and in `y` from `j` on. Strings of a block or less would lose by blocks.
@@ -40,9 +34,9 @@ pub fn agree(x: &[u8], i: usize, y: &[u8], j: usize, most: usize) -> usize
     agree_from(x, i, y, j, most, k)
 }
 
-// Two strings that differ in their first bytes.
-pub fn by_bytes(a: u8, b: u8) -> Order
+// How two strings compare that differ in their first bytes.
+pub fn by_bytes(a: u8, b: u8) -> Ordering
     ensures { (bs cs : List ℕ) → a ≢ b → Ordered (a ∷ bs) (b ∷ cs) result }
 {
-    if a < b { Order::Less } else { Order::Greater }
+    a.cmp(&b)
 }

@@ -92,9 +92,7 @@ pub fn mark_all(s: &[u8], t: &mut [u16], n: usize)
     ensures { Marked s.now n 0 t.new × Noted n t.old t.new }
 {
     let mut next = Table::NONE;
-    let mut v = n;
-    while 0 < v {
-        v -= 1;
+    for v in (0..n).rev() {
         next = mark(s, t, n, v, next);
     }
 }

@@ -1,6 +1,6 @@
 -- How a cursor moves in the bytes that it has at hand, and what two cursors side by side tell.
 use Prim.Native.Nat.{ℕ, ◌+◌, ◌≤◌, ◌<◌}
-use mathlib.Core.Path.{◌≡◌, refl, sym, ap, ◌∙◌, subst, subst₂}
+use mathlib.Core.Path.{◌≡◌, refl, sym, ap, ◌∙◌, subst₂}
 use mathlib.Core.Logic.{◌⊎◌, inl, inr}
 use mathlib.Core.List.{List, [], ◌∷◌, ◌++◌, append_assoc}
 use lib.ListN.{get_or}
@@ -13,12 +13,11 @@ use Rattle.values.specs.declared.Reading.{Reading}
 use Rattle.value_notes.specs.Values.{up_to}
 use Rattle.values.specs.Comes.{at_hand, Goes, Comes, Filled}
 use Rattle.values.proofs.Texts.{first_of}
-use Rattle.string_order.specs.declared.Order.{Order}
+use Rattle.std.specs.declared.cmp.Ordering.{Ordering}
 use Rattle.string_order.specs.Ordered.{Ordered}
 use Rattle.string_order.proofs.Comparison.{prefix_less, behind_common}
 use Rattle.value_order.specs.Along.{Ready, Moved, Decides, Along, Shared, Looked}
-use Rattle.value_order.specs.declared.stretches.Ahead.{Ahead}
-use Rattle.value_order.specs.declared.stretches.Ahead.TheVariants.{Decided, Common}
+use Rattle.std.specs.declared.ops.ControlFlow.TheVariants.{Break}
 
 -- ── One cursor ──
 abbrev further : Reading → ℕ → Reading
@@ -96,7 +95,7 @@ module _ {s c : List ℕ} {ns : List Node} {bs cs : List ℕ} where
     ended_less e i = prefix_less e (comes_first g i).1
 
     -- the first bytes that are not the same decide
-    pub bytes_decide : (k : ℕ) (o : Order) → x.from + k < x.to → y.from + k < y.to → slice x.from (x.from + k) s ≡ slice y.from (y.from + k) c
+    pub bytes_decide : (k : ℕ) (o : Ordering) → x.from + k < x.to → y.from + k < y.to → slice x.from (x.from + k) s ≡ slice y.from (y.from + k) c
         → ((us vs : List ℕ) → Ordered (get_or s (x.from + k) 0 ∷ us) (get_or c (y.from + k) 0 ∷ vs) o) → Ordered bs cs o
     bytes_decide k o i j e f =
         let p = moved h k (omega arith) in let q = moved g k (omega arith) in
@@ -113,8 +112,8 @@ pub record Facing (s c : List ℕ) (ns : List Node) (bs cs : List ℕ) (x y : Re
   pub decides : Decides bs cs left right
 
 module _ {s c : List ℕ} {ns : List Node} {bs cs : List ℕ} {x y : Reading} (h : Facing s c ns bs cs x y) where
-  pub facing_decided : {r : Ahead} {o : Order} → r ≡ Decided o → Looked s x c y r → Ordered bs cs o
-  facing_decided {o} e z = h.decides o (subst (λ a. Looked s x c y a) e z ns h.left h.right h.left_ready h.right_ready)
+  pub facing_decided : (o : Ordering) → Looked s x c y (Break o) → Ordered bs cs o
+  facing_decided o z = h.decides o (z ns h.left h.right h.left_ready h.right_ready)
 
   pub facing_moved : {k : ℕ} {x' y' : Reading} → Shared s x c y k → Moved s ns x k h.left x' → Moved c ns y k h.right y' → Along s c ns bs cs x' y'
   facing_moved {k} z p q = record {
@@ -126,7 +125,3 @@ module _ {s c : List ℕ} {ns : List Node} {bs cs : List ℕ} {x y : Reading} (h
         h.decides o
         (decides_behind (slice x.from (x.from + k) s) (slice y.from (y.from + k) c) p.rest q.rest z.same p.whole q.whole o w);
   }
-
--- so many bytes are the same
-pub looked_common : {s : List ℕ} {x : Reading} {c : List ℕ} {y : Reading} {r : Ahead} {k : ℕ} → r ≡ Common k → Looked s x c y r → Shared s x c y k
-looked_common {s} {x} {c} {y} e z = subst (λ a. Looked s x c y a) e z

@@ -4,10 +4,10 @@ use Rattle.std.proofs.Math.Seq.{slice}
 use Rattle.document_spec.specs.Library.{Node}
 use Rattle.values.specs.declared.Reading.{Reading}
 use Rattle.values.specs.Comes.{Comes, weight}
-use Rattle.string_order.specs.declared.Order.{Order}
+use Rattle.std.specs.declared.cmp.Ordering.{Ordering}
 use Rattle.string_order.specs.Ordered.{Ordered}
-use Rattle.value_order.specs.declared.stretches.Ahead.{Ahead}
-use Rattle.value_order.specs.declared.stretches.Ahead.TheVariants.{Decided, Common}
+use Rattle.std.specs.declared.ops.ControlFlow.{ControlFlow}
+use Rattle.std.specs.declared.ops.ControlFlow.TheVariants.{Break, Continue}
 
 -- ── One cursor ──
 -- c has the bytes bs to come, and one of them at hand if there is one
@@ -27,7 +27,7 @@ pub record Moved (s : List ℕ) (ns : List Node) (c : Reading) (k : ℕ) (bs : L
 -- ── Two cursors ──
 -- bs and cs compare as xs and ys do
 abbrev pub Decides : List ℕ → List ℕ → List ℕ → List ℕ → Type 0
-Decides bs cs xs ys = (o : Order) → Ordered xs ys o → Ordered bs cs o
+Decides bs cs xs ys = (o : Ordering) → Ordered xs ys o → Ordered bs cs o
 
 -- what x and y have to come decides how bs and cs compare
 pub record Along (s c : List ℕ) (ns : List Node) (bs cs : List ℕ) (x y : Reading) : Type 0 where
@@ -45,6 +45,6 @@ pub record Shared (s : List ℕ) (x : Reading) (c : List ℕ) (y : Reading) (k :
   pub same : slice x.from (x.from + k) s ≡ slice y.from (y.from + k) c
 
 -- what is at hand decides, or so many bytes are the same
-abbrev pub Looked : List ℕ → Reading → List ℕ → Reading → Ahead → Type 0
-Looked s x c y (Decided o) = (ns : List Node) (bs cs : List ℕ) → Ready s ns x bs → Ready c ns y cs → Ordered bs cs o
-Looked s x c y (Common k) = Shared s x c y k
+abbrev pub Looked : List ℕ → Reading → List ℕ → Reading → ControlFlow Ordering ℕ → Type 0
+Looked s x c y (Break o) = (ns : List Node) (bs cs : List ℕ) → Ready s ns x bs → Ready c ns y cs → Ordered bs cs o
+Looked s x c y (Continue k) = Shared s x c y k

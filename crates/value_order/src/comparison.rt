@@ -10,12 +10,13 @@ ghost use Rattle.value_order.specs.Twins.{Prepared};
 
 use crate::cursors::behind;
 use crate::passing::{Both, pass};
-use crate::stretches::{Ahead, look};
-use string_order::Order;
+use crate::stretches::look;
+use std::cmp::Ordering;
+use std::ops::ControlFlow;
 use values::{Reading, refill, value_of};
 
 // How the values compare that two cursors have to come.
-fn compare(s: &[u8], t: &[u16], n: usize, x: Reading, y: Reading) -> Order
+fn compare(s: &[u8], t: &[u16], n: usize, x: Reading, y: Reading) -> Ordering
     requires { Prepared s.now n t.now × ((ns : List Library.Node) × (bs cs : List ℕ) × Accepts s.now ns × Comes s.now ns x bs × Comes s.now ns y cs) }
     ensures { (ns : List Library.Node) (bs cs : List ℕ) → Accepts s.now ns → Comes s.now ns x bs → Comes s.now ns y cs → Ordered bs cs result }
 {
@@ -25,10 +26,9 @@ fn compare(s: &[u8], t: &[u16], n: usize, x: Reading, y: Reading) -> Order
         let p: Both = pass(t, n, i, j);
         i = refill(t, n, p.x);
         j = refill(t, n, p.y);
-        let a = look(s, i, s, j);
-        match a {
-            Ahead::Decided(o) => return o,
-            Ahead::Common(k) => {
+        match look(s, i, s, j) {
+            ControlFlow::Break(o) => return o,
+            ControlFlow::Continue(k) => {
                 i = behind(i, k);
                 j = behind(j, k);
             }
@@ -36,29 +36,20 @@ fn compare(s: &[u8], t: &[u16], n: usize, x: Reading, y: Reading) -> Order
     }
 }
 
-// Two values that begin at the same place: one begins with the other, and how far they go decides.
-fn by_ends(x: Reading, y: Reading) -> Order
+// Two values that begin at the same place: one begins with the other, and how far they go decides: to which text, and in a lone text to which byte.
+fn by_ends(x: Reading, y: Reading) -> Ordering
     ensures { (s : List ℕ) (ns : List Library.Node) (v w : ℕ) → length ns ≤ NONE → Opens s ns v x → Opens s ns w y → x.from ≡ y.from → x.node ≡ y.node → Ordered (compared_of ns v) (compared_of ns w) result }
 {
-    if x.last < y.last {
-        return Order::Less;
+    let o = x.last.cmp(&y.last);
+    if o.is_ne() || x.node < x.last {
+        return o;
     }
-    if y.last < x.last {
-        return Order::Greater;
-    }
-    if x.node < x.last || x.to == y.to {
-        return Order::Same;
-    }
-    if x.to < y.to {
-        Order::Less
-    } else {
-        Order::Greater
-    }
+    x.to.cmp(&y.to)
 }
 
 // How the value at whose beginning `x` is compares with the value of node `w`.
 // Where both begin at the same place they need not be read.
-pub fn compare_with(s: &[u8], t: &[u16], n: usize, x: Reading, w: usize) -> Order
+pub fn compare_with(s: &[u8], t: &[u16], n: usize, x: Reading, w: usize) -> Ordering
     requires { Prepared s.now n t.now × (w < n) × ((ns : List Library.Node) × (v : ℕ) × Accepts s.now ns × Opens s.now ns v x) }
     ensures { (ns : List Library.Node) (v : ℕ) → Accepts s.now ns → Opens s.now ns v x → Ordered (compared_of ns v) (compared_of ns w) result }
 {

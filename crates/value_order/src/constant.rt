@@ -8,9 +8,10 @@ ghost use Rattle.value_notes.specs.Notes.{Annotated};
 ghost use Rattle.string_order.specs.Ordered.{Ordered};
 
 use crate::cursors::behind;
-use crate::stretches::{Ahead, look};
+use crate::stretches::look;
 use layout::Table;
-use string_order::Order;
+use std::cmp::Ordering;
+use std::ops::ControlFlow;
 use values::{Reading, refill};
 
 // How the value that a cursor has to come compares with the bytes of a constant from one offset up to another.
@@ -22,7 +23,7 @@ pub fn compare_constant(
     c: &[u8],
     from: usize,
     to: usize,
-) -> Order
+) -> Ordering
     requires { ((ns : List Library.Node) × (bs : List ℕ) × Annotated s.now n t.now × Accepts s.now ns × Comes s.now ns x bs) × (from ≤ to) × (to ≤ length c.now) }
     ensures { (ns : List Library.Node) (bs : List ℕ) → Accepts s.now ns → Comes s.now ns x bs → Ordered bs (slice from to c.now) result }
 {
@@ -35,10 +36,9 @@ pub fn compare_constant(
     };
     loop {
         i = refill(t, n, i);
-        let a = look(s, i, c, j);
-        match a {
-            Ahead::Decided(o) => return o,
-            Ahead::Common(k) => {
+        match look(s, i, c, j) {
+            ControlFlow::Break(o) => return o,
+            ControlFlow::Continue(k) => {
                 i = behind(i, k);
                 j = behind(j, k);
             }

@@ -2,43 +2,31 @@
 ghost use Rattle.std.specs.Prelude.{◌≤◌, ◌<◌, length};
 ghost use Rattle.value_order.specs.Along.{Looked};
 
-use string_order::{Order, agree, by_bytes};
+use std::cmp::Ordering;
+use std::ops::ControlFlow;
+use string_order::{agree, by_bytes};
 use values::Reading;
 
-// How two values compare, or how many of the next bytes are the same.
-#[derive(Clone, Copy)]
-pub enum Ahead {
-    Decided(Order),
-    Common(usize),
-}
-
-// The smaller of two numbers.
-fn least(a: usize, b: usize) -> usize
-    ensures { (result ≤ a) × (result ≤ b) × (0 < a → 0 < b → 0 < result) }
-{
-    if a < b { a } else { b }
-}
-
-// What the bytes at hand tell; where a cursor has none, its value is at its end.
-pub fn look(s: &[u8], x: Reading, c: &[u8], y: Reading) -> Ahead
+// What the bytes at hand tell: how the two values compare, or else how many of the next bytes are the same. Where a cursor has none, its value is at its end.
+pub fn look(s: &[u8], x: Reading, c: &[u8], y: Reading) -> ControlFlow<Ordering, usize>
     requires { (x.to ≤ length s.now) × (y.to ≤ length c.now) }
     ensures { Looked s.now x c.now y result }
 {
     if x.to <= x.from {
         if y.to <= y.from {
-            return Ahead::Decided(Order::Same);
+            return ControlFlow::Break(Ordering::Equal);
         }
-        return Ahead::Decided(Order::Less);
+        return ControlFlow::Break(Ordering::Less);
     }
     if y.to <= y.from {
-        return Ahead::Decided(Order::Greater);
+        return ControlFlow::Break(Ordering::Greater);
     }
-    let most = least(x.to - x.from, y.to - y.from);
+    let most = (x.to - x.from).min(y.to - y.from);
     let k = agree(s, x.from, c, y.from, most);
     if k == most {
-        return Ahead::Common(k);
+        return ControlFlow::Continue(k);
     }
     let i = x.from + k;
     let j = y.from + k;
-    Ahead::Decided(by_bytes(s[i], c[j]))
+    ControlFlow::Break(by_bytes(s[i], c[j]))
 }

@@ -4,8 +4,5 @@ use lib.Seq.{slice}
 use Rattle.lists.specs.Blanks.{Blanks}
 use Rattle.blanks.proofs.trim.Given as goal
 
-abbrev pub invariant-loop-to : goal.invariant-loop-to
-invariant-loop-to l = (l.from ≤ l.to) × (l.to ≤ l.initial.to) × Blanks (slice l.to l.initial.to l.s)
-
-abbrev pub decreases-loop-to : goal.decreases-loop-to
-decreases-loop-to l = l.to
+abbrev pub invariant-loop-last : goal.invariant-loop-last
+invariant-loop-last l = (l.from ≤ l.last) × Blanks (slice l.last l.fn.p.to l.s)

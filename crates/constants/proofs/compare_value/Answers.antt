@@ -17,4 +17,4 @@ returns-in-Text c =
 pub returns-in-Amount : goal.returns-in-Amount
 returns-in-Amount c =
     let x = c.args in
-    λ ns a. compared_amount ns x.rule.now x.v x.c c.compare_keys.result c.node_key.result c.in-Amount.k c.in-Amount.is (c.node_key.ensures ns a) c.compare_keys.ensures
+    λ ns a. compared_amount ns x.rule.now x.v x.c c.cmp.result c.node_key.result c.in-Amount.k c.in-Amount.is (c.node_key.ensures ns a) c.cmp.ensures

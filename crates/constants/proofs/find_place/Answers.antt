@@ -53,11 +53,11 @@ loop-lo-preserved-in-Less c =
 pub overflow_add-result : goal.overflow_add-result
 overflow_add-result c = let l = c.get-r.ensures.1 in omega arith
 
-pub returns-in-Same : goal.returns-in-Same
-returns-in-Same c =
+pub returns-in-Equal : goal.returns-in-Equal
+returns-in-Equal c =
     let x = c.args in let m = c.nearest-v in let k = c.column-k in
     λ ns a r w. placed_there x.t.now k.ensures
-    (placed_same (valued x.rule.now x.c c.column-k.ensures (tree_size c.requires.0.tabled ns a) (tree_small a) r w) m.ensures (let inside-here : c.nearest-v.result < c.args.n = let w = c.nearest-v.ensures.within in let l = c.if-v-n.false in omega arith in inside-here) c.get-r.ensures.0 (subst (λ o. ComparesAt (against ns x.rule.now x.c) m.result o) c.in-Same.is (c.compare_value.ensures ns a)))
+    (placed_same (valued x.rule.now x.c c.column-k.ensures (tree_size c.requires.0.tabled ns a) (tree_small a) r w) m.ensures (let inside-here : c.nearest-v.result < c.args.n = let w = c.nearest-v.ensures.within in let l = c.if-v-n.false in omega arith in inside-here) c.get-r.ensures.0 (subst (λ o. ComparesAt (against ns x.rule.now x.c) m.result o) c.in-Equal.is (c.compare_value.ensures ns a)))
 
 pub loop-lo-smaller : goal.loop-lo-smaller
 loop-lo-smaller c = let l = c.loop-lo-test.true in omega arith

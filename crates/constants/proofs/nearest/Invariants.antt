@@ -5,6 +5,3 @@ use Rattle.constants.proofs.nearest.Given as goal
 
 abbrev pub invariant-loop-v : goal.invariant-loop-v
 invariant-loop-v l = Nearing l.n (word l.t l.n l.column) l.low l.best l.least l.v
-
-abbrev pub decreases-loop-v : goal.decreases-loop-v
-decreases-loop-v l = l.v

@@ -2,10 +2,11 @@
 use mathlib.Core.Path.{sym, ◌∙◌, subst}
 use mathlib.Core.Logic.{inl, inr}
 use native.Mathlib.Omega.{arith}
+use Rattle.std.specs.Prelude.{Some}
 use Rattle.numerals.specs.declared.Part.TheVariants.{Whole}
 use Rattle.numerals.proofs.Scans.{Steps, number_small, whole_more, whole_full, whole_point, whole_lost}
 use Rattle.numerals.proofs.in_whole.Goals as goal
-use Rattle.numerals.proofs.in_whole.Goals.{then-b-eq46+else-c-gt0, else-b-eq46}
+use Rattle.numerals.proofs.in_whole.Goals.{else-b-eq46-via-then-b-eq46+else-c-gt0, else-b-eq46-via-else-b-eq46}
 
 pub more-requires : goal.more-requires
 more-requires c =
@@ -13,12 +14,12 @@ more-requires c =
 
 pub returns-then-c-lt-MAX_DIGITS : goal.returns-then-c-lt-MAX_DIGITS
 returns-then-c-lt-MAX_DIGITS c =
-    subst (Steps Whole c.args.c c.args.b) (sym c.more.ensures)
+    subst (λ r. Steps Whole c.args.c c.args.b (Some r)) (sym c.more.ensures)
     (whole_more c.args.c c.args.b c.requires (sym c.is_digit.ensures ∙ c.if-is_digit.true) c.if-c-lt-MAX_DIGITS.true)
 
 pub returns-then-is_digit : goal.returns-then-is_digit
 returns-then-is_digit c =
-    whole_full c.args.c c.args.b c.failed.result c.failed.ensures
+    whole_full c.args.c c.args.b
     (sym c.is_digit.ensures ∙ c.if-is_digit.true) c.if-c-lt-MAX_DIGITS.false
 
 pub returns-then-c-gt0 : goal.returns-then-c-gt0
@@ -28,5 +29,5 @@ returns-then-c-gt0 c =
 
 pub returns : goal.returns
 returns c =
-    whole_lost c.args.c c.args.b c.failed-2.result c.failed-2.ensures (sym c.is_digit.ensures ∙ c.if-is_digit.false)
-    (elim c.if-b-eq46.branch [ then-b-eq46+else-c-gt0 w ↦ inr (omega arith) | else-b-eq46 w ↦ inl w.if-b-eq46.false ])
+    whole_lost c.args.c c.args.b (sym c.is_digit.ensures ∙ c.if-is_digit.false)
+    (elim c.else-b-eq46.branch [ else-b-eq46-via-then-b-eq46+else-c-gt0 w ↦ inr (omega arith) | else-b-eq46-via-else-b-eq46 w ↦ inl w.if-b-eq46.false ])

@@ -1,11 +1,17 @@
 -- `numerals::key_of` meets its contract.
 use mathlib.Core.Path.{ap, ◌∙◌}
 use lib.Seq.{slice}
+use Rattle.std.specs.Prelude.{Some, None}
 use Rattle.numerals.specs.Keys.{key_of}
 use Rattle.numerals.proofs.Scans.{scanned}
 use Rattle.numerals.proofs.key_of.Goals as goal
 
-pub returns : goal.returns
-returns c =
-    let a = c.args in let b = c.begin in let r = c.scan_bytes in
-    c.key.ensures ∙ ap key_of (scanned (slice a.from a.to a.s.now) b.result r.result b.ensures.1 r.ensures.1)
+pub returns-in-None : goal.returns-in-None
+returns-in-None c =
+    let a = c.args in
+    ap key_of (scanned (slice a.from a.to a.s.now) c.begin.result None c.begin.ensures.1 c.in-None.ensures.1)
+
+pub returns-in-Some : goal.returns-in-Some
+returns-in-Some c =
+    let a = c.args in
+    c.key.ensures ∙ ap key_of (scanned (slice a.from a.to a.s.now) c.begin.result (Some c.in-Some.c) c.begin.ensures.1 c.in-Some.ensures.1)

@@ -1,5 +1,4 @@
 -- `staging::draw_tests` meets its contract.
-use Prim.Native.Nat.{◌-◌}
 use Rattle.staging.proofs.Drawn.{Drawn}
 use Rattle.staging.proofs.Tests.{Gathers}
 use Rattle.staging.proofs.draw_tests.Given as goal

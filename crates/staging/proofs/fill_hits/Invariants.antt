@@ -1,5 +1,4 @@
 -- `staging::fill_hits` meets its contract.
-use Prim.Native.Nat.{◌-◌}
 use Rattle.staging.proofs.Drawn.{Drawn}
 use Rattle.staging.proofs.Hits.{Hits}
 use Rattle.staging.proofs.fill_hits.Given as goal

@@ -1,5 +1,5 @@
 -- `staging::tests_at` meets its contract.
-use Prim.Native.Nat.{◌-◌, ◌≤◌}
+use Prim.Native.Nat.{◌≤◌}
 use Rattle.staging.proofs.Tests.{Gathered, stays}
 use Rattle.staging.proofs.tests_at.Given as goal
 

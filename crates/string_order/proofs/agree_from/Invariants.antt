@@ -1,10 +1,6 @@
 -- `string_order::agree_from` meets its contract.
-use Prim.Native.Nat.{◌-◌}
 use Rattle.string_order.specs.Ordered.{Begins}
 use Rattle.string_order.proofs.agree_from.Given as goal
 
 abbrev pub invariant-loop-k : goal.invariant-loop-k
 invariant-loop-k l = Begins l.x l.i l.y l.j l.most l.k
-
-abbrev pub decreases-loop-k : goal.decreases-loop-k
-decreases-loop-k l = l.most - l.k

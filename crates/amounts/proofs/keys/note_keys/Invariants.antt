@@ -1,5 +1,4 @@
 -- `amounts::keys::note_keys` meets its contract.
-use Prim.Native.Nat.{◌-◌}
 use Rattle.amounts.specs.Steps.{Keyed}
 use Rattle.amounts.proofs.keys.note_keys.Given as goal
 

@@ -1,5 +1,4 @@
 -- `amounts::number::number` meets its contract.
-use Prim.Native.Nat.{◌-◌}
 use Rattle.amounts.proofs.Numbering.{Numbering}
 use Rattle.amounts.proofs.number.number.Given as goal
 

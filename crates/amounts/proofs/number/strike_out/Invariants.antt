@@ -1,5 +1,4 @@
 -- `amounts::number::strike_out` meets its contract.
-use Prim.Native.Nat.{◌-◌}
 use Rattle.amounts.specs.Steps.{Struck}
 use Rattle.amounts.proofs.number.strike_out.Given as goal
 

@@ -1,5 +1,4 @@
 -- `ranks::number::number` meets its contract.
-use Prim.Native.Nat.{◌-◌}
 use Rattle.ranks.proofs.Numbering.{Numbering}
 use Rattle.ranks.proofs.number.number.Given as goal
 

@@ -1,7 +1,7 @@
 -- `string_order::blocks::same_block` meets its contract.
 use mathlib.Core.Path.{◌≡◌}
 use mathlib.Core.Bool.{true}
-use Prim.Native.Nat.{◌-◌, ◌≤◌}
+use Prim.Native.Nat.{◌≤◌}
 use Rattle.string_order.specs.Ordered.{block, Common}
 use Rattle.string_order.proofs.blocks.same_block.Given as goal
 

@@ -4,6 +4,3 @@ use Rattle.value_notes.proofs.marks.mark_all.Given as goal
 
 abbrev pub invariant-loop-v : goal.invariant-loop-v
 invariant-loop-v l = Filling l.s l.n l.v l.next l.initial.t l.t
-
-abbrev pub decreases-loop-v : goal.decreases-loop-v
-decreases-loop-v l = l.v

@@ -15,14 +15,13 @@ returns-then-y-2 c = λ ns bs cs h g. ended_less g.comes h.comes (g.empty c.if-y
 
 pub returns-then-k-most : goal.returns-then-k-most
 returns-then-k-most c =
-    let l = c.least-most.ensures in let e = c.if-k-most.true in
-    let z = l.2 (omega arith) (omega arith) in
+    let l = c.min-most.ensures in
     record { some = omega arith; left = omega arith; right = omega arith; same = c.agree-k.ensures.same }
 
 pub returns : goal.returns
 returns c =
     let a = c.agree-k in
-    let l = c.least-most.ensures in
+    let l = c.min-most.ensures in
     let d = c.if-k-most.false in
     let w = a.ensures.within in
     λ ns bs cs h g.
