@@ -1,7 +1,7 @@
 -- The first byte of a test or a path: what it begins, and that a part too deep is met there.
 use Rattle.std.specs.Prelude.{Some, None, Ok, Err}
 use Prim.Native.Nat.{ℕ, suc, ◌≤◌, ◌<◌}
-use mathlib.Core.Path.{◌≡◌, refl, sym, ap, subst}
+use mathlib.Core.Path.{◌≡◌, refl, sym, ap}
 use mathlib.Core.Logic.{inl, inr, ◌≢◌}
 use mathlib.Core.Option.{some}
 use mathlib.Core.List.{List, [], ◌∷◌}
@@ -14,9 +14,8 @@ use Rattle.tokens.specs.declared.heads.TestHead.{TestHead}
 use Rattle.tokens.specs.declared.heads.TestHead.TheVariants.{Name, Not, TwoTests, Comparison, Count}
 use Rattle.tokens.specs.declared.heads.PathHead.{PathHead}
 use Rattle.tokens.specs.declared.heads.PathHead.TheVariants.{Empty, Step, Bracket, TwoPaths, Star}
-use Rattle.tokens.specs.declared.read.Refusal.{Refusal}
 use Rattle.tokens.specs.declared.read.Refusal.TheVariants.{Stuck, Deep}
-use Rattle.tokens.specs.Readers.{Stands, StuckAt, DeepAt, RefusedAt}
+use Rattle.tokens.specs.Readers.{Stands, DeepAt}
 use Rattle.tokens.specs.Heads.{TestByte, PathByte, TestBegins, PathBegins}
 use Rattle.tokens.proofs.Places.{stands_at, at_end_lem, stuck_end, stuck_at}
 
@@ -96,12 +95,3 @@ module _ (s : List ℕ) where
 
     pub path_met : n ≡ suc rule_nesting → (h : PathHead) → PathByte (get_or s i 0) (Some h) → PathBegins s i n (Err (Deep i))
     path_met d h e = (refl, path_deep d h e)
-
-  -- ── A refusal is one of whatever is due ──
-  pub test_refused : {i n : ℕ} (e : Refusal) → TestBegins s i n (Err e) → RefusedAt s e (test n) i
-  test_refused {i} {n} (Stuck j) (q, h) = subst (λ k. StuckAt s k (test n) i) (sym q) h
-  test_refused {i} {n} (Deep j) (q, h) = subst (λ k. DeepAt s k (test n) i) (sym q) h
-
-  pub path_refused : {i n : ℕ} (e : Refusal) → PathBegins s i n (Err e) → RefusedAt s e (path n) i
-  path_refused {i} {n} (Stuck j) (q, h) = subst (λ k. StuckAt s k (path n) i) (sym q) h
-  path_refused {i} {n} (Deep j) (q, h) = subst (λ k. DeepAt s k (path n) i) (sym q) h

@@ -6,3 +6,4 @@ pub mod Numbers
 pub mod Constants
 pub mod Signs
 pub mod FirstBytes
+pub mod Refused

@@ -1,12 +1,13 @@
 -- `tokens::constant` meets its contract.
-use Rattle.std.proofs.lemmas.Result.{err_from_is_err_and}
+use Rattle.rule_spec.specs.Machine.{operand}
+use Rattle.tokens.proofs.Refused.{handed_on}
 use Rattle.tokens.proofs.Constants.{constant_halts, constant_reads}
 use Rattle.tokens.proofs.constant.Goals as goal
 
 pub returns-in_err-c : goal.returns-in_err-c
 returns-in_err-c c = λ n.
-    let p = err_from_is_err_and c.from_residual.result c.from_residual.ensures.1 in
-    rw (p.1, p.2) (constant_halts c.args.s.now c.requires.0 n _ c.in_err-c.ensures)
+    let a = c.args in
+    handed_on a.s.now (operand n) a.at a.k a.t _ _ c.from_residual.ensures.1 (constant_halts a.s.now c.requires.0 n _ c.in_err-c.ensures)
 
 pub closing-requires : goal.closing-requires
 closing-requires c = (c.in_ok-c.ensures.inside, c.in_ok-c.ensures.few)
