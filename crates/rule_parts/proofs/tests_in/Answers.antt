@@ -7,14 +7,6 @@ use lib.Seq.{length-take-le}
 use Rattle.rule_parts.proofs.Alone.{test_count, alone_reads, left_less}
 use Rattle.rule_parts.proofs.tests_in.Goals as goal
 
-pub slice_bounds-read_test-end : goal.slice_bounds-read_test-end
-slice_bounds-read_test-end c = sym (length-take-le c.args.end c.args.s.now (omega arith))
-
-pub read_test-requires : goal.read_test-requires
-read_test-requires c =
-    let l = length-take-le c.args.end c.args.s.now (omega arith) in
-    record { inside = omega arith; nested = omega arith; few = omega arith }
-
 pub overflow_sub-result : goal.overflow_sub-result
 overflow_sub-result c = left_less (take c.args.end c.args.s.now) c.in-Ok.ensures
 

@@ -9,9 +9,6 @@ returns-in_err-c c = λ n.
     let a = c.args in
     handed_on a.s.now (operand n) a.at a.k a.t _ _ c.from_residual.ensures.1 (constant_halts a.s.now c.requires.0 n _ c.in_err-c.ensures)
 
-pub closing-requires : goal.closing-requires
-closing-requires c = (c.in_ok-c.ensures.inside, c.in_ok-c.ensures.few)
-
 pub returns : goal.returns
 returns c = λ n.
     let a = c.args in
