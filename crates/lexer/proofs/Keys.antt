@@ -1,9 +1,9 @@
 -- A key stands at an offset exactly if each of its bytes does.
-use Prim.Native.Nat.{ℕ, ◌+◌, ◌-◌, ◌≤◌, ◌<◌}
+use Prim.Native.Nat.{ℕ, ◌+◌, ◌≤◌}
 use mathlib.Core.Path.{◌≡◌, refl, sym, ap, ◌∙◌, subst}
 use mathlib.Core.List.{List, [], ◌∷◌, ◌++◌, append_assoc}
-use lib.ListN.{length, get_or, take, drop, length-drop, length-append, take-append-drop, get_or-append}
-use lib.Seq.{get_or-drop, get_or-take, drop-drop, ext_get_or, length-take-le}
+use lib.ListN.{length, take, drop, length-drop}
+use lib.Seq.{drop-drop}
 use native.Mathlib.Omega.{arith}
 use Rattle.std.specs.Prelude.{Option, Some, None, nat_eq}
 use mathlib.Core.Bool.{Bool, true, false, true≢false}

@@ -1,5 +1,4 @@
 -- `lexer::number_line` meets its contract.
-use Rattle.lexer.specs.Reading.{numeral_line}
 use Rattle.lexer.proofs.Keys.{key_spans, no_key_numbered, behind_numbered}
 use Rattle.lexer.proofs.number_line.Goals as goal
 

@@ -3,7 +3,7 @@ use native.Mathlib.Omega.{arith}
 use mathlib.Core.Path.{sym, ◌∙◌, subst}
 use Rattle.std.specs.Prelude.{Some}
 use Rattle.lexer.specs.declared.Class.TheVariants.{Digit}
-use Rattle.lexer.specs.Reading.{Ended, Run, Numbered}
+use Rattle.lexer.specs.Reading.{Numbered}
 use Rattle.lexer.proofs.Numbers.{Found, found, number_none, number_empty, number_zero, number_value, digits_of}
 use Rattle.lexer.proofs.read_number.Goals as goal
 use Rattle.lexer.proofs.read_number.Goals.{In_ok-next, then-end-at-via-then-end-at, then-end-at-via-else-end-at+then-zero_led}

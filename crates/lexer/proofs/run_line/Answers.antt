@@ -1,6 +1,4 @@
 -- `lexer::run_line` meets its contract.
-use mathlib.Core.Path.{ap, ◌∙◌}
-use mathlib.Core.List.{◌++◌}
 use Rattle.lexer.specs.Reading.{Run}
 use Rattle.lexer.proofs.Keys.{key_spans, no_key_ended, behind_ended}
 use Rattle.lexer.proofs.run_line.Goals as goal
