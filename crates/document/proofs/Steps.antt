@@ -14,19 +14,17 @@ use Rattle.document_spec.proofs.Good.{good_on, first_form, first_rule, first_dup
 use Rattle.document_spec.proofs.Duplicates.{unrepeated}
 use Rattle.document_spec.proofs.Rules.{ruled_top, ruled_root, ruled_depth, ruled_kind, ruled_label, ruled_value}
 use Rattle.document_spec.proofs.Cursor.{depth_here, kind_here, label_here, value_here, depth_split, kind_split, label_split, value_split}
-use Rattle.lexer.specs.declared.Ending.TheVariants.{Next, Bad}
-use Rattle.lexer.specs.declared.Numeral.TheVariants as Numerals
+use Rattle.std.specs.Prelude.{Some, None, Result, Ok, Err}
 use Rattle.lexer.specs.Reading.{Ended, NumberedLine}
 use Rattle.document_lines.specs.declared.rules.Kind.{Kind}
 use Rattle.document_lines.specs.declared.rules.Kind.TheVariants.{Element, Attribute, Text}
 use Rattle.document_lines.specs.declared.rules.Node.{Node}
-use Rattle.document_lines.specs.declared.lines.KindLine.TheVariants.{Is, NoKind}
 use Rattle.document_lines.specs.Nodes.{kind_of, DepthRule, KindRule, KindRead, IsLabel, IsValue}
-use Rattle.label_trees.specs.declared.Added.TheVariants.{New, Twice, Full}
+use Rattle.label_trees.specs.declared.NotAdded.TheVariants.{Twice, Full}
 use Rattle.label_trees.specs.Trees.{key_at}
 use Rattle.document.specs.declared.nodes.Progress.{Progress}
-use Rattle.document.specs.declared.nodes.Step.{Step}
-use Rattle.document.specs.declared.nodes.Step.TheVariants as step
+use Rattle.document.specs.declared.nodes.Stop.{Stop}
+use Rattle.document.specs.declared.nodes.Stop.TheVariants as stop
 use Rattle.document.specs.Check.{Cursor, Before, Carries, AtKind, AtLabel, AtValue, Reached, Opened, Enterable, Entered, Valued, Stepped, UsedUp, NoWords}
 use Rattle.document.proofs.Runs.{label_stands, label_key, single, before_kind, opened_run, opened_kept, run_twice, run_fresh, run_more}
 
@@ -41,11 +39,11 @@ module _ {s : List ℕ} {n v i : ℕ} where
 
 -- ── Depth ──
 module _ {s t : List ℕ} {n : ℕ} {h : Progress} (a : Reached s t n h) (inside : h.node < n) where
-  pub depth_form : NumberedLine (bytes "depth=") 4 s h.at Numerals.NoNumeral → First (DocumentGround s) (line_form (4 * h.node + 2))
+  pub depth_form : NumberedLine (bytes "depth=") 4 s h.at None → First (DocumentGround s) (line_form (4 * h.node + 2))
   depth_form g = first_form a.cursor.good h.node depth (omega arith) inside
       (λ (d, q). g d (behind_lines (4 * h.node + 2) s) q.0 (sym a.cursor.here ∙ depth_split s h.node d q))
 
-  module _ (d j : ℕ) (g : NumberedLine (bytes "depth=") 4 s h.at (Numerals.Value d j)) where
+  module _ (d j : ℕ) (g : NumberedLine (bytes "depth=") 4 s h.at (Some (record { value = d; next = j }))) where
     says : DepthIs s h.node d × (behind_lines (4 * h.node + 2) s ≡ drop j s)
     says = depth_here s h.node d (drop j s) g.0 (a.cursor.here ∙ g.1.spelled)
 
@@ -71,11 +69,11 @@ module _ {s t : List ℕ} {n : ℕ} {h : Progress} (a : Reached s t n h) (inside
 
 -- ── Kind ──
 module _ {s t : List ℕ} {n : ℕ} {h : Progress} {d i : ℕ} (a : AtKind s t n h d i) where
-  pub kind_form : KindRead s i NoKind → First (DocumentGround s) (line_form (4 * h.node + 3))
+  pub kind_form : KindRead s i None → First (DocumentGround s) (line_form (4 * h.node + 3))
   kind_form g = first_form a.cursor.good h.node kind (omega arith) a.inside
       (λ (k, q). g k (behind_lines (4 * h.node + 3) s) (sym a.cursor.here ∙ kind_split s h.node k q))
 
-  module _ (k : Kind) (j : ℕ) (g : KindRead s i (Is k j)) where
+  module _ (k : Kind) (j : ℕ) (g : KindRead s i (Some (k, j))) where
     says_kind : KindIs s h.node (kind_of k) × (behind_lines (4 * h.node + 3) s ≡ drop j s)
     says_kind = kind_here s h.node (kind_of k) (drop j s) (a.cursor.here ∙ g.spelled)
 
@@ -96,10 +94,10 @@ module _ {s t : List ℕ} {n : ℕ} {h : Progress} {d i : ℕ} (a : AtKind s t n
     }
 
     -- where there are no words for the label, those that were held are held
-    pub kind_behind : (t' t'' : List ℕ) → Opened h.before.kind k t t' → (r : Step) → Stepped s t'' n h.node ((t'' ≡ t') × UsedUp t'' h.node) r → Stepped s t'' n h.node (NoWords s t'' h) r
-    kind_behind t' t'' o (step.Behind g) q = q
-    kind_behind t' t'' o (step.Refused w) q = q
-    kind_behind t' t'' o step.Full q =
+    pub kind_behind : (t' t'' : List ℕ) → Opened h.before.kind k t t' → (r : Result Progress Stop) → Stepped s t'' n h.node ((t'' ≡ t') × UsedUp t'' h.node) r → Stepped s t'' n h.node (NoWords s t'' h) r
+    kind_behind t' t'' o (Ok g) q = q
+    kind_behind t' t'' o (Err (stop.Refused w)) q = q
+    kind_behind t' t'' o (Err stop.Full) q =
         (subst (λ t. Carries s t h.node h.at h.before.kind) (sym q.0) (opened_kept s t t' h.node h.at h.before.kind k a.reached.carries o), q.1)
 
     breaks_kind : (v : ℕ) → v < n → Before s v h.before → DepthIs s v d → KindIs s v (kind_of k) → ¬ KindRule v h.before d k → Breaks s (4 * v + 3)
@@ -112,11 +110,11 @@ module _ {s t : List ℕ} {n : ℕ} {h : Progress} {d i : ℕ} (a : AtKind s t n
 module _ {s : List ℕ} {n v i : ℕ} where
   -- ── Label ──
   module _ {t : List ℕ} {x : Node} (a : AtLabel s t n v x i) where
-    pub label_form : Ended IsLabel s i Bad → First (DocumentGround s) (line_form (4 * v + 4))
+    pub label_form : Ended IsLabel s i None → First (DocumentGround s) (line_form (4 * v + 4))
     label_form h = first_form a.cursor.good v label (omega arith) a.inside
         (λ (b, q). h (label_line b) (behind_lines (4 * v + 4) s) (b, q.0, refl) (sym a.cursor.here ∙ label_split s v b q))
 
-    module _ (j : ℕ) (h : Ended IsLabel s i (Next j)) where
+    module _ (j : ℕ) (h : Ended IsLabel s i (Some j)) where
       abbrev the_label : List ℕ
       the_label = h.1.0
 
@@ -142,12 +140,12 @@ module _ {s : List ℕ} {n v i : ℕ} where
       key = label_key s i j the_label h.1.1 label_spelled h.2.inside
 
       -- a label that is new is no repeat
-      fresh : (t' : List ℕ) (k : Kind) → KindIs s v (kind_of k) → Carries s t v i k → Entered s t i k t' New → ¬ Duplicate s (4 * v + 4)
+      fresh : (t' : List ℕ) (k : Kind) → KindIs s v (kind_of k) → Carries s t v i k → Entered s t i k t' (Ok tt) → ¬ Duplicate s (4 * v + 4)
       fresh t' Element q r e = single s v Library.element (omega arith) q
       fresh t' Attribute q r e = run_fresh s r q the_label says_label.0 key e.fresh
       fresh t' Text q r e = single s v Library.text (omega arith) q
 
-      pub label_on : (t' : List ℕ) → Entered s t i x.kind t' New → LabelRule (kind_of x.kind) the_label → AtValue s n v x j
+      pub label_on : (t' : List ℕ) → Entered s t i x.kind t' (Ok tt) → LabelRule (kind_of x.kind) the_label → AtValue s n v x j
       label_on t' e r = record {
         inside = a.inside;
         cursor = moved label a.cursor (omega arith) a.inside (the_label, says_label.0) (ruled_label s v (kind_of x.kind) a.says.kind the_label says_label.0 r) (fresh t' x.kind a.says.kind a.carries e) says_label.1 h.2.inside;
@@ -155,41 +153,38 @@ module _ {s : List ℕ} {n v i : ℕ} where
       }
 
       -- the words as they must be behind the node, wherever its value ends
-      pub label_carries : (t' : List ℕ) (m : ℕ) → Entered s t i x.kind t' New → j ≤ m → Carries s t' (suc v) m x.kind
+      pub label_carries : (t' : List ℕ) (m : ℕ) → Entered s t i x.kind t' (Ok tt) → j ≤ m → Carries s t' (suc v) m x.kind
       label_carries t' m e l = go x.kind a.says.kind a.carries e
         where
-          go : (k : Kind) → KindIs s v (kind_of k) → Carries s t v i k → Entered s t i k t' New → Carries s t' (suc v) m k
+          go : (k : Kind) → KindIs s v (kind_of k) → Carries s t v i k → Entered s t i k t' (Ok tt) → Carries s t' (suc v) m k
           go Element q r e = tt
           go Attribute q r e = run_more s r q the_label says_label.0 key m e (omega (arith, label_length))
           go Text q r e = tt
 
       -- behind the value line the node is done
-      pub label_behind_value : (t' : List ℕ) → Entered s t i x.kind t' New → LabelRule (kind_of x.kind) the_label → (F : Type 0) (r : Step) → (AtValue s n v x j → Valued s n v x j r) → Stepped s t' n v F r
-      label_behind_value t' e l F (step.Behind h) f =
-          let q = f (label_on t' e l) in (
-            q.0,
-            record {
-              cursor = subst (λ w. Cursor s n (4 * w + 1) h.at) (sym q.0) q.3;
-              before = subst₂ (Before s) (sym q.0) (sym q.1) a.says;
-              small = subst (λ y. y.depth < 10_000) (sym q.1) a.says.depth.0;
-              carries = subst₂ (λ w y. Carries s t' w h.at y.kind) (sym q.0) (sym q.1) (label_carries t' h.at e q.2);
-            },
-          )
-      label_behind_value t' e l F (step.Refused w) f = f (label_on t' e l)
-      label_behind_value t' e l F step.Full f = absurd (f (label_on t' e l))
+      pub label_behind_value : (t' : List ℕ) → Entered s t i x.kind t' (Ok tt) → (h : Progress) → Valued s n v x j (Ok h) → (h.node ≡ suc v) × Reached s t' n h
+      label_behind_value t' e h q = (
+        q.0,
+        record {
+          cursor = subst (λ w. Cursor s n (4 * w + 1) h.at) (sym q.0) q.3;
+          before = subst₂ (Before s) (sym q.0) (sym q.1) a.says;
+          small = subst (λ y. y.depth < 10_000) (sym q.1) a.says.depth.0;
+          carries = subst₂ (λ w y. Carries s t' w h.at y.kind) (sym q.0) (sym q.1) (label_carries t' h.at e q.2);
+        },
+      )
 
-      pub label_twice : (t' : List ℕ) → Entered s t i x.kind t' Twice → First (DocumentGround s) (duplicate_attribute (4 * v + 4))
+      pub label_twice : (t' : List ℕ) → Entered s t i x.kind t' (Err Twice) → First (DocumentGround s) (duplicate_attribute (4 * v + 4))
       label_twice t' e = go x.kind a.says.kind a.carries e
         where
-          go : (k : Kind) → KindIs s v (kind_of k) → Carries s t v i k → Entered s t i k t' Twice → First (DocumentGround s) (duplicate_attribute (4 * v + 4))
+          go : (k : Kind) → KindIs s v (kind_of k) → Carries s t v i k → Entered s t i k t' (Err Twice) → First (DocumentGround s) (duplicate_attribute (4 * v + 4))
           go Element q r e = let f = e.1 in let z : ◌≡◌ {A = ℕ} 0 1 = cc in absurd (omega arith)
           go Attribute q r e = first_duplicate a.cursor.good v (omega arith) (run_twice s r q the_label says_label.0 key a.cursor.good.count a.inside e.1)
           go Text q r e = let f = e.1 in let z : ◌≡◌ {A = ℕ} 0 1 = cc in absurd (omega arith)
 
-      pub label_full : (t' : List ℕ) → Entered s t i x.kind t' Full → (t' ≡ t) × UsedUp t' v
+      pub label_full : (t' : List ℕ) → Entered s t i x.kind t' (Err Full) → (t' ≡ t) × UsedUp t' v
       label_full t' e = go x.kind a.carries e
         where
-          go : (k : Kind) → Carries s t v i k → Entered s t i k t' Full → (t' ≡ t) × UsedUp t' v
+          go : (k : Kind) → Carries s t v i k → Entered s t i k t' (Err Full) → (t' ≡ t) × UsedUp t' v
           go Element r e = let f = e.1 in let z : ◌≡◌ {A = ℕ} 0 1 = cc in absurd (omega arith)
           go Attribute r e = let u = r.upto in (e.0, subst (λ t. UsedUp t v) (sym e.0) (let l = e.1 in omega arith))
           go Text r e = let f = e.1 in let z : ◌≡◌ {A = ℕ} 0 1 = cc in absurd (omega arith)
@@ -199,11 +194,11 @@ module _ {s : List ℕ} {n v i : ℕ} where
 
   -- ── Value ──
   module _ {x : Node} (a : AtValue s n v x i) where
-    pub value_form : Ended IsValue s i Bad → First (DocumentGround s) (line_form (4 * v + 5))
+    pub value_form : Ended IsValue s i None → First (DocumentGround s) (line_form (4 * v + 5))
     value_form h = first_form a.cursor.good v value (omega arith) a.inside
         (λ (b, q). h (value_line b) (behind_lines (4 * suc v + 1) s) (b, q.0, refl) (sym a.cursor.here ∙ value_split s v b q))
 
-    module _ (j : ℕ) (h : Ended IsValue s i (Next j)) where
+    module _ (j : ℕ) (h : Ended IsValue s i (Some j)) where
       abbrev the_value : List ℕ
       the_value = h.1.0
 

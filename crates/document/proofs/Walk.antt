@@ -15,7 +15,7 @@ use Rattle.document_spec.proofs.Cursor.{count_here, count_split}
 use Rattle.document_spec.proofs.Grounds.{first_uncounted, first_number}
 use Rattle.document_spec.proofs.Good.{good_start, first_extra}
 use Rattle.document_spec.proofs.Accepted.{good_accepts}
-use Rattle.lexer.specs.declared.Numeral.TheVariants.{Value, NoNumeral}
+use Rattle.std.specs.Prelude.{Some, None}
 use Rattle.lexer.specs.Reading.{NumberedLine}
 use Rattle.document_lines.specs.declared.rules.Kind.{Kind}
 use Rattle.document_lines.specs.declared.rules.Kind.TheVariants.{Element, Attribute, Text}
@@ -24,10 +24,6 @@ use Rattle.document.specs.declared.nodes.Progress.{Progress}
 use Rattle.document.specs.Check.{Cursor, Labelled, Run, Carries, Reached}
 
 -- ── Words ──
--- before the first node nothing is held
-pub first_reached : {s t : List ℕ} {n i : ℕ} → Cursor s n 1 i → Reached s t n (record { node = 0; at = i; before = record { depth = 0; kind = Element } })
-first_reached c = record { cursor = c; before = tt; small = omega arith; carries = tt }
-
 -- the words were changed, and hold what they must
 pub reached_still : {s t t' : List ℕ} {n : ℕ} {h : Progress} → Reached s t n h → Carries s t' h.node h.at h.before.kind → Reached s t' n h
 reached_still r c = record { cursor = r.cursor; before = r.before; small = r.small; carries = c }
@@ -69,10 +65,10 @@ module _ {s : List ℕ} {n : ℕ} where
 
 -- ── The first line ──
 module _ (s : List ℕ) (short : length s ≤ document_bytes) where
-  pub no_count : NumberedLine (bytes "nodes=") 5 s 0 NoNumeral → First (DocumentGround s) (line_form 1)
+  pub no_count : NumberedLine (bytes "nodes=") 5 s 0 None → First (DocumentGround s) (line_form 1)
   no_count h = first_uncounted s short (λ n q. h n (behind_lines 1 s) q.0 (count_split s n q))
 
-  module _ (n i : ℕ) (h : NumberedLine (bytes "nodes=") 5 s 0 (Value n i)) where
+  module _ (n i : ℕ) (h : NumberedLine (bytes "nodes=") 5 s 0 (Some (record { value = n; next = i }))) where
     counted : CountIs s n × (behind_lines 1 s ≡ drop i s)
     counted = count_here s n (drop i s) h.0 h.1.spelled
 

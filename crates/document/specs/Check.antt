@@ -1,34 +1,33 @@
 -- What the check promises, and what it knows on the way.
-use Rattle.std.specs.Prelude.{ℕ, zero, suc, ◌+◌, ◌*◌, ◌≤◌, ◌<◌, ◌^◌, ◌≡◌, List, ◌++◌, length, drop}
+use Rattle.std.specs.Prelude.{ℕ, zero, suc, ◌+◌, ◌*◌, ◌≤◌, ◌<◌, ◌^◌, ◌≡◌, List, ◌++◌, length, drop, Result, Ok, Err}
 use Rattle.lists.specs.Text.{bytes}
 use Rattle.limits.specs.Limits.{depth_digits}
 use Rattle.refusals.specs.Refusals.{document_length, line_form, node_count, tree_rule, duplicate_attribute, First}
 use Rattle.document_spec.specs.Library as Library
 use Rattle.document_spec.specs.Verdict.{behind_lines, DepthIs, KindIs, LabelIs, DocumentGround, Accepts}
 use Rattle.document_spec.specs.Good.{Good}
-use Rattle.document.specs.declared.Verdict.{Verdict}
-use Rattle.document.specs.declared.Verdict.TheVariants.{Accepted, Length, Form, Count, Tree, Duplicate}
+use Rattle.document.specs.declared.Refusal.{Refusal}
+use Rattle.document.specs.declared.Refusal.TheVariants.{Length, Form, Count, Tree, Duplicate}
 use Rattle.document_lines.specs.declared.rules.Node.{Node}
 use Rattle.document_lines.specs.declared.rules.Kind.{Kind}
 use Rattle.document_lines.specs.declared.rules.Kind.TheVariants.{Element, Attribute, Text}
 use Rattle.document_lines.specs.Nodes.{kind_of}
-use Rattle.label_trees.specs.declared.Added.{Added}
-use Rattle.label_trees.specs.declared.Added.TheVariants.{New}
+use Rattle.label_trees.specs.declared.NotAdded.{NotAdded}
 use Rattle.label_trees.specs.Trees.{key_at, heads, max_words, held, offset_at, Below, Stands, Holds, Adds}
 use Rattle.document.specs.declared.nodes.Progress.{Progress}
-use Rattle.document.specs.declared.nodes.Step.{Step}
-use Rattle.document.specs.declared.nodes.Step.TheVariants.{Behind, Refused, Full}
-use Rattle.document.specs.declared.Reading.{Reading}
-use Rattle.document.specs.declared.Reading.TheVariants as reading
+use Rattle.document.specs.declared.nodes.Stop.{Stop}
+use Rattle.document.specs.declared.nodes.Stop.TheVariants.{Refused, Full}
+use Rattle.document.specs.declared.Halt.{Halt}
+use Rattle.document.specs.declared.Halt.TheVariants as halt
 
 -- the verdict of the definition: the library that the document spells, or the first ground in the written order
-abbrev pub Judged : List ℕ → Verdict → Type 0
-Judged s (Accepted n) = (ns : List Library.Node) × Accepts s ns × (length ns ≡ n)
-Judged s Length = First (DocumentGround s) document_length
-Judged s (Form i) = First (DocumentGround s) (line_form i)
-Judged s Count = First (DocumentGround s) node_count
-Judged s (Tree i) = First (DocumentGround s) (tree_rule i)
-Judged s (Duplicate i) = First (DocumentGround s) (duplicate_attribute i)
+abbrev pub Judged : List ℕ → Result ℕ Refusal → Type 0
+Judged s (Ok n) = (ns : List Library.Node) × Accepts s ns × (length ns ≡ n)
+Judged s (Err Length) = First (DocumentGround s) document_length
+Judged s (Err (Form i)) = First (DocumentGround s) (line_form i)
+Judged s (Err Count) = First (DocumentGround s) node_count
+Judged s (Err (Tree i)) = First (DocumentGround s) (tree_rule i)
+Judged s (Err (Duplicate i)) = First (DocumentGround s) (duplicate_attribute i)
 
 -- ── On the way ──
 -- the first k lines are good, and the cursor is behind them
@@ -123,23 +122,22 @@ Enterable s t i j Attribute = Stands s (i + 6) j × Holds s t × Below t (i + 6)
 Enterable s t i j Text = Unit {0}
 
 -- the label of an attribute is entered, that of another node is not
-abbrev pub Entered : List ℕ → List ℕ → ℕ → Kind → List ℕ → Added → Type 0
-Entered s t i Element t' r = (t' ≡ t) × (r ≡ New)
+abbrev pub Entered : List ℕ → List ℕ → ℕ → Kind → List ℕ → Result (Unit {0}) NotAdded → Type 0
+Entered s t i Element t' r = (t' ≡ t) × (r ≡ Ok tt)
 Entered s t i Attribute t' r = Adds s t (i + 6) t' r
-Entered s t i Text t' r = (t' ≡ t) × (r ≡ New)
+Entered s t i Text t' r = (t' ≡ t) × (r ≡ Ok tt)
 
 -- ── Behind the lines of a node ──
 -- behind the value line of node v
-abbrev pub Valued : List ℕ → ℕ → ℕ → Node → ℕ → Step → Type 0
-Valued s n v x i (Behind h) = (h.node ≡ suc v) × (h.before ≡ x) × (i ≤ h.at) × Cursor s n (4 * suc v + 1) h.at
-Valued s n v x i (Refused w) = Judged s w
-Valued s n v x i Full = ⊥
+abbrev pub Valued : List ℕ → ℕ → ℕ → Node → ℕ → Result Progress Refusal → Type 0
+Valued s n v x i (Ok h) = (h.node ≡ suc v) × (h.before ≡ x) × (i ≤ h.at) × Cursor s n (4 * suc v + 1) h.at
+Valued s n v x i (Err w) = Judged s (Err w)
 
 -- behind node v, refused, or F: there are no words for its label
-abbrev pub Stepped : List ℕ → List ℕ → ℕ → ℕ → Type 0 → Step → Type 0
-Stepped s t n v F (Behind h) = (h.node ≡ suc v) × Reached s t n h
-Stepped s t n v F (Refused w) = Judged s w
-Stepped s t n v F Full = F
+abbrev pub Stepped : List ℕ → List ℕ → ℕ → ℕ → Type 0 → Result Progress Stop → Type 0
+Stepped s t n v F (Ok h) = (h.node ≡ suc v) × Reached s t n h
+Stepped s t n v F (Err (Refused w)) = Judged s (Err w)
+Stepped s t n v F (Err Full) = F
 
 -- the words are used up before node v
 abbrev pub UsedUp : List ℕ → ℕ → Type 0
@@ -150,6 +148,7 @@ abbrev pub NoWords : List ℕ → List ℕ → Progress → Type 0
 NoWords s t h = Carries s t h.node h.at h.before.kind × UsedUp t h.node
 
 -- the verdict, or how far the words reached
-abbrev pub NodesRead : List ℕ → List ℕ → ℕ → Reading → Type 0
-NodesRead s t n (reading.Done w) = Judged s w
-NodesRead s t n (reading.Full h) = (h.node < n) × Reached s t n h × UsedUp t h.node
+abbrev pub NodesRead : List ℕ → List ℕ → ℕ → Result ℕ Halt → Type 0
+NodesRead s t n (Ok m) = Judged s (Ok m)
+NodesRead s t n (Err (halt.Refused w)) = Judged s (Err w)
+NodesRead s t n (Err (halt.Full h)) = (h.node < n) × Reached s t n h × UsedUp t h.node

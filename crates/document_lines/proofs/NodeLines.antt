@@ -12,12 +12,10 @@ use Rattle.document_spec.specs.Verdict.{first_line, behind_line, Accepts}
 use Rattle.document_spec.proofs.Lines.{Line, line_first, line_behind}
 use Rattle.document_spec.proofs.Spelling.{nodes_line_lem, depth_line_lem, kind_line_lem, label_line_lem, value_line_lem, depth_injective, kind_injective, label_injective, value_injective}
 use Rattle.document_spec.proofs.Binary.{depth_small}
-use Rattle.lexer.specs.declared.Ending.TheVariants.{Next, Bad}
-use Rattle.lexer.specs.declared.Numeral.TheVariants as Numerals
+use Rattle.std.specs.Prelude.{Some, None}
 use Rattle.lexer.specs.Reading.{Ended, NumberedLine}
 use Rattle.lexer.proofs.Laws.{slice_of}
 use Rattle.document_lines.specs.declared.rules.Kind.{Kind}
-use Rattle.document_lines.specs.declared.lines.KindLine.TheVariants.{Is, NoKind}
 use Rattle.document_lines.specs.Nodes.{kind_of, KindRead, IsLabel, IsValue}
 use Rattle.document_lines.specs.Entries.{Start, Stands}
 
@@ -28,11 +26,11 @@ line_same x y r q e =
 
 module _ {s : List ℕ} where
   -- ── The count line ──
-  pub count_there : {ns : List Library.Node} → Accepts s ns → ¬ NumberedLine (bytes "nodes=") 5 s 0 Numerals.NoNumeral
+  pub count_there : {ns : List Library.Node} → Accepts s ns → ¬ NumberedLine (bytes "nodes=") 5 s 0 None
   unfolding spell
   count_there {ns} a h = h (length ns) (node_lines ns) (let l = a.legal.few in omega arith) a.spelled
 
-  pub count_is : {ns : List Library.Node} {n j : ℕ} → Accepts s ns → NumberedLine (bytes "nodes=") 5 s 0 (Numerals.Value n j) → Start s ns j
+  pub count_is : {ns : List Library.Node} {n j : ℕ} → Accepts s ns → NumberedLine (bytes "nodes=") 5 s 0 (Some (record { value = n; next = j })) → Start s ns j
   unfolding spell
   count_is {ns} {n} {j} a h = record { inside = h.1.inside; here = (line_same (nodes_line_lem n) (nodes_line_lem (length ns)) (drop j s) (node_lines ns) (sym h.1.spelled ∙ a.spelled)).1 }
 
@@ -60,19 +58,19 @@ module _ {s : List ℕ} where
     shallow : x.depth < 10 ^ 4
     shallow = let h = depth_small a.accepts.legal v a.node in omega arith
 
-    pub depth_there : ¬ NumberedLine (bytes "depth=") 4 s i Numerals.NoNumeral
+    pub depth_there : ¬ NumberedLine (bytes "depth=") 4 s i None
     depth_there h = h x.depth behind_depth shallow whole
 
-    pub depth_is : (d j : ℕ) → NumberedLine (bytes "depth=") 4 s i (Numerals.Value d j) → (d ≡ x.depth) × (drop j s ≡ behind_depth)
+    pub depth_is : (d j : ℕ) → NumberedLine (bytes "depth=") 4 s i (Some (record { value = d; next = j })) → (d ≡ x.depth) × (drop j s ≡ behind_depth)
     depth_is d j h =
         let (e, r) = line_same (depth_line_lem d) (depth_line_lem x.depth) (drop j s) behind_depth (sym h.1.spelled ∙ whole) in
         (depth_injective d x.depth e, r)
 
     module _ (j : ℕ) (here : drop j s ≡ behind_depth) where
-      pub kind_there : ¬ KindRead s j NoKind
+      pub kind_there : ¬ KindRead s j None
       kind_there h = h x.kind behind_kind here
 
-      pub kind_is : (k : Kind) (m : ℕ) → KindRead s j (Is k m) → (kind_of k ≡ x.kind) × (drop m s ≡ behind_kind)
+      pub kind_is : (k : Kind) (m : ℕ) → KindRead s j (Some (k, m)) → (kind_of k ≡ x.kind) × (drop m s ≡ behind_kind)
       kind_is k m h =
           let (e, r) = line_same (kind_line_lem (kind_of k)) (kind_line_lem x.kind) (drop m s) behind_kind (sym h.spelled ∙ here) in
           (kind_injective (kind_of k) x.kind e, r)
@@ -91,10 +89,10 @@ module _ {s : List ℕ} where
             sym (drop-drop 6 j s) ∙ ap (drop 6) (e ∙ append_assoc key (f ++ bytes "\n") (drop m s)) ∙ drop_at key ((f ++ bytes "\n") ++ drop m s) 6 k ∙ append_assoc f (bytes "\n") (drop m s)
 
     module _ (j : ℕ) (inside : j ≤ length s) (here : drop j s ≡ behind_kind) where
-      pub label_there : ¬ Ended IsLabel s j Bad
+      pub label_there : ¬ Ended IsLabel s j None
       label_there h = h (label_line x.label) behind_label (x.label, a.accepts.legal.names v a.node, refl) here
 
-      pub label_is : (m : ℕ) → Ended IsLabel s j (Next m) → (slice (j + 6) (m - 1) s ≡ x.label) × (j + 7 ≤ m) × (drop m s ≡ behind_label)
+      pub label_is : (m : ℕ) → Ended IsLabel s j (Some m) → (slice (j + 6) (m - 1) s ≡ x.label) × (j + 7 ≤ m) × (drop m s ≡ behind_label)
       label_is m (l, (b, n, q), p) =
           let name = a.accepts.legal.names v a.node in
           let spelled = p.spelled ∙ ap (λ (y : List ℕ). y ++ drop m s) q in
@@ -103,10 +101,10 @@ module _ {s : List ℕ} where
           (f ∙ label_injective b x.label e, t, r)
 
     module _ (j : ℕ) (inside : j ≤ length s) (here : drop j s ≡ behind_label) where
-      pub value_there : ¬ Ended IsValue s j Bad
+      pub value_there : ¬ Ended IsValue s j None
       value_there h = h (value_line x.value) behind_value (x.value, a.accepts.legal.values v a.node, refl) here
 
-      pub value_is : (m : ℕ) → Ended IsValue s j (Next m) → (slice (j + 6) (m - 1) s ≡ x.value) × (j + 7 ≤ m) × Start s (drop (suc v) ns) m
+      pub value_is : (m : ℕ) → Ended IsValue s j (Some m) → (slice (j + 6) (m - 1) s ≡ x.value) × (j + 7 ≤ m) × Start s (drop (suc v) ns) m
       value_is m (l, (b, n, q), p) =
           let good = a.accepts.legal.values v a.node in
           let spelled = p.spelled ∙ ap (λ (y : List ℕ). y ++ drop m s) q in

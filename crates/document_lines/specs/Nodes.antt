@@ -1,5 +1,5 @@
 -- What the check knows of the node before the one that it reads.
-use Rattle.std.specs.Prelude.{ℕ, zero, suc, ◌≡◌, Bool, true, false, List, ◌++◌, drop}
+use Rattle.std.specs.Prelude.{ℕ, zero, suc, ◌≡◌, Bool, true, false, Option, Some, None, List, ◌++◌, drop}
 use Rattle.limits.specs.Names.{Name}
 use Rattle.lexer.specs.Reading.{Spans}
 use Rattle.document_spec.specs.Library.{element, attribute, text, DepthBehind, KindBehind, Value, kind_line, label_line, value_line}
@@ -7,8 +7,6 @@ use Rattle.document_spec.specs.Library as Library
 use Rattle.document_lines.specs.declared.rules.Kind.{Kind}
 use Rattle.document_lines.specs.declared.rules.Kind.TheVariants.{Element, Attribute, Text}
 use Rattle.document_lines.specs.declared.rules.Node.{Node}
-use Rattle.document_lines.specs.declared.lines.KindLine.{KindLine}
-use Rattle.document_lines.specs.declared.lines.KindLine.TheVariants.{Is, NoKind}
 
 abbrev pub kind_of : Kind → Library.Kind
 kind_of Element = element
@@ -30,9 +28,9 @@ KindRule zero p d k = kind_of k ≡ element
 KindRule (suc v) p d k = KindBehind p.depth (kind_of p.kind) d (kind_of k)
 
 -- what a reader of a kind line answers at i
-abbrev pub KindRead : List ℕ → ℕ → KindLine → Type 0
-KindRead s i (Is k j) = Spans s i (kind_line (kind_of k)) j
-KindRead s i NoKind = (k : Library.Kind) (r : List ℕ) → ¬ (drop i s ≡ kind_line k ++ r)
+abbrev pub KindRead : List ℕ → ℕ → Option (Kind × ℕ) → Type 0
+KindRead s i (Some (k, j)) = Spans s i (kind_line (kind_of k)) j
+KindRead s i None = (k : Library.Kind) (r : List ℕ) → ¬ (drop i s ≡ kind_line k ++ r)
 
 abbrev pub IsLabel : List ℕ → Type 0
 IsLabel l = (a : List ℕ) × Name a × (l ≡ label_line a)

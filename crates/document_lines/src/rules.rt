@@ -5,7 +5,7 @@ ghost use Rattle.limits.specs.Names.{Name};
 ghost use Rattle.document_lines.specs.Nodes.{Told, kind_of, DepthRule, KindRule};
 ghost use Rattle.document_spec.specs.Library.{DepthBehind, KindBehind, LabelRule, ValueRule, label_line};
 
-use lexer::Ending;
+use lexer::read_key;
 
 #[derive(Clone, Copy)]
 pub enum Kind {
@@ -26,20 +26,7 @@ fn depth_behind(d: usize, k: Kind, e: usize) -> bool
     requires { d < 10 ^ depth_digits }
     ensures { Told (DepthBehind d (kind_of k) e) result }
 {
-    if e == 0 {
-        return false;
-    }
-    if e <= d {
-        return true;
-    }
-    if d + 1 < e {
-        return false;
-    }
-    match k {
-        Kind::Element => true,
-        Kind::Attribute => false,
-        Kind::Text => false,
-    }
+    0 < e && e <= d + 1 && (e <= d || matches!(k, Kind::Element))
 }
 
 // Whether an attribute of depth `e` may stand behind a node of depth `d` and kind `k`.
@@ -48,8 +35,8 @@ fn attribute_behind(d: usize, k: Kind, e: usize) -> bool
     ensures { Told (KindBehind d (kind_of k) e Rattle.document_spec.specs.Library.attribute) result }
 {
     match k {
-        Kind::Element => { if e == d + 1 { true } else { false } }
-        Kind::Attribute => { if e == d { true } else { false } }
+        Kind::Element => e == d + 1,
+        Kind::Attribute => e == d,
         Kind::Text => false,
     }
 }
@@ -60,13 +47,10 @@ pub fn depth_fits(v: usize, before: Node, d: usize) -> bool
     ensures { Told (DepthRule v before d) result }
 {
     if v == 0 {
-        if d == 0 {
-            return true;
-        }
-        return false;
+        d == 0
+    } else {
+        depth_behind(before.depth, before.kind, d)
     }
-    let k = before.kind;
-    depth_behind(before.depth, k, d)
 }
 
 // The first node is an element, and an attribute follows its element or another attribute.
@@ -76,19 +60,8 @@ pub fn kind_fits(v: usize, before: Node, d: usize, k: Kind) -> bool
 {
     match k {
         Kind::Element => true,
-        Kind::Attribute => {
-            if v == 0 {
-                return false;
-            }
-            let j = before.kind;
-            attribute_behind(before.depth, j, d)
-        }
-        Kind::Text => {
-            if v == 0 {
-                return false;
-            }
-            true
-        }
+        Kind::Attribute => v != 0 && attribute_behind(before.depth, before.kind, d),
+        Kind::Text => v != 0,
     }
 }
 
@@ -98,15 +71,8 @@ pub fn label_fits(s: &[u8], at: usize, k: Kind) -> bool
     ensures { (a q : List ℕ) → Name a → drop at s.now ≡ label_line a ++ q → Told (LabelRule (kind_of k) a) result }
 {
     match k {
-        Kind::Element => true,
-        Kind::Attribute => true,
-        Kind::Text => {
-            let named = lexer::read_key(s, at, b"label=text\n");
-            match named {
-                Ending::Next(_) => true,
-                Ending::Bad => false,
-            }
-        }
+        Kind::Element | Kind::Attribute => true,
+        Kind::Text => read_key(s, at, b"label=text\n").is_some(),
     }
 }
 
@@ -116,13 +82,7 @@ pub fn value_fits(k: Kind, at: usize, end: usize) -> bool
     ensures { (b : List ℕ) → end ≡ at + 7 + length b → Told (ValueRule (kind_of k) b) result }
 {
     match k {
-        Kind::Element => {
-            if end <= at {
-                return false;
-            }
-            if end - at == 7 { true } else { false }
-        }
-        Kind::Attribute => true,
-        Kind::Text => true,
+        Kind::Element => at < end && end - at == 7,
+        Kind::Attribute | Kind::Text => true,
     }
 }

@@ -5,7 +5,7 @@ ghost use Rattle.document_spec.specs.Library as Library;
 ghost use Rattle.evaluation_spec.specs.Values.{ValuesAccepted, ValuesEvaluation};
 ghost use Rattle.evaluation.specs.Outcomes.{outcome_of, ValuesSelection};
 
-use crate::{Evaluation, Picked, finish, ready};
+use crate::{Evaluation, Picked, finish, ready, refused};
 use driver::by_values::settle_values;
 use verdicts::judge_values;
 
@@ -38,20 +38,16 @@ pub fn evaluate_values(
 ) -> Evaluation
     ensures { ValuesEvaluation document.now rule.now values.now scratch.old marks.old (outcome_of result) scratch.new marks.new }
 {
-    let j = judge_values(document, rule, values, scratch.len(), marks.len());
-    if j.number != 0 {
-        return Evaluation {
-            number: j.number,
-            place: j.place,
-            selected: 0,
-            snippets: 0,
-        };
-    }
-    let picked = select_values(document, rule, values, scratch, marks, j.nodes);
-    Evaluation {
-        number: 0,
-        place: 0,
-        selected: picked.selected,
-        snippets: picked.snippets,
+    match judge_values(document, rule, values, scratch.len(), marks.len()) {
+        Ok(nodes) => {
+            let picked = select_values(document, rule, values, scratch, marks, nodes);
+            Evaluation {
+                number: 0,
+                place: 0,
+                selected: picked.selected,
+                snippets: picked.snippets,
+            }
+        }
+        Err(refusal) => refused(refusal),
     }
 }

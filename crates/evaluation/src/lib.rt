@@ -14,7 +14,9 @@ ghost use Rattle.table.specs.Links.{Linked};
 ghost use Rattle.table.specs.Tabled.{Tabled};
 ghost use Rattle.ranks.specs.Ranks.{Written};
 ghost use Rattle.amounts.specs.Weighed.{Weighed};
-ghost use Rattle.evaluation.specs.Outcomes.{outcome_of, Selection, Evaluated};
+ghost use Rattle.refusals.specs.Refusals.{number, place};
+ghost use Rattle.verdicts.specs.Answers.{ground_of};
+ghost use Rattle.evaluation.specs.Outcomes.{outcome_of, refused_by, Selection, Evaluated};
 ghost use Rattle.evaluation.specs.Steps.{Readied, Finished};
 
 use amounts::rank_amounts;
@@ -24,9 +26,9 @@ use limits::Scratch;
 use marking::{clear, mark};
 use ranks::rank;
 use table::build;
-use verdicts::judge;
+use verdicts::{Refusal, judge};
 
-// What an evaluation returns: number, place, the number of selected nodes, and the number of snippets.
+// What an evaluation returns: number, place, the number of selected nodes, and the number of snippets. C reads it.
 #[repr(C)]
 #[derive(Clone, Copy)]
 pub struct Evaluation {
@@ -90,6 +92,18 @@ fn select(
     Picked { selected, snippets }
 }
 
+// What is returned of a call that is refused.
+fn refused(refusal: Refusal) -> Evaluation
+    ensures { outcome_of result ≡ refused_by (number (ground_of refusal)) (place (ground_of refusal)) }
+{
+    Evaluation {
+        number: refusal.number(),
+        place: refusal.place(),
+        selected: 0,
+        snippets: 0,
+    }
+}
+
 // Selects the nodes of a document at which a rule holds. A call that is refused changes no mark and no word.
 fn evaluate(
     e: Evaluator,
@@ -100,21 +114,17 @@ fn evaluate(
 ) -> Evaluation
     ensures { Evaluated e document.now rule.now scratch.old marks.old (outcome_of result) scratch.new marks.new }
 {
-    let j = judge(document, rule, scratch.len(), marks.len());
-    if j.number != 0 {
-        return Evaluation {
-            number: j.number,
-            place: j.place,
-            selected: 0,
-            snippets: 0,
-        };
-    }
-    let picked = select(e, document, rule, scratch, marks, j.nodes);
-    Evaluation {
-        number: 0,
-        place: 0,
-        selected: picked.selected,
-        snippets: picked.snippets,
+    match judge(document, rule, scratch.len(), marks.len()) {
+        Ok(nodes) => {
+            let picked = select(e, document, rule, scratch, marks, nodes);
+            Evaluation {
+                number: 0,
+                place: 0,
+                selected: picked.selected,
+                snippets: picked.snippets,
+            }
+        }
+        Err(refusal) => refused(refusal),
     }
 }
 

@@ -1,9 +1,9 @@
 -- The same words among more: what was held is held.
 use Prim.Native.Nat.{ℕ, suc, ◌+◌, ◌*◌, ◌≤◌, ◌<◌}
 use mathlib.Core.Path.{◌≡◌}
-use mathlib.Core.List.{List}
+use mathlib.Core.List.{List, ◌++◌}
 use native.Mathlib.Omega.{arith}
-use lib.ListN.{length, get_or}
+use lib.ListN.{length, get_or, drop, length-append, length-drop, get_or-append}
 use Rattle.label_trees.specs.Trees.{key_at, held, heads, offset_at, Holds, Copied}
 use Rattle.label_trees.proofs.Links.{meets_same}
 
@@ -21,11 +21,13 @@ holds_same s t u room same h =
           (meets_same h u (λ j p l z. same j l) (key_at s (offset_at t k)) (suc k) (omega arith) (h.met k (omega arith)));
     }
 
-pub copied : (t u u' : List ℕ) → heads ≤ length t → length t ≤ length u → length u' ≡ length u → ((j : ℕ) → j < length t → get_or u' j 0 ≡ get_or t j 0) → Copied t u u'
-copied t u u' some more long same =
+-- words in front of more words
+pub copied : (t u : List ℕ) → heads ≤ length t → length t ≤ length u → Copied t u (t ++ drop (length t) u)
+copied t u some more =
+    let same : (j : ℕ) → j < length t → get_or (t ++ drop (length t) u) j 0 ≡ get_or t j 0 = λ j l. get_or-append t (drop (length t) u) 0 j l in
     record {
-      long = long;
+      long = omega (arith, length-append t (drop (length t) u), length-drop (length t) u);
       same = same 0 (omega arith);
       offsets = λ k b. same (heads + 3 * k) b;
-      holds = λ s h. let r = h.room in holds_same s t u' (omega arith) (λ j b. same j (omega arith)) h;
+      holds = λ s h. let r = h.room in holds_same s t (t ++ drop (length t) u) (omega (arith, length-append t (drop (length t) u))) (λ j b. same j (omega arith)) h;
     }

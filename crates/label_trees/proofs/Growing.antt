@@ -8,10 +8,10 @@ use native.Mathlib.Omega.{arith}
 use borrow.Author.Count.{below_more}
 use lib.ListN.{length, get_or}
 use Rattle.label_trees.specs.Trees.{key_at, held, heads, offset_at, Meets, Holds, Placed, Inserted, Grown}
-use Rattle.label_trees.specs.declared.Place.TheVariants.{Free}
+use Rattle.std.specs.Prelude.{Some}
 use Rattle.label_trees.proofs.Links.{Way, Alike, Reached, reached, link_same, way_same, meets_same}
 
-module _ {s t : List ℕ} (h : Holds s t) (o p : ℕ) (place : Placed s t o (Free p)) where
+module _ {s t : List ℕ} (h : Holds s t) (o p : ℕ) (place : Placed s t o (Some p)) where
   -- the link that is free is one of the words in use, and no offset
   pub free_inside : (0 < p) × (p < heads + 3 * held t) × ((k : ℕ) → p ≢ heads + 3 * k)
   free_inside =

@@ -1,12 +1,18 @@
 -- Lines of the text: the bytes of the line at an offset, and when two are the same.
 use Prim.Native.Nat.{ℕ, ◌+◌, ◌-◌, ◌*◌, ◌/◌, ◌%◌, ◌^◌, ◌≤◌, ◌<◌}
-use mathlib.Core.Path.{◌≡◌, sym, ap, ap₂, ◌∙◌, subst}
-use mathlib.Core.Logic.{◌≢◌}
-use mathlib.Core.Bool.{Bool, true, false}
+use mathlib.Core.Path.{◌≡◌, refl, sym, ap, ap₂, ◌∙◌, subst}
+use mathlib.Core.Bool.{Bool, true, false, true≢false}
 use mathlib.Core.List.{List, ◌++◌}
 use native.Mathlib.Omega.{arith}
-use lib.ListN.{length, get_or, take, drop, take-append-drop, length-append, length-drop, get_or-append}
-use lib.Seq.{get_or-drop, get_or-take, length-take-le, ext_get_or}
+use lib.ListN.{length, get_or, take, drop, length-append, length-drop, get_or-append}
+use lib.Seq.{get_or-drop}
+use Rattle.std.specs.Prelude.{nat_eq}
+use Rattle.std.specs.Cmp.Lexicographic.{pointwise}
+use Rattle.std.specs.List.{between}
+use Rattle.std.proofs.lemmas.List.{take_at}
+use Rattle.std.proofs.lemmas.Slice.{between_to_end}
+use Rattle.std.proofs.lemmas.Slice.Eq.{starts_is}
+use Rattle.std.proofs.lemmas.Bool.Decides.{Decides-eqb}
 use Rattle.lists.specs.Text.{bytes}
 use Rattle.limits.proofs.Names.{name_some}
 use Rattle.document_spec.specs.Verdict.{first_line, behind_line}
@@ -53,30 +59,20 @@ module _ (s : List ℕ) (from to : ℕ) (h : Stands s from to) where
   stands_two = omega (arith, stands_length, ap length key_is, length-append h.label (bytes "\n"), name_some h.label h.name)
 
   -- ── The same line at another offset ──
-  module _ (o : ℕ) (le : o ≤ from) where
-    pub key_same : ((i : ℕ) → i < to - from → get_or s (o + i) 0 ≡ get_or s (from + i) 0) → key_at s o ≡ key_at s from
-    key_same same = ap first_line split ∙ rw key_is (line_first key_line (drop n (drop o s)))
-      where
-        n : ℕ
-        n = to - from
+  line_bytes : between from to s ≡ key_at s from
+  line_bytes = ap (take (to - from)) h.here ∙ take_at (h.label ++ bytes "\n") (drop to s) (to - from) (omega (arith, stands_length, ap length key_is)) ∙ sym key_is
 
-        inside : n ≤ length (drop o s)
-        inside = let i = h.inside in rw length-drop (omega arith)
+  -- what stands at o begins with the line, or does not
+  pub line_told : (o : ℕ) (r : Bool) → r ≡ pointwise nat_eq (between from to s) (take (length (between from to s)) (between o (length s) s)) → Told (key_at s o ≡ key_at s from) r
+  line_told o r e = go r refl
+    where
+      tells : (r ≡ true → drop o s ≡ key_at s from ++ drop (length (key_at s from)) (drop o s)) × ((x : List ℕ) → drop o s ≡ key_at s from ++ x → r ≡ true)
+      tells = starts_is Decides-eqb (drop o s) (key_at s from) r
+          (e ∙ ap₂ (λ (x y : List ℕ). pointwise nat_eq x (take (length x) y)) line_bytes (between_to_end s o (length s) (omega arith)))
 
-        front : take n (drop o s) ≡ key_at s from
-        front =
-            ext_get_or 0 (take n (drop o s)) (key_at s from) (length-take-le n (drop o s) inside ∙ omega (arith, stands_length))
-            (λ i l.
-            let m : i < n = rw (length-take-le n (drop o s) inside) at l in
-            get_or-take n (drop o s) i 0 m ∙ get_or-drop o s i 0 ∙ same i m ∙ sym (stands_byte i (omega (arith, m))))
-
-        split : drop o s ≡ (h.label ++ bytes "\n") ++ drop n (drop o s)
-        split = sym (take-append-drop n (drop o s)) ∙ ap (λ (l : List ℕ). l ++ drop n (drop o s)) (front ∙ key_is)
-
-    pub key_other : (i : ℕ) → i < to - from → get_or s (o + i) 0 ≢ get_or s (from + i) 0 → ¬ (key_at s o ≡ key_at s from)
-    key_other i l d e =
-        d
-        (sym (key_byte s o i (rw e (omega (arith, stands_length)))) ∙ ap (λ (k : List ℕ). get_or k i 0) e ∙ stands_byte i (omega arith))
+      go : (b : Bool) → r ≡ b → Told (key_at s o ≡ key_at s from) b
+      go true q = ap first_line (tells.0 q ∙ ap (λ (l : List ℕ). l ++ drop (length (key_at s from)) (drop o s)) key_is) ∙ line_first key_line (drop (length (key_at s from)) (drop o s)) ∙ sym key_is
+      go false q = λ same. true≢false (sym (tells.1 (behind_line (drop o s)) (sym (first_behind (drop o s)) ∙ ap (λ (l : List ℕ). l ++ behind_line (drop o s)) same)) ∙ q)
 
   -- ── The way of a search ──
   -- byte i of the line, at a place that is told from either end

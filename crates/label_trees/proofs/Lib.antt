@@ -1,5 +1,4 @@
 pub mod Keys
-pub mod Words
 pub mod Links
 pub mod Searching
 pub mod Inserting

@@ -1,13 +1,11 @@
 -- Digital search trees over lines of a text. A search for a line goes by the line itself: three of its bytes choose a root, and its binary digits a link of each line that is met.
-use Rattle.std.specs.Prelude.{ℕ, zero, suc, ◌+◌, ◌*◌, ◌-◌, ◌/◌, ◌%◌, ◌^◌, ◌≤◌, ◌<◌, ◌≡◌, ◌≢◌, List, ◌++◌, length, get_or, drop}
+use Rattle.std.specs.Prelude.{ℕ, zero, suc, ◌+◌, ◌*◌, ◌-◌, ◌/◌, ◌%◌, ◌^◌, ◌≤◌, ◌<◌, ◌≡◌, ◌≢◌, List, ◌++◌, length, get_or, drop, Option, Some, None, Result, Ok, Err}
 use Rattle.lists.specs.Text.{bytes}
 use Rattle.limits.specs.Limits.{document_nodes, label_bytes}
 use Rattle.limits.specs.Names.{Name}
 use Rattle.document_spec.specs.Verdict.{first_line}
-use Rattle.label_trees.specs.declared.Added.{Added}
-use Rattle.label_trees.specs.declared.Added.TheVariants.{New, Twice, Full}
-use Rattle.label_trees.specs.declared.Place.{Place}
-use Rattle.label_trees.specs.declared.Place.TheVariants.{Free, Taken}
+use Rattle.label_trees.specs.declared.NotAdded.{NotAdded}
+use Rattle.label_trees.specs.declared.NotAdded.TheVariants.{Twice, Full}
 
 -- ── Lines ──
 -- the line from an offset on, with its LF
@@ -74,9 +72,9 @@ abbrev pub IsHeld : (s t : List ℕ) → ℕ → Type 0
 IsHeld s t o = (k : ℕ) × (k < held t) × (key_at s (offset_at t k) ≡ key_at s o)
 
 -- a search for the line at an offset ends at the free link p, or meets the line
-abbrev pub Placed : (s t : List ℕ) → ℕ → Place → Type 0
-Placed s t o (Free p) = (¬ IsHeld s t o) × ((d : ℕ) × (p ≡ link_of t (key_at s o) d) × (get_or t p 0 ≡ 0) × ((e : ℕ) → e < d → 0 < get_or t (link_of t (key_at s o) e) 0))
-Placed s t o Taken = IsHeld s t o
+abbrev pub Placed : (s t : List ℕ) → ℕ → Option ℕ → Type 0
+Placed s t o (Some p) = (¬ IsHeld s t o) × ((d : ℕ) × (p ≡ link_of t (key_at s o) d) × (get_or t p 0 ≡ 0) × ((e : ℕ) → e < d → 0 < get_or t (link_of t (key_at s o) e) 0))
+Placed s t o None = IsHeld s t o
 
 -- ── One line more ──
 -- the next line begins at o, has no links, and is where link p leads; the words before it are else as they were
@@ -96,10 +94,10 @@ pub record Grown (s t : List ℕ) (o : ℕ) (t' : List ℕ) : Type 0 where
   pub old : (k : ℕ) → k < held t → offset_at t' k ≡ offset_at t k
   pub new : offset_at t' (held t) ≡ o
 
-abbrev pub Adds : (s t : List ℕ) → ℕ → List ℕ → Added → Type 0
-Adds s t o t' New = Grown s t o t'
-Adds s t o t' Twice = (t' ≡ t) × IsHeld s t o
-Adds s t o t' Full = (t' ≡ t) × (length t < heads + 3 * suc (held t))
+abbrev pub Adds : (s t : List ℕ) → ℕ → List ℕ → Result (Unit {0}) NotAdded → Type 0
+Adds s t o t' (Ok u) = Grown s t o t'
+Adds s t o t' (Err Twice) = (t' ≡ t) × IsHeld s t o
+Adds s t o t' (Err Full) = (t' ≡ t) × (length t < heads + 3 * suc (held t))
 
 -- ── More words ──
 -- what was held in t is held in u'

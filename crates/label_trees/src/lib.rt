@@ -33,32 +33,20 @@ impl Trees {
     pub const MAX_WORDS: usize = Trees::HEADS + 3 * Document::MAX_NODES;
 }
 
+// Why a line is not added: it is there, or the words are used up.
 #[derive(Clone, Copy)]
-pub enum Added {
-    New,
+pub enum NotAdded {
     Twice,
     Full,
 }
 
-// A link that is free for a line, or that the line is there.
-#[derive(Clone, Copy)]
-enum Place {
-    Free(usize),
-    Taken,
-}
-
 // Whether the line at an offset is the one between two others.
+#[tactic(auto, using(crate::proofs::Keys::stands_two))]
 fn same_line(s: &[u8], o: usize, from: usize, to: usize) -> bool
     requires { Stands s.now from to × (o ≤ from) × (length s.now ≤ document_bytes) }
     ensures { Told (key_at s.now o ≡ key_at s.now from) result }
 {
-    let n = to - from;
-    for i in 0..n {
-        if s[o + i] != s[from + i] {
-            return false;
-        }
-    }
-    true
+    s[o..].starts_with(&s[from..to])
 }
 
 // The link at which a search for the line between two offsets begins. Labels of one element differ mostly in their first, middle or last byte.
@@ -77,16 +65,13 @@ fn digit_at(s: &[u8], from: usize, to: usize, b: usize) -> usize
     ensures { (result ≡ digit (key_at s.now from) b) × (result < 2) }
 {
     let back = 2 + b / 2 % Document::MAX_LABEL;
-    let mut at = from;
-    if from + back < to {
-        at = to - back;
-    }
+    let at = from.max(to.saturating_sub(back));
     let shift = b % 2 + 2 * (b / (2 * Document::MAX_LABEL) % 4);
     ((s[at] >> shift) % 2) as usize
 }
 
-// Follows the links of a search for the line between two offsets.
-fn find(s: &[u8], from: usize, to: usize, t: &[u32]) -> Place
+// Follows the links of a search for the line between two offsets: the link that is free for it, or none if the line is there.
+fn find(s: &[u8], from: usize, to: usize, t: &[u32]) -> Option<usize>
     requires { Stands s.now from to × (length s.now ≤ document_bytes) × Holds s.now t.now × Below t.now from × (length t.now ≤ max_words) }
     ensures { Placed s.now t.now from result }
 {
@@ -96,13 +81,13 @@ fn find(s: &[u8], from: usize, to: usize, t: &[u32]) -> Place
     while q != 0 {
         let o = t[Trees::OFFSETS + 3 * q] as usize;
         if same_line(s, o, from, to) {
-            return Place::Taken;
+            return None;
         }
         p = Trees::LINKS + 3 * q + digit_at(s, from, to, b);
         b += 1;
         q = t[p] as usize;
     }
-    Place::Free(p)
+    Some(p)
 }
 
 // Forgets all lines.
@@ -112,9 +97,7 @@ pub fn clear(t: &mut [u32])
     ensures empty { held t.new ≡ 0 }
     ensures holds { (s : List ℕ) → Holds s t.new }
 {
-    for i in 0..Trees::HEADS {
-        t[i] = 0;
-    }
+    t[..Trees::HEADS].fill(0);
 }
 
 // Writes the next line, and the link that leads to it.
@@ -132,20 +115,19 @@ fn insert(t: &mut [u32], p: usize, o: usize)
 }
 
 // Adds the line between two offsets, unless it is there or the words are used up.
-pub fn add(s: &[u8], from: usize, to: usize, t: &mut [u32]) -> Added
+pub fn add(s: &[u8], from: usize, to: usize, t: &mut [u32]) -> Result<(), NotAdded>
     requires { Stands s.now from to × (length s.now ≤ document_bytes) × Holds s.now t.old × Below t.old from × (length t.old ≤ max_words) }
     ensures { Adds s.now t.old from t.new result }
 {
-    let place = find(s, from, to, t);
-    let Place::Free(p) = place else {
-        return Added::Twice;
+    let Some(p) = find(s, from, to, t) else {
+        return Err(NotAdded::Twice);
     };
     let c = t[0] as usize;
     if t.len() < Trees::HEADS + 3 * (c + 1) {
-        return Added::Full;
+        return Err(NotAdded::Full);
     }
     insert(t, p, from);
-    Added::New
+    Ok(())
 }
 
 // Goes on with more words: these are the first of them.
@@ -153,7 +135,5 @@ pub fn copy(from: &[u32], to: &mut [u32])
     requires { (heads ≤ length from.now) × (length from.now ≤ length to.old) }
     ensures { Copied from.now to.old to.new }
 {
-    for i in 0..from.len() {
-        to[i] = from[i];
-    }
+    to[..from.len()].copy_from_slice(from);
 }

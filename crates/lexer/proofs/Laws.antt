@@ -3,8 +3,8 @@ use Prim.Native.Nat.{ℕ, suc, ◌+◌, ◌-◌, ◌*◌, ◌^◌, ◌≤◌, �
 use mathlib.Core.Path.{◌≡◌, refl, sym, ap, ap₂, ◌∙◌, subst}
 use mathlib.Core.Bool.{false}
 use mathlib.Core.List.{List, [], ◌∷◌, ◌++◌, map, append_assoc}
-use lib.ListN.{length, get_or, take, drop, length-drop, length-append, take-append-drop, get_or-append}
-use lib.Seq.{get_or-drop, get_or-take, drop-drop, drop-cons, get_or-append_seam, length-take-le, slice, slice-cons, slice_empty, take-add, take-append_seam, drop_at}
+use lib.ListN.{length, get_or, take, drop, length-take, length-drop, length-append, take-append-drop, get_or-append, drop_of_length-le}
+use lib.Seq.{get_or-drop, get_or-take, drop-drop, drop-cons, get_or-append_seam, length-take-le, slice, take-add, take-append_seam, drop_at}
 use lib.Dec.{T, lit<}
 use native.Mathlib.Omega.{arith}
 use native.Mathlib.Numerals.{add-one}
@@ -12,14 +12,15 @@ use native.Mathlib.Nat.{pow-le-pow_right}
 use Rattle.lists.specs.Numerals.{value_from}
 use native.Mathlib.Decide.{dec_lt}
 use Rattle.lists.proofs.Indices.{all_at, at_all}
-use Rattle.lexer.specs.declared.Ending.TheVariants.{Next, Bad}
+use Rattle.std.specs.Prelude.{Some, None}
 use Rattle.lexer.specs.declared.Class.{Class}
-use Rattle.lexer.specs.Reading.{Ended, in_class, AllIn, Run}
-use Rattle.lexer.proofs.Classes.{lf_out}
+use Rattle.lexer.specs.Reading.{Ended, in_class, AllIn, Run, Digits}
+use Rattle.std.specs.List.{between}
+use Rattle.lexer.proofs.Classes.{lf_out, between_is}
 
 module _ (s : List ℕ) (at i : ℕ) (k : Class) (most : ℕ) (from : at ≤ i) (passed : AllIn k s at i) where
   -- the LF at i ends the run
-  pub run_ends : i < length s → get_or s i 0 ≡ 10 → i - at ≤ most → Ended (Run k most) s at (Next (i + 1))
+  pub run_ends : i < length s → get_or s i 0 ≡ 10 → i - at ≤ most → Ended (Run k most) s at (Some (i + 1))
   run_ends r e h =
       let l = take (i - at) (drop at s) in
       let n : length l ≡ i - at = length-take-le (i - at) (drop at s) (omega (arith, length-drop at s)) in
@@ -38,7 +39,7 @@ module _ (s : List ℕ) (at i : ℕ) (k : Class) (most : ℕ) (from : at ≤ i) 
 
   -- a run from at on ends at or behind i; where that cannot be, there is none
   pub run_never : ((m : ℕ) → i ≤ at + m → m ≤ most → at + m < length s → get_or s (at + m) 0 ≡ 10 → ((j : ℕ) → j < m → T (in_class k (get_or s (at + j) 0))) → ⊥)
-      → Ended (Run k most) s at Bad
+      → Ended (Run k most) s at None
   run_never stop l r f e = go (dec_lt (at + length f.field) i)
     where
       x : List ℕ
@@ -64,7 +65,7 @@ module _ (s : List ℕ) (at i : ℕ) (k : Class) (most : ℕ) (from : at ≤ i) 
       go (no q) = stop (length x) (omega arith) f.short long here before
 
   -- a byte that is neither of the class nor the LF
-  pub run_stops : ¬ (get_or s i 0 ≡ 10) → in_class k (get_or s i 0) ≡ false → Ended (Run k most) s at Bad
+  pub run_stops : ¬ (get_or s i 0 ≡ 10) → in_class k (get_or s i 0) ≡ false → Ended (Run k most) s at None
   run_stops ne e = run_never (λ m p q r h f. go m p h f (dec_lt i (at + m)))
     where
       go : (m : ℕ) → i ≤ at + m → get_or s (at + m) 0 ≡ 10 → ((j : ℕ) → j < m → T (in_class k (get_or s (at + j) 0))) → Dec (i < at + m) → ⊥
@@ -75,12 +76,24 @@ module _ (s : List ℕ) (at i : ℕ) (k : Class) (most : ℕ) (from : at ≤ i) 
 
 -- ── Numerals ──
 -- reading a byte more: what was read so far, times ten, plus the digit
-pub reading_step : (s : List ℕ) (i j n : ℕ) → i < j → j ≤ length s
-    → value_from 10 n (map (λ b. b - 48) (slice i j s)) ≡ value_from 10 (n * 10 + (get_or s i 0 - 48)) (map (λ b. b - 48) (slice (i + 1) j s))
-reading_step s i j n h k = ap (λ (l : List ℕ). value_from 10 n (map (λ b. b - 48) l)) (slice-cons i j s 0 h k) ∙ ap (λ (m : ℕ). value_from 10 (n * 10 + (get_or s i 0 - 48)) (map (λ b. b - 48) (slice m j s))) (sym (add-one i))
+pub reading_step : (l : List ℕ) (i n : ℕ) → i < length l
+    → value_from 10 n (map (λ b. b - 48) (drop i l)) ≡ value_from 10 (n * 10 + (get_or l i 0 - 48)) (map (λ b. b - 48) (drop (i + 1) l))
+reading_step l i n h =
+    ap (λ (x : List ℕ). value_from 10 n (map (λ b. b - 48) x)) (drop-cons l i 0 h)
+    ∙ ap (λ (m : ℕ). value_from 10 (n * 10 + (get_or l i 0 - 48)) (map (λ b. b - 48) (drop m l))) (sym (add-one i))
 
-pub reading_end : (s : List ℕ) (i j n : ℕ) → i ≡ j → value_from 10 n (map (λ b. b - 48) (slice i j s)) ≡ n
-reading_end s i j n e = ap (λ (m : ℕ). value_from 10 n (map (λ b. b - 48) (slice m j s))) e ∙ ap (λ (l : List ℕ). value_from 10 n (map (λ b. b - 48) l)) (slice_empty j s)
+pub reading_end : (l : List ℕ) (i n : ℕ) → length l ≤ i → value_from 10 n (map (λ b. b - 48) (drop i l)) ≡ n
+reading_end l i n h = ap (λ (x : List ℕ). value_from 10 n (map (λ b. b - 48) x)) (drop_of_length-le l h)
+
+-- the digits from one offset up to another, as bytes of a part
+module _ (s : List ℕ) (at end : ℕ) (p : Digits s at end) where
+  pub digits_few : length (between at end s) ≤ 5
+  digits_few = omega (arith, length-take (end - at) (drop at s), length-drop at s, p.few)
+
+  pub digits_are : (i : ℕ) → i < length (between at end s) → (48 ≤ get_or (between at end s) i 0) × (get_or (between at end s) i 0 ≤ 57)
+  digits_are i h =
+      let n : i < end - at = omega (arith, length-take (end - at) (drop at s), length-drop at s) in
+      rw (get_or-take (end - at) (drop at s) i 0 n, get_or-drop at s i 0) (between_is 48 57 (get_or s (at + i) 0) (p.digits (at + i) (omega arith) (omega arith)))
 
 pub ten_more : (n d k m : ℕ) → n < 10 ^ k → d < 10 → m ≡ suc k → n * 10 + d < 10 ^ m
 ten_more n d k m h g e = subst (λ x. n * 10 + d < 10 ^ x) (sym e) (omega (arith, h, g))

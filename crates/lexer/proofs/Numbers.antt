@@ -16,8 +16,7 @@ use Rattle.lists.specs.Text.{Digit, decimal, digits}
 use Rattle.lists.specs.Numerals.{reading}
 use Rattle.lists.proofs.Lists.{all_imp}
 use Rattle.lists.proofs.Numerals.{Decimal, decimal_decimal, decimal_digits_lem, decimal_reading, decimal_short, digits_above}
-use Rattle.lexer.specs.declared.Ending.TheVariants.{Next, Bad}
-use Rattle.lexer.specs.declared.Numeral.TheVariants.{Value, NoNumeral}
+use Rattle.std.specs.Prelude.{Some, None}
 use Rattle.lexer.specs.declared.Class.{Class}
 use Rattle.lexer.specs.declared.Class.TheVariants as Classes
 use Rattle.lexer.specs.Reading.{Ended, in_class, Run, Digits, zero_led, numeral_line, Numbered}
@@ -35,7 +34,7 @@ pub record Found (k : Class) (most : ℕ) (s : List ℕ) (at j : ℕ) : Type 0 w
   pub spelled : drop at s ≡ field ++ 10 ∷ drop j s
   pub slices : slice at (j - 1) s ≡ field
 
-pub found : (k : Class) (most : ℕ) (s : List ℕ) (at j : ℕ) → at ≤ length s → Ended (Run k most) s at (Next j) → Found k most s at j
+pub found : (k : Class) (most : ℕ) (s : List ℕ) (at j : ℕ) → at ≤ length s → Ended (Run k most) s at (Some j) → Found k most s at j
 found k most s at j r (l, f, p) = record { field = x; all = f.all; short = f.short; next = next; inside = p.inside; spelled = spelled; slices = slices }
   where
     x : List ℕ
@@ -83,7 +82,7 @@ both_true false b e = absurd (subst T (sym e) tt)
 
 module _ (most : ℕ) (some : 0 < most) (s : List ℕ) (at : ℕ) where
   -- no run of digits, no numeral
-  pub number_none : Ended (Run Classes.Digit most) s at Bad → Numbered most s at NoNumeral
+  pub number_none : Ended (Run Classes.Digit most) s at None → Numbered most s at None
   number_none f n r h e = f (numeral_line n) r (record { field = decimal n; all = decimal_run n; short = decimal_short n most h some; line = refl }) e
 
   module _ (j : ℕ) (f : Found Classes.Digit most s at j) where
@@ -96,14 +95,14 @@ module _ (most : ℕ) (some : 0 < most) (s : List ℕ) (at : ℕ) where
         before_lf x (decimal n) (drop j s) r (no_lf Classes.Digit x f.all) (no_lf Classes.Digit (decimal n) (decimal_run n))
         (sym f.spelled ∙ e ∙ append_assoc (decimal n) (10 ∷ []) r)
 
-    pub number_empty : j - 1 ≡ at → Numbered most s at NoNumeral
+    pub number_empty : j - 1 ≡ at → Numbered most s at None
     number_empty q n r h e = go x (run_is n r e) (omega (arith, f.next))
       where
         go : (y : List ℕ) → y ≡ decimal n → length y ≡ 0 → ⊥
         go [] i l = subst Decimal (sym i) (decimal_decimal n)
         go (b ∷ y) i l = omega arith
 
-    pub number_zero : zero_led s at (j - 1) ≡ true → Numbered most s at NoNumeral
+    pub number_zero : zero_led s at (j - 1) ≡ true → Numbered most s at None
     number_zero q n r h e = go x (run_is n r e) (λ k. first_byte k) (omega (arith, f.next, more))
       where
         halves : (ltb (at + 1) (j - 1) ≡ true) × (eqb (get_or s at 0) 48 ≡ true)
@@ -123,7 +122,7 @@ module _ (most : ℕ) (some : 0 < most) (s : List ℕ) (at : ℕ) where
             lead p (inl o) = omega arith
             lead p (inr o) = omega (arith, ap length o)
 
-    pub number_value : ¬ (j - 1 ≡ at) → zero_led s at (j - 1) ≡ false → Numbered most s at (Value (reading (slice at (j - 1) s)) j)
+    pub number_value : ¬ (j - 1 ≡ at) → zero_led s at (j - 1) ≡ false → Numbered most s at (Some (record { value = reading (slice at (j - 1) s); next = j }))
     number_value ne q = (bound, record { inside = f.inside; spelled = spelled })
       where
         n : ℕ

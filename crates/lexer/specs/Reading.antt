@@ -1,12 +1,9 @@
 -- What the readers of a line answer: the bytes from an offset on are some field and what is behind it, or no field of this form begins there.
-use Rattle.std.specs.Prelude.{ℕ, ◌+◌, ◌-◌, ◌^◌, ◌≤◌, ◌<◌, ◌≡◌, Bool, ◌&&◌, ◌||◌, List, ◌++◌, length, drop, get_or, T, leb, ltb, eqb}
+use Rattle.std.specs.Prelude.{ℕ, ◌+◌, ◌-◌, ◌^◌, ◌≤◌, ◌<◌, ◌≡◌, Bool, ◌&&◌, ◌||◌, List, ◌++◌, length, drop, get_or, Option, Some, None, T, leb, ltb, eqb}
 use Rattle.lists.specs.Lists.{All}
 use Rattle.lists.specs.Text.{bytes, decimal}
 use Rattle.limits.specs.Limits.{count_digits}
-use Rattle.lexer.specs.declared.Ending.{Ending}
-use Rattle.lexer.specs.declared.Ending.TheVariants.{Next, Bad}
-use Rattle.lexer.specs.declared.Numeral.{Numeral}
-use Rattle.lexer.specs.declared.Numeral.TheVariants.{Value, NoNumeral}
+use Rattle.lexer.specs.declared.Number.{Number}
 use Rattle.lexer.specs.declared.Class.{Class}
 use Rattle.lexer.specs.declared.Class.TheVariants.{Digit, Label, Text}
 
@@ -16,9 +13,9 @@ pub record Spans (s : List ℕ) (i : ℕ) (l : List ℕ) (j : ℕ) : Type 0 wher
   pub spelled : drop i s ≡ l ++ drop j s
 
 -- what a reader of this form answers at i: where it ends, or that nothing of the form begins there
-abbrev pub Ended : (List ℕ → Type 0) → List ℕ → ℕ → Ending → Type 0
-Ended Form s i (Next j) = (l : List ℕ) × Form l × Spans s i l j
-Ended Form s i Bad = (l r : List ℕ) → Form l → ¬ (drop i s ≡ l ++ r)
+abbrev pub Ended : (List ℕ → Type 0) → List ℕ → ℕ → Option ℕ → Type 0
+Ended Form s i (Some j) = (l : List ℕ) × Form l × Spans s i l j
+Ended Form s i None = (l r : List ℕ) → Form l → ¬ (drop i s ≡ l ++ r)
 
 abbrev pub is_between : ℕ → ℕ → ℕ → Bool
 is_between low high b = leb low b && leb b high
@@ -66,14 +63,14 @@ zero_led s i j = ltb (i + 1) j && eqb (get_or s i 0) 48
 abbrev pub numeral_line : ℕ → List ℕ
 numeral_line n = decimal n ++ bytes "\n"
 
-abbrev pub Numbered : ℕ → List ℕ → ℕ → Numeral → Type 0
-Numbered most s i (Value n j) = (n < 10 ^ most) × Spans s i (numeral_line n) j
-Numbered most s i NoNumeral = (n : ℕ) (r : List ℕ) → n < 10 ^ most → ¬ (drop i s ≡ numeral_line n ++ r)
+abbrev pub Numbered : ℕ → List ℕ → ℕ → Option Number → Type 0
+Numbered most s i (Some x) = (x.value < 10 ^ most) × Spans s i (numeral_line x.value) x.next
+Numbered most s i None = (n : ℕ) (r : List ℕ) → n < 10 ^ most → ¬ (drop i s ≡ numeral_line n ++ r)
 
 -- a key and then something of a form
 abbrev pub Behind : List ℕ → (List ℕ → Type 0) → List ℕ → Type 0
 Behind key Form l = (x : List ℕ) × Form x × (l ≡ key ++ x)
 
-abbrev pub NumberedLine : List ℕ → ℕ → List ℕ → ℕ → Numeral → Type 0
-NumberedLine key most s i (Value n j) = (n < 10 ^ most) × Spans s i (key ++ numeral_line n) j
-NumberedLine key most s i NoNumeral = (n : ℕ) (r : List ℕ) → n < 10 ^ most → ¬ (drop i s ≡ (key ++ numeral_line n) ++ r)
+abbrev pub NumberedLine : List ℕ → ℕ → List ℕ → ℕ → Option Number → Type 0
+NumberedLine key most s i (Some x) = (x.value < 10 ^ most) × Spans s i (key ++ numeral_line x.value) x.next
+NumberedLine key most s i None = (n : ℕ) (r : List ℕ) → n < 10 ^ most → ¬ (drop i s ≡ (key ++ numeral_line n) ++ r)

@@ -1,4 +1,4 @@
-// Whole blocks of text bytes: no byte of a block ends its loop, so that the machine compares them all at once.
+// Whole blocks of text bytes.
 ghost use Rattle.std.specs.Prelude.{◌+◌, ◌≤◌, ◌≡◌, true, length};
 ghost use Rattle.lexer.specs.declared.Class.TheVariants.{Text};
 ghost use Rattle.lexer.specs.Reading.{block, AllIn, Passed};
@@ -8,7 +8,7 @@ use crate::{Class, fits};
 // The bytes of a block: as many as a vector register has.
 const BLOCK: usize = 16;
 
-// Whether the bytes of a block are text.
+// Whether the bytes of a block are text. No byte ends the loop, as `all` over them would: so the machine compares them all at once.
 fn text_block(s: &[u8], at: usize) -> bool
     requires { at + block ≤ length s.now }
     ensures { result ≡ true → AllIn Text s.now at (at + block) }
@@ -29,10 +29,7 @@ fn text_blocks(s: &[u8], at: usize, most: usize) -> usize
 {
     let mut i = at;
     while BLOCK <= s.len() - i {
-        if most - (i - at) < BLOCK {
-            return i;
-        }
-        if !text_block(s, i) {
+        if most - (i - at) < BLOCK || !text_block(s, i) {
             return i;
         }
         i += BLOCK;
@@ -46,8 +43,7 @@ pub fn pass(s: &[u8], at: usize, k: Class, most: usize) -> usize
     ensures { Passed k most s.now at result }
 {
     match k {
-        Class::Digit => at,
-        Class::Label => at,
+        Class::Digit | Class::Label => at,
         Class::Text => text_blocks(s, at, most),
     }
 }

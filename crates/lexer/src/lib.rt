@@ -5,24 +5,17 @@ mod blocks;
 
 ghost use Rattle.std.specs.Prelude.{◌≡◌, ℕ, ◌+◌, ◌≤◌, ◌<◌, length, get_or};
 ghost use Rattle.limits.specs.Limits.{count_digits};
-ghost use Rattle.lexer.specs.Reading.{Ended, is_between, in_class, Run, Digits, zero_led, Numbered, Behind, NumberedLine};
+ghost use Rattle.lexer.specs.Reading.{Ended, in_class, Run, Digits, zero_led, Numbered, Behind, NumberedLine};
 ghost use Rattle.lists.specs.Numerals.{reading};
 ghost use Rattle.std.proofs.Math.Seq.{slice};
 
 use blocks::pass;
 
-// The offset behind what was read, or that it does not stand there.
+// A number and the offset behind its line.
 #[derive(Clone, Copy)]
-pub enum Ending {
-    Next(usize),
-    Bad,
-}
-
-// A number and the offset behind its line, or that no numeral stands there.
-#[derive(Clone, Copy)]
-pub enum Numeral {
-    Value(usize, usize),
-    NoNumeral,
+pub struct Number {
+    pub value: usize,
+    pub next: usize,
 }
 
 // The bytes that a field may have.
@@ -33,49 +26,32 @@ pub enum Class {
     Text,
 }
 
-fn between(low: u8, high: u8, b: u8) -> bool
-    ensures { result ≡ is_between low high b }
-{
-    low <= b && b <= high
-}
-
 // Whether a byte belongs to a class.
 pub fn fits(k: Class, b: u8) -> bool
     ensures { result ≡ in_class k b }
 {
     match k {
-        Class::Digit => between(b'0', b'9', b),
-        Class::Label => {
-            if b == 45 {
-                return true;
-            }
-            if between(b'0', b'9', b) {
-                return true;
-            }
-            between(97, 122, b)
-        }
-        Class::Text => between(0x20, 0x7e, b),
+        Class::Digit => matches!(b, b'0'..=b'9'),
+        Class::Label => matches!(b, b'-' | b'0'..=b'9' | b'a'..=b'z'),
+        Class::Text => matches!(b, b' '..=b'~'),
     }
 }
 
-// Bytes of a class from an offset on, at most so many, and the LF that ends their line.
-pub fn run(s: &[u8], at: usize, k: Class, most: usize) -> Ending
+// Bytes of a class from an offset on, at most so many, and the LF that ends their line: the offset behind it.
+pub fn run(s: &[u8], at: usize, k: Class, most: usize) -> Option<usize>
     requires { at ≤ length s.now }
     ensures { Ended (Run k most) s.now at result }
 {
     for i in pass(s, at, k, most)..s.len() {
         let b = s[i];
-        if b == 10 {
-            return Ending::Next(i + 1);
+        if b == b'\n' {
+            return Some(i + 1);
         }
-        if i - at == most {
-            return Ending::Bad;
-        }
-        if !fits(k, b) {
-            return Ending::Bad;
+        if i - at == most || !fits(k, b) {
+            return None;
         }
     }
-    Ending::Bad
+    None
 }
 
 // The number that digits make.
@@ -83,9 +59,9 @@ fn value(s: &[u8], at: usize, end: usize) -> usize
     requires { Digits s.now at end }
     ensures { result ≡ reading (slice at end s.now) }
 {
-    let mut n: usize = 0;
-    for i in at..end {
-        n = n * 10 + (s[i] - b'0') as usize;
+    let mut n = 0;
+    for b in &s[at..end] {
+        n = n * 10 + usize::from(*b - b'0');
     }
     n
 }
@@ -99,61 +75,47 @@ fn zero_led(s: &[u8], at: usize, end: usize) -> bool
 }
 
 // A numeral of at most so many digits, and the LF that ends its line.
-pub fn read_number(s: &[u8], at: usize, most: usize) -> Numeral
+pub fn read_number(s: &[u8], at: usize, most: usize) -> Option<Number>
     requires { (at ≤ length s.now) × (0 < most) × (most ≤ count_digits) }
     ensures { Numbered most s.now at result }
 {
-    let r = run(s, at, Class::Digit, most);
-    let Ending::Next(j) = r else {
-        return Numeral::NoNumeral;
-    };
-    let end = j - 1;
-    if end == at {
-        return Numeral::NoNumeral;
+    let next = run(s, at, Class::Digit, most)?;
+    let end = next - 1;
+    if end == at || zero_led(s, at, end) {
+        return None;
     }
-    if zero_led(s, at, end) {
-        return Numeral::NoNumeral;
-    }
-    Numeral::Value(value(s, at, end), j)
+    Some(Number {
+        value: value(s, at, end),
+        next,
+    })
 }
 
-// The bytes of a key at an offset.
-pub fn read_key(s: &[u8], at: usize, key: &[u8]) -> Ending
+// The bytes of a key at an offset: the offset behind them.
+pub fn read_key(s: &[u8], at: usize, key: &[u8]) -> Option<usize>
     requires { at ≤ length s.now }
     ensures { Ended (λ l. l ≡ key.now) s.now at result }
 {
-    let n = key.len();
-    if s.len() - at < n {
-        return Ending::Bad;
+    if s[at..].starts_with(key) {
+        Some(at + key.len())
+    } else {
+        None
     }
-    for i in 0..n {
-        if s[at + i] != key[i] {
-            return Ending::Bad;
-        }
-    }
-    Ending::Next(at + n)
 }
 
-// A line that is a key and then a run of bytes of a class.
-pub fn run_line(s: &[u8], at: usize, key: &[u8], k: Class, most: usize) -> Ending
+// A line that is a key and then a run of bytes of a class: the offset behind it.
+pub fn run_line(s: &[u8], at: usize, key: &[u8], k: Class, most: usize) -> Option<usize>
     requires { at ≤ length s.now }
     ensures { Ended (Behind key.now (Run k most)) s.now at result }
 {
-    let found = read_key(s, at, key);
-    match found {
-        Ending::Next(i) => run(s, i, k, most),
-        Ending::Bad => Ending::Bad,
-    }
+    let i = read_key(s, at, key)?;
+    run(s, i, k, most)
 }
 
 // A line that is a key and then a numeral.
-pub fn number_line(s: &[u8], at: usize, key: &[u8], most: usize) -> Numeral
+pub fn number_line(s: &[u8], at: usize, key: &[u8], most: usize) -> Option<Number>
     requires { (at ≤ length s.now) × (0 < most) × (most ≤ count_digits) }
     ensures { NumberedLine key.now most s.now at result }
 {
-    let found = read_key(s, at, key);
-    match found {
-        Ending::Next(i) => read_number(s, i, most),
-        Ending::Bad => Numeral::NoNumeral,
-    }
+    let i = read_key(s, at, key)?;
+    read_number(s, i, most)
 }

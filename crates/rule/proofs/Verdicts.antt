@@ -1,4 +1,5 @@
 -- The verdict on a rule from what the reader of its whole test answers: it is the first ground of 01 in the written order, or the rule is accepted.
+use Rattle.std.specs.Prelude.{Result, Ok, Err, IsErrAnd}
 use Prim.Native.Nat.{ℕ, ◌≤◌, ◌<◌}
 use native.Mathlib.Omega.{arith}
 use mathlib.Core.Path.{◌≡◌, refl, sym, ap, ◌∙◌, subst}
@@ -30,10 +31,13 @@ use Rattle.rule_spec.proofs.Grounds.{reads_one, deep_iff, many_tests_at, tests_s
 use Rattle.rule_spec.proofs.Accepted.{unrefused_accepted}
 use Rattle.rule_spec.proofs.Readers.{rule_reads, rule_goes_on, rule_stops, rule_deep}
 use Rattle.tokens.specs.declared.read.Tally.{Tally}
-use Rattle.rule.specs.declared.Verdict.TheVariants.{Accepted, Tests, Steps}
+use Rattle.tokens.specs.declared.read.Refusal as Read
+use Rattle.tokens.specs.declared.read.Refusal.TheVariants.{Stuck, Deep}
+use Rattle.rule.specs.declared.Refusal as Rule
+use Rattle.rule.specs.declared.Refusal.TheVariants.{Tests, Steps}
 use Rattle.tokens.specs.Tallies.{nowhere, untold}
-use Rattle.tokens.specs.Readers.{parts_of, Shallow, Back, StuckAt, DeepAt}
-use Rattle.rule.specs.Check.{Judged, judged_by}
+use Rattle.tokens.specs.Readers.{parts_of, Shallow, Back, StuckAt, DeepAt, RefusedAt}
+use Rattle.rule.specs.Check.{Judged, judged_by, read_refusal}
 use Rattle.tokens.proofs.Places.{at_end_lem}
 use Rattle.rule.proofs.Counted.{first_or, crowded_is, test_occurs, Lowest, heavy_lowest}
 
@@ -97,11 +101,16 @@ module _ (s : List ℕ) where
         earliest q (RuleGround.heavy {o = p} g) e = stage_later (steps p) (nesting o) (omega arith) e
 
     -- ── Reading ends on the way ──
-    pub stuck_judged : {j : ℕ} → StuckAt s j (test 1) 0 → First (RuleGround s) (unreadable j)
+    stuck_judged : {j : ℕ} → StuckAt s j (test 1) 0 → First (RuleGround s) (unreadable j)
     stuck_judged h = first_unread (rule_stops s h.ends) (none_deep h.seen (ap seen_of (h.ends.ends [] (λ t. t.0) [])) h.shallow)
 
-    pub deep_judged : {j : ℕ} → DeepAt s j (test 1) 0 → First (RuleGround s) (nesting j)
+    deep_judged : {j : ℕ} → DeepAt s j (test 1) 0 → First (RuleGround s) (nesting j)
     deep_judged h = first_deep (rule_deep s h.ends (all_imp _ _ (λ k l e. omega arith) h.seen h.shallow))
+
+    pub read_judged : (e : Read.Refusal) (r : Result (Unit {0}) Rule.Refusal) → IsErrAnd r (λ d. d ≡ read_refusal e) → RefusedAt s e (test 1) 0 → Judged s r
+    read_judged e (Ok u) q h = absurd q
+    read_judged (Stuck j) (Err d) q h = subst (λ d. Judged s (Err d)) (sym q) (stuck_judged h)
+    read_judged (Deep j) (Err d) q h = subst (λ d. Judged s (Err d)) (sym q) (deep_judged h)
 
     -- ── A test is read ──
     module _ {j k : ℕ} {u : Tally} (c : Back s (test 1) 0 0 untold j k u) where
@@ -211,7 +220,7 @@ module _ (s : List ℕ) where
         end_judged = go (ltb u.crowded nowhere) refl (ltb u.heavy nowhere) refl
           where
             go : (x : Bool) → ltb u.crowded nowhere ≡ x → (y : Bool) → ltb u.heavy nowhere ≡ y
-                → Judged s (choose x (Tests u.crowded) (choose y (Steps u.heavy) Accepted))
+                → Judged s (choose x (Err (Tests u.crowded)) (choose y (Err (Steps u.heavy)) (Ok tt)))
             go true e y f = first_tests (told.0 (ltb-true u.crowded nowhere e))
             go false e true f = first_steps (steps_there (ltb-true u.heavy nowhere f)) (told.1 (ltb-false u.crowded nowhere e))
             go false e false f = unrefused_accepted s (unrefused (told.1 (ltb-false u.crowded nowhere e)) (no_steps (ltb-false u.heavy nowhere f)))

@@ -2,17 +2,17 @@
 #![tactic(auto)]
 
 ghost use Rattle.std.specs.Prelude.{◌≡◌};
-ghost use Rattle.rule.specs.Check.{Judged, judged_by};
+ghost use Rattle.rule.specs.Check.{Judged, judged_by, read_refusal};
 
 use limits::Rule;
 use rule_readers::readers::read_test;
 use rule_readers::tally::NOWHERE;
-use tokens::read::{Read, Tally};
+use tokens::read;
+use tokens::read::Tally;
 
-// A rule is accepted, or refused by a ground with its offset.
+// Why a rule is refused, with the offset.
 #[derive(Clone, Copy)]
-pub enum Verdict {
-    Accepted,
+pub enum Refusal {
     Length,
     Unreadable(usize),
     Nesting(usize),
@@ -20,41 +20,46 @@ pub enum Verdict {
     Steps(usize),
 }
 
+// Where no rule goes on so it is unreadable, and where a part too deep begins its nesting is told.
+impl From<read::Refusal> for Refusal {
+    ghost from_gives = { λ e r. r ≡ read_refusal e };
+
+    fn from(e: read::Refusal) -> Refusal {
+        match e {
+            read::Refusal::Stuck(at) => Refusal::Unreadable(at),
+            read::Refusal::Deep(at) => Refusal::Nesting(at),
+        }
+    }
+}
+
 // The verdict on a rule that reads, from its tally.
-fn within(t: Tally) -> Verdict
+fn within(t: Tally) -> Result<(), Refusal>
     ensures { result ≡ judged_by t }
 {
     if t.crowded < NOWHERE {
-        return Verdict::Tests(t.crowded);
+        return Err(Refusal::Tests(t.crowded));
     }
     if t.heavy < NOWHERE {
-        return Verdict::Steps(t.heavy);
+        return Err(Refusal::Steps(t.heavy));
     }
-    Verdict::Accepted
+    Ok(())
 }
 
-// The verdict on a rule.
-pub fn check(s: &[u8]) -> Verdict
+// The verdict on a rule: it is accepted, or refused by a ground.
+pub fn check(s: &[u8]) -> Result<(), Refusal>
     ensures { Judged s.now result }
 {
     if Rule::MAX_BYTES < s.len() {
-        return Verdict::Length;
+        return Err(Refusal::Length);
     }
     let t = Tally {
         left: Rule::MAX_TESTS,
         crowded: NOWHERE,
         heavy: NOWHERE,
     };
-    let r = read_test(s, 0, 1, 0, t);
-    match r {
-        Read::Behind(j, _, u) => {
-            if j < s.len() {
-                Verdict::Unreadable(j)
-            } else {
-                within(u)
-            }
-        }
-        Read::Stuck(j) => Verdict::Unreadable(j),
-        Read::Deep(j) => Verdict::Nesting(j),
+    let r = read_test(s, 0, 1, 0, t)?;
+    if r.next < s.len() {
+        return Err(Refusal::Unreadable(r.next));
     }
+    within(r.tally)
 }

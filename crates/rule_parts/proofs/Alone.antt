@@ -12,14 +12,13 @@ use Rattle.rule_spec.specs.Machine.{Symbol, test, over, rest}
 use Rattle.rule_spec.specs.Readers.{keys, Unnamed, Returns}
 use Rattle.rule_spec.proofs.Machine.{read_inj}
 use Rattle.tokens.specs.declared.read.Tally.{Tally}
-use Rattle.tokens.specs.declared.read.Read.{Read}
-use Rattle.tokens.specs.declared.read.Read.TheVariants.{Behind, Stuck, Deep}
+use Rattle.tokens.specs.declared.read.Refusal.{Refusal}
 use Rattle.tokens.specs.Tallies.{tally, tallied}
-use Rattle.tokens.specs.Readers.{parts_of, Back, Reading}
+use Rattle.tokens.specs.Readers.{parts_of, Back, RefusedAt}
 use Rattle.tokens.proofs.Places.{at_end_lem}
 use Rattle.rule_parts.specs.Standing.{Spans, TestAt}
 use Rattle.rule_parts.proofs.Tallying.{left_is, count_test}
-use Rattle.rule_parts.proofs.Determined.{not_stuck, not_deep, same_end, test_returns}
+use Rattle.rule_parts.proofs.Determined.{test_returns, test_ends, test_reads}
 
 -- ── The text up to the end of a part ──
 module _ (s : List ℕ) where
@@ -43,12 +42,6 @@ module _ (s : List ℕ) where
   test_alone a = record { legal = a.legal; shallow = a.shallow; spans = spans_alone a.spans; apart = subst Unnamed (sym (nothing_left a.spans.inside)) tt }
 
 -- ── At the end of the text the value is told ──
--- the tally that a reader answers with that reads T
-abbrev Whole : Test → ℕ → Tally → Read → Type 0
-Whole T i t (Behind j l u) = u ≡ tallied t (test_parts T i 1)
-Whole T i t (Stuck j) = ⊥
-Whole T i t (Deep j) = ⊥
-
 module _ (s : List ℕ) {T : Test} {i j : ℕ} (a : TestAt s T i j) (end : drop j s ≡ []) where
   returns : Returns (test 1) T (keys (test_parts T i 1)) i (drop i s) j (drop j s)
   returns = test_returns s a
@@ -56,37 +49,27 @@ module _ (s : List ℕ) {T : Test} {i j : ℕ} (a : TestAt s T i j) (end : drop 
   same_value : {k : ℕ} {t : Tally} {m l : ℕ} {u : Tally} (b : Back s (test 1) i k t m l u) → b.value ≡ T
   unfolding over rest
   same_value {m = m} b =
-      let e : drop m s ≡ [] = ap (λ o. drop o s) (same_end s (test 1) a.spans.inside b.inside returns b.returns) ∙ end in
+      let e : drop m s ≡ [] = ap (λ o. drop o s) (test_ends s a b) ∙ end in
       let p = (subst (Returns (test 1) T (keys (test_parts T i 1)) i (drop i s) j) end returns).comes [] (λ t. t.0) [] in
       let q = (subst (Returns (test 1) b.value (keys (test_parts b.value i 1)) i (drop i s) m) e b.returns).comes [] (λ t. t.0) [] in
       (read_inj (sym q ∙ p)).0
 
-  read_whole : (k : ℕ) (t : Tally) (r : Read) → Reading s (test 1) i k t r → Whole T i t r
-  read_whole k t (Behind m l u) b = b.kept ∙ ap (λ w. tallied t (test_parts w i 1)) (same_value b)
-  read_whole k t (Stuck m) b = not_stuck s (test 1) returns b
-  read_whole k t (Deep m) b = not_deep s (test 1) returns a.shallow b
-
--- of n tests that might begin, those that did
-abbrev pub begun_of : ℕ → Read → ℕ
-begun_of n (Behind j l u) = n - u.left
-begun_of n (Stuck j) = 0
-begun_of n (Deep j) = 0
+  -- and the tally that a reader answers with that reads it
+  whole : {k : ℕ} {t : Tally} {m l : ℕ} {u : Tally} → Back s (test 1) i k t m l u → u ≡ tallied t (test_parts T i 1)
+  whole {t = t} b = b.kept ∙ ap (λ w. tallied t (test_parts w i 1)) (same_value b)
 
 module _ (s : List ℕ) where
-  test_whole : {T : Test} {i j : ℕ} → TestAt s T i j → (k : ℕ) (t : Tally) (r : Read) → Reading (take j s) (test 1) i k t r → Whole T i t r
-  test_whole {j = j} a = read_whole (take j s) (test_alone s a) (nothing_left s a.spans.inside)
+  -- of n tests that might begin, those that did
+  pub test_count : {T : Test} {i j : ℕ} (a : TestAt s T i j) (n c h : ℕ) {m l : ℕ} {u : Tally} → Back (take j s) (test 1) i 0 (tally n c h) m l u → length (spell_test T) ≤ n
+      → n - u.left ≡ length (tests (test_parts T i 1))
+  test_count {T} {i} {j} a n c h b l =
+      let w = whole (take j s) (test_alone s a) (nothing_left s a.spans.inside) b in
+      let e = ap (λ (v : Tally). v.left) w ∙ left_is (test_parts T i 1) (tally n c h) in
+      let k = count_test T i 1 in
+      omega arith
 
-  pub test_count : {T : Test} {i j : ℕ} (a : TestAt s T i j) (n c h : ℕ) (r : Read) → Reading (take j s) (test 1) i 0 (tally n c h) r → length (spell_test T) ≤ n
-      → begun_of n r ≡ length (tests (test_parts T i 1))
-  test_count {T} {i} a n c h r b l = go r (test_whole a 0 (tally n c h) r b)
-    where
-      go : (r : Read) → Whole T i (tally n c h) r → begun_of n r ≡ length (tests (test_parts T i 1))
-      go (Behind j m u) w =
-          let e = ap (λ (v : Tally). v.left) w ∙ left_is (test_parts T i 1) (tally n c h) in
-          let k = count_test T i 1 in
-          omega arith
-      go (Stuck j) w = absurd w
-      go (Deep j) w = absurd w
+  pub alone_reads : {T : Test} {i j : ℕ} → TestAt s T i j → (e : Refusal) → ¬ RefusedAt (take j s) e (test 1) i
+  alone_reads {j = j} a = test_reads (take j s) (test_alone s a)
 
   pub left_less : {x : Symbol} {i n c h : ℕ} {j l : ℕ} {u : Tally} → Back s x i 0 (tally n c h) j l u → u.left ≤ n
   left_less {x} {i} {n} {c} {h} b = let e = ap (λ (v : Tally). v.left) b.kept ∙ left_is (parts_of x b.value i) (tally n c h) in omega arith

@@ -20,9 +20,9 @@ use Rattle.rule_spec.proofs.Unique.{pops_unnamed}
 use Rattle.rule_spec.proofs.Runs.{seen_of}
 use Rattle.rule_spec.proofs.Readers.{answer_grows}
 use Rattle.tokens.specs.declared.read.Tally.{Tally}
-use Rattle.tokens.specs.declared.read.Read.{Read}
-use Rattle.tokens.specs.declared.read.Read.TheVariants.{Behind, Stuck, Deep}
-use Rattle.tokens.specs.Readers.{Shallow, StuckAt, DeepAt, Reading}
+use Rattle.tokens.specs.declared.read.Refusal.{Refusal}
+use Rattle.tokens.specs.declared.read.Refusal.TheVariants.{Stuck, Deep}
+use Rattle.tokens.specs.Readers.{Shallow, Back, StuckAt, DeepAt, RefusedAt}
 use Rattle.rule_parts.specs.Standing.{TestAt, PathAt}
 
 place_of : Answer Test → ℕ
@@ -43,7 +43,7 @@ module _ (s : List ℕ) (x : Symbol) {i j : ℕ} {v : Value x} {ks : List Key} (
   on st = c.comes st (any (x ∷ st)) []
 
   -- the machine is not stuck at the end of what it read: at what is left it goes on, if that is due
-  pub not_stuck : {m : ℕ} → ¬ StuckAt s m x i
+  not_stuck : {m : ℕ} → ¬ StuckAt s m x i
   unfolding any over move rest
   not_stuck {m} h = go (drop j s) (λ st. sym (on st) ∙ h.ends.ends st (any (x ∷ st)) [])
     where
@@ -60,7 +60,7 @@ module _ (s : List ℕ) (x : Symbol) {i j : ℕ} {v : Value x} {ks : List Key} (
   saw [] = refl
   saw (b ∷ w) = refl
 
-  pub not_deep : {m : ℕ} → Shallow ks → ¬ DeepAt s m x i
+  not_deep : {m : ℕ} → Shallow ks → ¬ DeepAt s m x i
   not_deep {m} low h =
       let (t, w, e, d, n) = h.ends.ends [] (any (x ∷ [])) [] in
       let (more, g, l) = answer_grows w t in
@@ -69,6 +69,10 @@ module _ (s : List ℕ) (x : Symbol) {i j : ℕ} {v : Value x} {ks : List Key} (
       let o = subst (Occurs k) (sym all) (occurs_left k (h.seen ++ k ∷ []) more (occurs_right k h.seen (k ∷ []) (inl refl))) in
       let z = (all_occurs _ ks).0 low k o in
       omega arith
+
+  pub not_refused : Shallow ks → (e : Refusal) → ¬ RefusedAt s e x i
+  not_refused low (Stuck m) h = not_stuck h
+  not_refused low (Deep m) h = not_deep low h
 
 pub same_end : (s : List ℕ) (x : Symbol) {i j j' : ℕ} {v v' : Value x} {ks ks' : List Key} → j ≤ length s → j' ≤ length s
     → Returns x v ks i (drop i s) j (drop j s) → Returns x v' ks' i (drop i s) j' (drop j' s) → j' ≡ j
@@ -82,17 +86,6 @@ same_end s x {i} {j} {j'} {ks = ks} {ks' = ks'} h h' c d = go (drop j s) (drop j
     go (b ∷ w) (d ∷ w') e f q = sym (stop_place q)
 
 -- ── So a reader of it comes to its end ──
-abbrev pub end_of : Read → ℕ
-end_of (Behind j l u) = j
-end_of (Stuck j) = j
-end_of (Deep j) = j
-
-read_through : (s : List ℕ) (x : Symbol) {i j : ℕ} {v : Value x} {ks : List Key} → Returns x v ks i (drop i s) j (drop j s) → j ≤ length s → Shallow ks
-    → (k : ℕ) (t : Tally) (r : Read) → Reading s x i k t r → end_of r ≡ j
-read_through s x c h low k t (Behind j l u) b = same_end s x h b.inside c b.returns
-read_through s x c h low k t (Stuck j) b = absurd (not_stuck s x c b)
-read_through s x c h low k t (Deep j) b = absurd (not_deep s x c low b)
-
 module _ (s : List ℕ) where
   pub test_returns : {T : Test} {i j : ℕ} → TestAt s T i j → Returns (test 1) T (keys (test_parts T i 1)) i (drop i s) j (drop j s)
   test_returns {T} {i} {j} a =
@@ -101,8 +94,14 @@ module _ (s : List ℕ) where
   pub path_returns : {P : XPath} {i j : ℕ} → PathAt s P i j → Returns (path 1) P (keys (path_parts P i 1)) i (drop i s) j (drop j s)
   path_returns {P} {i} {j} a = comes_as close stopped refl (sym a.spans.spelled) (sym a.spans.ends) ((take_path close stopped P 1 a.legal).takes i (drop j s) tt)
 
-  pub test_ends : {T : Test} {i j : ℕ} → TestAt s T i j → (k : ℕ) (t : Tally) (r : Read) → Reading s (test 1) i k t r → end_of r ≡ j
-  test_ends a = read_through s (test 1) (test_returns a) a.spans.inside a.shallow
+  pub test_ends : {T : Test} {i j : ℕ} → TestAt s T i j → {k : ℕ} {t : Tally} {m l : ℕ} {u : Tally} → Back s (test 1) i k t m l u → m ≡ j
+  test_ends a b = same_end s (test 1) a.spans.inside b.inside (test_returns a) b.returns
 
-  pub path_ends : {P : XPath} {i j : ℕ} → PathAt s P i j → (k : ℕ) (t : Tally) (r : Read) → Reading s (path 1) i k t r → end_of r ≡ j
-  path_ends a = read_through s (path 1) (path_returns a) a.spans.inside a.shallow
+  pub test_reads : {T : Test} {i j : ℕ} → TestAt s T i j → (e : Refusal) → ¬ RefusedAt s e (test 1) i
+  test_reads a = not_refused s (test 1) (test_returns a) a.shallow
+
+  pub path_ends : {P : XPath} {i j : ℕ} → PathAt s P i j → {k : ℕ} {t : Tally} {m l : ℕ} {u : Tally} → Back s (path 1) i k t m l u → m ≡ j
+  path_ends a b = same_end s (path 1) a.spans.inside b.inside (path_returns a) b.returns
+
+  pub path_reads : {P : XPath} {i j : ℕ} → PathAt s P i j → (e : Refusal) → ¬ RefusedAt s e (path 1) i
+  path_reads a = not_refused s (path 1) (path_returns a) a.shallow

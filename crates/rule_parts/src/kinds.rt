@@ -51,8 +51,7 @@ pub fn test_kind(s: &[u8], at: usize) -> TestKind
     requires { at < length s.now }
     ensures { (T : Test) (j : ℕ) → TestAt s.now T at j → result ≡ test_kind T }
 {
-    let b = s[at];
-    match b {
+    match s[at] {
         b':' => TestKind::Named,
         b'!' => TestKind::Not,
         b'&' => TestKind::And,
@@ -67,8 +66,7 @@ pub fn path_kind(s: &[u8], at: usize) -> PathKind
     requires { at < length s.now }
     ensures { (P : XPath) (j : ℕ) → PathAt s.now P at j → result ≡ path_kind P }
 {
-    let b = s[at];
-    match b {
+    match s[at] {
         b'e' => PathKind::Empty,
         b'l' => PathKind::ToLeft,
         b'r' => PathKind::ToRight,

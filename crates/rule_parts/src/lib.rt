@@ -12,7 +12,7 @@ ghost use Rattle.rule_parts.specs.Middles.{Parted, Counted};
 use kinds::{Operator, read_sign};
 use rule_readers::readers::{read_path, read_test};
 use tokens::figures;
-use tokens::read::{Read, Tally};
+use tokens::read::{Refusal, Tally};
 
 // Only the offset is asked for, so the tally may be any.
 const UNTOLD: Tally = Tally {
@@ -26,11 +26,9 @@ pub fn skip_test(s: &[u8], at: usize) -> usize
     requires { at ≤ length s.now }
     ensures { (T : Test) (j : ℕ) → TestAt s.now T at j → result ≡ j }
 {
-    let r = read_test(s, at, 1, 0, UNTOLD);
-    match r {
-        Read::Behind(j, _, _) => j,
-        Read::Stuck(j) => j,
-        Read::Deep(j) => j,
+    match read_test(s, at, 1, 0, UNTOLD) {
+        Ok(behind) => behind.next,
+        Err(Refusal::Stuck(j) | Refusal::Deep(j)) => j,
     }
 }
 
@@ -39,11 +37,9 @@ pub fn skip_path(s: &[u8], at: usize) -> usize
     requires { at ≤ length s.now }
     ensures { (P : XPath) (j : ℕ) → PathAt s.now P at j → result ≡ j }
 {
-    let r = read_path(s, at, 1, 0, UNTOLD);
-    match r {
-        Read::Behind(j, _, _) => j,
-        Read::Stuck(j) => j,
-        Read::Deep(j) => j,
+    match read_path(s, at, 1, 0, UNTOLD) {
+        Ok(behind) => behind.next,
+        Err(Refusal::Stuck(j) | Refusal::Deep(j)) => j,
     }
 }
 
@@ -58,11 +54,9 @@ pub fn tests_in(s: &[u8], at: usize, end: usize) -> usize
         crowded: 0,
         heavy: 0,
     };
-    let r = read_test(&s[..end], at, 1, 0, t);
-    match r {
-        Read::Behind(_, _, u) => width - u.left,
-        Read::Stuck(_) => 0,
-        Read::Deep(_) => 0,
+    match read_test(&s[..end], at, 1, 0, t) {
+        Ok(behind) => width - behind.tally.left,
+        Err(_) => 0,
     }
 }
 
@@ -82,9 +76,8 @@ pub fn parted(s: &[u8], at: usize) -> Middle
     let m = skip_path(s, at + 1);
     if m < s.len() {
         let sign = read_sign(s, m);
-        let operator = sign.operator;
         return Middle {
-            operator: operator,
+            operator: sign.operator,
             sign: m,
             second: sign.next,
         };

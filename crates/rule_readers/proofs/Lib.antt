@@ -1,4 +1,3 @@
-pub mod Calls
 pub mod Tallied
 pub mod Operands
 pub mod Tests

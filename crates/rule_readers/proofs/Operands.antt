@@ -1,4 +1,5 @@
 -- The readers of a comparison behind its first path conclude as the machine does: a sign, and a path with the closing bracket.
+use Rattle.std.specs.Prelude.{Result, Ok, Err}
 use Prim.Native.Nat.{ℕ}
 use native.Mathlib.Omega.{arith}
 use mathlib.Core.Path.{◌≡◌, refl, sym, ap, ◌∙◌, subst, subst₂}
@@ -14,8 +15,8 @@ use Rattle.rule_spec.specs.Machine.{path, byte, signed, operand, Stack, Values, 
 use Rattle.rule_spec.specs.Readers.{goes, keys}
 use Rattle.rule_spec.proofs.Reading.{as_path}
 use Rattle.tokens.specs.declared.read.Tally.{Tally}
-use Rattle.tokens.specs.declared.read.Read.{Read}
-use Rattle.tokens.specs.declared.read.Read.TheVariants.{Behind, Stuck, Deep}
+use Rattle.tokens.specs.declared.read.Behind.{Behind}
+use Rattle.tokens.specs.declared.read.Refusal.{Refusal}
 use Rattle.tokens.specs.Tallies.{tallied}
 use Rattle.tokens.specs.Readers.{parts_of, Lacks, Back, Halts, Reading, Signs}
 use Rattle.tokens.proofs.Joins.{back_as}
@@ -30,10 +31,9 @@ module _ (s : List ℕ) (i n : ℕ) where
         back_as s (o, c.value) (parts_of (operand n) c.value j) (ap (λ a. parts_of (operand n) c.value a) (sym h.long))
         (omega arith) c.inside (omega arith) c.shallow (turns_returns s (h.turns n) c.returns) c.steps c.few c.kept
 
-    pub signed_reads : (k : ℕ) (t : Tally) (r : Read) → Reading s (operand n) j k t r → Reading s (signed n) i k t r
-    signed_reads k t (Behind m l u) d = signed_back d
-    signed_reads k t (Stuck m) d = turns_halts s _ (h.turns n) d
-    signed_reads k t (Deep m) d = turns_halts s _ (h.turns n) d
+    pub signed_reads : (k : ℕ) (t : Tally) (r : Result Behind Refusal) → Reading s (operand n) j k t r → Reading s (signed n) i k t r
+    signed_reads k t (Ok b) d = signed_back d
+    signed_reads k t (Err e) d = turns_halts s _ (h.turns n) d
 
   -- ── A path and the bracket ──
   module _ (no : Lacks 34 (drop i s)) where
@@ -93,7 +93,6 @@ module _ (s : List ℕ) (i n : ℕ) where
             kept = d.kept ∙ c.kept;
           }
 
-      pub operand_reads : (r : Read) → Reading s (byte 41) j l u r → Reading s (operand n) i k t r
-      operand_reads (Behind m x v) d = bracket_back d
-      operand_reads (Stuck m) d = bracket_halts _ d
-      operand_reads (Deep m) d = bracket_halts _ d
+      pub operand_reads : (r : Result Behind Refusal) → Reading s (byte 41) j l u r → Reading s (operand n) i k t r
+      operand_reads (Ok b) d = bracket_back d
+      operand_reads (Err e) d = bracket_halts _ d

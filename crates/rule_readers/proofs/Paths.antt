@@ -1,4 +1,5 @@
 -- The readers of paths conclude as the machine does from what stands inside: steps, `*P`, `.PP`, `+PP` and `[T]`.
+use Rattle.std.specs.Prelude.{Result, Ok, Some}
 use Prim.Native.Nat.{ℕ, suc, ◌+◌, ◌≤◌}
 use native.Mathlib.Omega.{arith}
 use native.Mathlib.Numerals.{add-one}
@@ -13,13 +14,12 @@ use Rattle.rule_spec.specs.Spelling.{spell_test, spell_path, spell_step}
 use Rattle.rule_spec.specs.Parts.{Sort, test_parts, path_parts, step_parts}
 use Rattle.rule_spec.specs.Machine.{test, path, byte, Stack, move, Answer, Key}
 use Rattle.tokens.specs.declared.read.Tally.{Tally}
-use Rattle.tokens.specs.declared.read.Read.{Read}
-use Rattle.tokens.specs.declared.read.Read.TheVariants.{Behind}
+use Rattle.tokens.specs.declared.read.Behind.{Behind}
+use Rattle.tokens.specs.declared.read.Refusal.{Refusal}
 use Rattle.tokens.specs.declared.heads.PathHead.TheVariants as head
 use Rattle.tokens.specs.Tallies.{noted, tallied}
 use Rattle.tokens.specs.Readers.{Stands, Back, Halts, Reading}
 use Rattle.tokens.specs.Heads.{PathByte, PathBegins}
-use Rattle.tokens.proofs.Halted.{back}
 use Rattle.tokens.proofs.Joins.{leaf_back, Lead, LeadParts, lead_reads, Fork, ForkParts, first_halts, fork_reads}
 use Rattle.rule_readers.proofs.Tests.{only}
 
@@ -30,15 +30,15 @@ module _ (s : List ℕ) {i n : ℕ} where
   unfolding noted tallied
   leaf b P m p w h low e few = leaf_back s (some n) h (low, tt) (record { value = P; moves = m }) (only n Sort.path i) p refl w (add-one i) e few refl
 
-  pub empty_back : {k : ℕ} {t : Tally} → PathBegins s i n head.Empty → k ≤ i → Back s (path n) i k t (i + 1) k t
+  pub empty_back : {k : ℕ} {t : Tally} → PathBegins s i n (Ok head.Empty) → k ≤ i → Back s (path n) i k t (i + 1) k t
   unfolding move path_parts spell_path
   empty_back (b, e, h, low) few = leaf 101 empty (λ st. refl) refl refl (subst (Stands s i) e h) low (omega arith) (omega arith)
 
-  pub step_back : {k : ℕ} {t : Tally} → PathBegins s i n head.Step → k ≤ i → Back s (path n) i k t (i + 1) (k + 1) t
+  pub step_back : {k : ℕ} {t : Tally} → PathBegins s i n (Ok head.Step) → k ≤ i → Back s (path n) i k t (i + 1) (k + 1) t
   unfolding move path_parts step_parts spell_path spell_step
   step_back {k} {t} (b, e, h, low) few = go e
     where
-      go : PathByte b head.Step → Back s (path n) i k t (i + 1) (k + 1) t
+      go : PathByte b (Some head.Step) → Back s (path n) i k t (i + 1) (k + 1) t
       go (inl e) = leaf 76 (one from_left) (λ st. refl) refl refl (subst (Stands s i) e h) low (omega arith) (omega arith)
       go (inr (inl e)) = leaf 82 (one from_right) (λ st. refl) refl refl (subst (Stands s i) e h) low (omega arith) (omega arith)
       go (inr (inr (inl e))) = leaf 108 (one to_left) (λ st. refl) refl refl (subst (Stands s i) e h) low (omega arith) (omega arith)
@@ -93,34 +93,34 @@ bracket_parts n = record {
 
 -- ── What the reader of a path concludes ──
 module _ (s : List ℕ) {i n : ℕ} where
-  pub star_reads : PathBegins s i n head.Star → (k : ℕ) (t : Tally) (r : Read) → Reading s (path (n + 1)) (i + 1) k t r → Reading s (path n) i k t r
+  pub star_reads : PathBegins s i n (Ok head.Star) → (k : ℕ) (t : Tally) (r : Result Behind Refusal) → Reading s (path (n + 1)) (i + 1) k t r → Reading s (path n) i k t r
   unfolding star_lead noted tallied
   star_reads (b, e, h, l) k t r d =
       lead_reads s (some n) (subst (Stands s i) e h) (l, tt) (star_lead n) (only n Sort.path) refl (star_parts n) k t r
       (subst₂ (λ m j. Reading s (path m) j k t r) (add-one n) (add-one i) d)
 
-  pub two_halts : PathBegins s i n head.TwoPaths → (E : List Key → Answer Test → Type 0) → Halts s E (path (n + 1)) (i + 1) → Halts s E (path n) i
+  pub two_halts : PathBegins s i n (Ok head.TwoPaths) → (E : List Key → Answer Test → Type 0) → Halts s E (path (n + 1)) (i + 1) → Halts s E (path n) i
   two_halts (b, e, h, l) E d =
       let d' = subst₂ (λ m j. Halts s E (path m) j) (add-one n) (add-one i) d in
       ⊎_elim (λ e. first_halts s (some n) (subst (Stands s i) e h) (l, tt) (union_fork n) E d') (λ e. first_halts s (some n) (subst (Stands s i) e h) (l, tt) (seq_fork n) E d') e
 
-  pub two_reads : PathBegins s i n head.TwoPaths → (k : ℕ) (t : Tally) {f : Read} {j l : ℕ} {u : Tally} → f ≡ Behind j l u → Reading s (path (n + 1)) (i + 1) k t f
-      → (r : Read) → Reading s (path (n + 1)) j l u r → Reading s (path n) i k t r
+  pub two_reads : PathBegins s i n (Ok head.TwoPaths) → (k : ℕ) (t : Tally) {j l : ℕ} {u : Tally} → Back s (path (n + 1)) (i + 1) k t j l u
+      → (r : Result Behind Refusal) → Reading s (path (n + 1)) j l u r → Reading s (path n) i k t r
   unfolding seq_fork union_fork noted tallied
-  two_reads (b, e, h, low) k t {j = j} {l = l} {u = u} told c r d =
+  two_reads (b, e, h, low) k t {j = j} {l = l} {u = u} c r d =
       let same : k ≡ k + 0 = omega arith in
-      let c' = subst₂ (λ m a. Back s (path m) (suc i) a t j l u) (add-one n) same (subst (λ a. Back s (path (n + 1)) a k t j l u) (add-one i) (back s (path (n + 1)) (i + 1) k t told c)) in
+      let c' = subst₂ (λ m a. Back s (path m) (suc i) a t j l u) (add-one n) same (subst (λ a. Back s (path (n + 1)) a k t j l u) (add-one i) c) in
       let d' = subst (λ m. Reading s (path m) j l u r) (add-one n) d in
       ⊎_elim (λ e. fork_reads s (some n) (subst (Stands s i) e h) (low, tt) (union_fork n) (only n Sort.path) refl 0 (union_parts n) k t c' r d')
       (λ e. fork_reads s (some n) (subst (Stands s i) e h) (low, tt) (seq_fork n) (only n Sort.path) refl 0 (seq_parts n) k t c' r d') e
 
-  pub bracket_halts : PathBegins s i n head.Bracket → (E : List Key → Answer Test → Type 0) → Halts s E (test (n + 1)) (i + 1) → Halts s E (path n) i
+  pub bracket_halts : PathBegins s i n (Ok head.Bracket) → (E : List Key → Answer Test → Type 0) → Halts s E (test (n + 1)) (i + 1) → Halts s E (path n) i
   bracket_halts (b, e, h, l) E d =
       first_halts s (some n) (subst (Stands s i) e h) (l, tt) (bracket_fork n) E (subst₂ (λ m j. Halts s E (test m) j) (add-one n) (add-one i) d)
 
-  pub bracket_reads : PathBegins s i n head.Bracket → (k : ℕ) (t : Tally) {f : Read} {j l : ℕ} {u : Tally} → f ≡ Behind j l u → Reading s (test (n + 1)) (i + 1) (k + 1) t f
-      → (r : Read) → Reading s (byte 93) j l u r → Reading s (path n) i k t r
+  pub bracket_reads : PathBegins s i n (Ok head.Bracket) → (k : ℕ) (t : Tally) {j l : ℕ} {u : Tally} → Back s (test (n + 1)) (i + 1) (k + 1) t j l u
+      → (r : Result Behind Refusal) → Reading s (byte 93) j l u r → Reading s (path n) i k t r
   unfolding bracket_fork noted tallied
-  bracket_reads (b, e, h, low) k t {j = j} {l = l} {u = u} told c r d =
+  bracket_reads (b, e, h, low) k t {j = j} {l = l} {u = u} c r d =
       fork_reads s (some n) (subst (Stands s i) e h) (low, tt) (bracket_fork n) (only n Sort.path) refl 1 (bracket_parts n) k t
-      (subst₂ (λ m a. Back s (test m) a (k + 1) t j l u) (add-one n) (add-one i) (back s (test (n + 1)) (i + 1) (k + 1) t told c)) r d
+      (subst₂ (λ m a. Back s (test m) a (k + 1) t j l u) (add-one n) (add-one i) c) r d

@@ -26,8 +26,9 @@ begun_full : (t : Tally) (o : ℕ) → t.left ≡ 0 → begun t o ≡ tally 0 (c
 unfolding begun
 begun_full t o e = ap (λ l. begins l t.crowded t.heavy o) e
 
-pub begun_first : (t : Tally) (o : ℕ) → t.left ≡ 0 → t.crowded ≡ nowhere → tally 0 o t.heavy ≡ begun t o
-begun_first t o e f = sym (begun_full t o e ∙ ap (λ b. tally 0 (choose b o t.crowded) t.heavy) (eq-eqb t.crowded nowhere f))
+pub begun_first : (t : Tally) (o : ℕ) → t.left ≡ 0 → t.crowded ≡ nowhere → tally t.left o t.heavy ≡ begun t o
+begun_first t o e f =
+    ap (λ l. tally l o t.heavy) e ∙ sym (begun_full t o e ∙ ap (λ b. tally 0 (choose b o t.crowded) t.heavy) (eq-eqb t.crowded nowhere f))
 
 pub begun_later : (t : Tally) (o : ℕ) → t.left ≡ 0 → t.crowded ≢ nowhere → t ≡ begun t o
 begun_later t o e f =
@@ -41,14 +42,8 @@ module _ (t : Tally) (o m : ℕ) where
   pub weighed_light : m ≤ comparison_steps → t ≡ weighed t o m
   weighed_light h = weighed_by t.heavy (ap (λ b. choose b t.heavy (min t.heavy o)) (le-leb m comparison_steps h))
 
-  heavy_min : comparison_steps < m → heavier t.heavy o m ≡ min t.heavy o
-  heavy_min h = ap (λ b. choose b t.heavy (min t.heavy o)) (lt-leb m comparison_steps h)
-
-  pub weighed_behind : comparison_steps < m → t.heavy ≤ o → t ≡ weighed t o m
-  weighed_behind h l = weighed_by t.heavy (let e = heavy_min h in omega arith)
-
-  pub weighed_here : comparison_steps < m → o < t.heavy → tally t.left t.crowded o ≡ weighed t o m
-  weighed_here h l = weighed_by o (let e = heavy_min h in omega arith)
+  pub weighed_heavy : comparison_steps < m → {h : ℕ} → h ≡ min t.heavy o → tally t.left t.crowded h ≡ weighed t o m
+  weighed_heavy l {h} e = weighed_by h (ap (λ b. choose b t.heavy (min t.heavy o)) (lt-leb m comparison_steps l) ∙ sym e)
 
 -- ── Weighing may wait ──
 heavier_swap : (h o m p l : ℕ) → heavier (heavier h o m) p l ≡ heavier (heavier h p l) o m

@@ -1,4 +1,5 @@
 -- The readers of tests conclude as the machine does from what stands inside: `:name`, `!T`, `&TT`, `|TT`, comparisons and counts.
+use Rattle.std.specs.Prelude.{Result, Ok}
 use Prim.Native.Nat.{ℕ, suc, ◌+◌}
 use native.Mathlib.Omega.{arith}
 use native.Mathlib.Numerals.{add-one}
@@ -15,15 +16,14 @@ use Rattle.rule_spec.specs.Parts.{Part, Sort, test_parts, path_parts}
 use Rattle.rule_spec.specs.Machine.{Symbol, test, path, label, number, signed, Value, move, comparing, Operand, Answer, Key}
 use Rattle.rule_spec.specs.Readers.{spell_operand}
 use Rattle.tokens.specs.declared.read.Tally.{Tally}
-use Rattle.tokens.specs.declared.read.Read.{Read}
-use Rattle.tokens.specs.declared.read.Read.TheVariants.{Behind}
+use Rattle.tokens.specs.declared.read.Behind.{Behind}
+use Rattle.tokens.specs.declared.read.Refusal.{Refusal}
 use Rattle.tokens.specs.declared.heads.TestHead.TheVariants.{Name, Not, TwoTests}
 use Rattle.tokens.specs.Tallies.{begun, weighed, noted, tallied}
 use Rattle.tokens.specs.Readers.{parts_of, size_of, width, Stands, Back, Halts, Reading, NumberRead}
 use Rattle.tokens.specs.Heads.{TestBegins}
 use Rattle.rule_readers.specs.Calls.{Opened}
 use Rattle.rule_readers.proofs.Tallied.{weighed_last}
-use Rattle.tokens.proofs.Halted.{back}
 use Rattle.tokens.proofs.Joins.{tallied_append, Lead, LeadParts, lead_reads, Fork, ForkParts, first_halts, second_halts, both, fork_reads, back_as}
 
 -- ── The part that begins at i ──
@@ -108,29 +108,29 @@ count_stepped n ds P e = record {
 
 -- ── What the reader of a test concludes; t is the tally before the test, b the one in which it has begun ──
 module _ (s : List ℕ) {i n : ℕ} where
-  pub name_reads : TestBegins s i n Name → (k : ℕ) (t : Tally) {b : Tally} → b ≡ begun t i → (r : Read) → Reading s label (i + 1) k b r → Reading s (test n) i k t r
+  pub name_reads : TestBegins s i n (Ok Name) → (k : ℕ) (t : Tally) {b : Tally} → b ≡ begun t i → (r : Result Behind Refusal) → Reading s label (i + 1) k b r → Reading s (test n) i k t r
   unfolding name_lead noted tallied
   name_reads (c, e, h, l) k t q r d =
       lead_reads s (some n) (subst (Stands s i) e h) (l, tt) (name_lead n) (only n Sort.test) refl (name_parts n) k t r
       (subst₂ (λ j b. Reading s label j k b r) (add-one i) q d)
 
-  pub not_reads : TestBegins s i n Not → (k : ℕ) (t : Tally) {b : Tally} → b ≡ begun t i → (r : Read) → Reading s (test (n + 1)) (i + 1) k b r → Reading s (test n) i k t r
+  pub not_reads : TestBegins s i n (Ok Not) → (k : ℕ) (t : Tally) {b : Tally} → b ≡ begun t i → (r : Result Behind Refusal) → Reading s (test (n + 1)) (i + 1) k b r → Reading s (test n) i k t r
   unfolding not_lead noted tallied
   not_reads (c, e, h, l) k t q r d =
       lead_reads s (some n) (subst (Stands s i) e h) (l, tt) (not_lead n) (only n Sort.test) refl (not_parts n) k t r
       (subst₂ (λ m j. Reading s (test m) j k (begun t i) r) (add-one n) (add-one i) (subst (λ b. Reading s (test (n + 1)) (i + 1) k b r) q d))
 
-  pub two_halts : TestBegins s i n TwoTests → (E : List Key → Answer Test → Type 0) → Halts s E (test (n + 1)) (i + 1) → Halts s E (test n) i
+  pub two_halts : TestBegins s i n (Ok TwoTests) → (E : List Key → Answer Test → Type 0) → Halts s E (test (n + 1)) (i + 1) → Halts s E (test n) i
   two_halts (b, e, h, l) E d =
       let d' = subst₂ (λ m j. Halts s E (test m) j) (add-one n) (add-one i) d in
       ⊎_elim (λ e. first_halts s (some n) (subst (Stands s i) e h) (l, tt) (and_fork n) E d') (λ e. first_halts s (some n) (subst (Stands s i) e h) (l, tt) (or_fork n) E d') e
 
-  pub two_reads : TestBegins s i n TwoTests → (k : ℕ) (t : Tally) {b : Tally} → b ≡ begun t i → {f : Read} {j l : ℕ} {u : Tally} → f ≡ Behind j l u → Reading s (test (n + 1)) (i + 1) k b f
-      → (r : Read) → Reading s (test (n + 1)) j l u r → Reading s (test n) i k t r
+  pub two_reads : TestBegins s i n (Ok TwoTests) → (k : ℕ) (t : Tally) {b : Tally} → b ≡ begun t i → {j l : ℕ} {u : Tally} → Back s (test (n + 1)) (i + 1) k b j l u
+      → (r : Result Behind Refusal) → Reading s (test (n + 1)) j l u r → Reading s (test n) i k t r
   unfolding and_fork or_fork noted tallied
-  two_reads (x, e, h, low) k t {b} q {f} {j} {l} {u} told c r d =
+  two_reads (x, e, h, low) k t {b} q {j} {l} {u} c r d =
       let same : k ≡ k + 0 = omega arith in
-      let c = back s (test (n + 1)) (i + 1) k (begun t i) told (subst (λ b. Reading s (test (n + 1)) (i + 1) k b f) q c) in
+      let c = subst (λ b. Back s (test (n + 1)) (i + 1) k b j l u) q c in
       let c' = subst₂ (λ m a. Back s (test m) (suc i) a (begun t i) j l u) (add-one n) same (subst (λ a. Back s (test (n + 1)) a k (begun t i) j l u) (add-one i) c) in
       let d' = subst (λ m. Reading s (test m) j l u r) (add-one n) d in
       ⊎_elim (λ e. fork_reads s (some n) (subst (Stands s i) e h) (low, tt) (and_fork n) (only n Sort.test) refl 0 (and_parts n) k t c' r d')
@@ -162,19 +162,19 @@ module _ (s : List ℕ) {i n : ℕ} where
     pub first_path : (E : List Key → Answer Test → Type 0) → Halts s E (path (n + 1)) (i + 1) → Halts s E (test n) i
     first_path E d = first_halts s (some n) o.opens (o.nested, tt) (compare_fork n) E (subst₂ (λ m j. Halts s E (path m) j) (add-one n) (add-one i) d)
 
-    module _ (t : Tally) {b : Tally} (q : b ≡ begun t i) {f : Read} {j l : ℕ} {u : Tally} (told : f ≡ Behind j l u) (c : Reading s (path (n + 1)) (i + 1) 0 b f) where
+    module _ (t : Tally) {b : Tally} (q : b ≡ begun t i) {j l : ℕ} {u : Tally} (c : Back s (path (n + 1)) (i + 1) 0 b j l u) where
       first_back : Back s (path (suc n)) (suc i) 0 (begun t i) j l u
       first_back =
           subst₂ (λ m a. Back s (path m) a 0 (begun t i) j l u) (add-one n) (add-one i)
-          (back s (path (n + 1)) (i + 1) 0 (begun t i) told (subst (λ b. Reading s (path (n + 1)) (i + 1) 0 b f) q c))
+          (subst (λ b. Back s (path (n + 1)) (i + 1) 0 b j l u) q c)
 
       pub rest_halts : (E : List Key → Answer Test → Type 0) → Halts s E (signed (n + 1)) j → Halts s E (test n) i
       rest_halts E d = second_halts s (some n) o.opens (o.nested, tt) (compare_fork n) first_back E (subst (λ m. Halts s E (signed m) j) (add-one n) d)
 
-      pub compare_back : {g : Read} {j₂ m : ℕ} {v w : Tally} → g ≡ Behind j₂ m v → Reading s (signed (n + 1)) j l u g → w ≡ weighed v i m → Back s (test n) i k t j₂ k w
+      pub compare_back : {j₂ m : ℕ} {v w : Tally} → Back s (signed (n + 1)) j l u j₂ m v → w ≡ weighed v i m → Back s (test n) i k t j₂ k w
       unfolding compare_fork
-      compare_back {j₂ = j₂} {m = m} {v = v} gave d heavy =
-          let e = subst (λ x. Back s (signed x) j l u j₂ m v) (add-one n) (back s (signed (n + 1)) j l u gave d) in
+      compare_back {j₂ = j₂} {m = m} {v = v} d heavy =
+          let e = subst (λ x. Back s (signed x) j l u j₂ m v) (add-one n) d in
           weighed_back o (compare_fork n) t first_back e (compare_stepped n first_back.value e.value.0 e.value.1) heavy
 
   -- ── Counts ──
@@ -182,18 +182,18 @@ module _ (s : List ℕ) {i n : ℕ} where
     pub number_halts : (E : List Key → Answer Test → Type 0) → Halts s E number (i + 1) → Halts s E (test n) i
     number_halts E d = first_halts s (some n) o.opens (o.nested, tt) (count_fork n) E (subst (Halts s E number) (add-one i) d)
 
-    module _ (t : Tally) {b : Tally} (q : b ≡ begun t i) {f : Read} {j l : ℕ} {u : Tally} (told : f ≡ Behind j l u) (c : NumberRead s (i + 1) 0 b f) where
+    module _ (t : Tally) {b : Tally} (q : b ≡ begun t i) {a : Behind} (c : NumberRead s (i + 1) 0 b (Ok a)) where
       abbrev NumberBack : Type 0
-      NumberBack = NumberRead s (suc i) 0 (begun t i) (Behind j l u)
+      NumberBack = NumberRead s (suc i) 0 (begun t i) (Ok a)
 
       number_back : NumberBack
-      number_back = subst (NumberRead s (suc i) 0 (begun t i)) told (subst₂ (λ a b. NumberRead s a 0 b f) (add-one i) q c)
+      number_back = subst₂ (λ j b. NumberRead s j 0 b (Ok a)) (add-one i) q c
 
-      pub path_halts : (E : List Key → Answer Test → Type 0) → Halts s E (path (n + 1)) j → Halts s E (test n) i
-      path_halts E d = second_halts s (some n) o.opens (o.nested, tt) (count_fork n) number_back.0 E (subst (λ m. Halts s E (path m) j) (add-one n) d)
+      pub path_halts : (E : List Key → Answer Test → Type 0) → Halts s E (path (n + 1)) a.next → Halts s E (test n) i
+      path_halts E d = second_halts s (some n) o.opens (o.nested, tt) (count_fork n) number_back.0 E (subst (λ m. Halts s E (path m) a.next) (add-one n) d)
 
-      pub count_back : {g : Read} {j₂ m : ℕ} {v w : Tally} → g ≡ Behind j₂ m v → Reading s (path (n + 1)) j l u g → w ≡ weighed v i m → Back s (test n) i k t j₂ k w
+      pub count_back : {j₂ m : ℕ} {v w : Tally} → Back s (path (n + 1)) a.next a.steps a.tally j₂ m v → w ≡ weighed v i m → Back s (test n) i k t j₂ k w
       unfolding count_fork
-      count_back {j₂ = j₂} {m = m} {v = v} gave d heavy =
-          let e = subst (λ x. Back s (path x) j l u j₂ m v) (add-one n) (back s (path (n + 1)) j l u gave d) in
+      count_back {j₂ = j₂} {m = m} {v = v} d heavy =
+          let e = subst (λ x. Back s (path x) a.next a.steps a.tally j₂ m v) (add-one n) d in
           weighed_back o (count_fork n) t number_back.0 e (count_stepped n number_back.0.value e.value number_back.1) heavy

@@ -15,16 +15,11 @@ pub fn begin(t: Tally, at: usize) -> Tally
     if 0 < t.left {
         return Tally {
             left: t.left - 1,
-            crowded: t.crowded,
-            heavy: t.heavy,
+            ..t
         };
     }
     if t.crowded == NOWHERE {
-        return Tally {
-            left: 0,
-            crowded: at,
-            heavy: t.heavy,
-        };
+        return Tally { crowded: at, ..t };
     }
     t
 }
@@ -36,12 +31,8 @@ pub fn weigh(t: Tally, at: usize, steps: usize) -> Tally
     if steps <= Rule::MAX_STEPS {
         return t;
     }
-    if t.heavy <= at {
-        return t;
-    }
     Tally {
-        left: t.left,
-        crowded: t.crowded,
-        heavy: at,
+        heavy: t.heavy.min(at),
+        ..t
     }
 }

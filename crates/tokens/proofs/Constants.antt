@@ -1,4 +1,5 @@
 -- Constants: what `tokens::quoted_bytes` and `constant` conclude is what the machine does with a constant.
+use Rattle.std.specs.Prelude.{Result}
 use Prim.Native.Nat.{ℕ, zero, suc, ◌+◌, ◌-◌, ◌≤◌, ◌<◌}
 use native.Mathlib.Omega.{arith}
 use native.Mathlib.Numerals.{add-one}
@@ -19,7 +20,8 @@ use Rattle.rule_spec.proofs.Comes.{comes_as, comes_none}
 use Rattle.lexer.specs.declared.Class.TheVariants.{Text}
 use Rattle.lexer.specs.Reading.{in_class}
 use Rattle.tokens.specs.declared.read.Tally.{Tally}
-use Rattle.tokens.specs.declared.read.Read.{Read}
+use Rattle.tokens.specs.declared.read.Behind.{Behind}
+use Rattle.tokens.specs.declared.read.Refusal.{Refusal}
 use Rattle.tokens.specs.Tallies.{tallied}
 use Rattle.tokens.specs.Readers.{Stands, Back, Halts, StuckAt, Reading}
 use Rattle.tokens.proofs.Joins.{Fork, ForkParts, first_halts, fork_reads}
@@ -99,7 +101,7 @@ module _ (s : List ℕ) where
     unfolding constant_fork
     constant_halts E q = first_halts s none h tt (constant_fork n) E (subst (Halts s E (quoted constant_bytes)) (add-one i) q)
 
-    pub constant_reads : (k : ℕ) (t : Tally) {j l : ℕ} {u : Tally} → Back s (quoted constant_bytes) (i + 1) k t j l u → (r : Read) → Reading s (byte 41) j l u r → Reading s (operand n) i k t r
+    pub constant_reads : (k : ℕ) (t : Tally) {j l : ℕ} {u : Tally} → Back s (quoted constant_bytes) (i + 1) k t j l u → (r : Result Behind Refusal) → Reading s (byte 41) j l u r → Reading s (operand n) i k t r
     unfolding constant_fork tallied
     constant_reads k t {j} {l} {u} c r d =
         fork_reads s none h tt (constant_fork n) (λ i. []) refl 0 (constant_parts n) k t

@@ -1,4 +1,5 @@
 -- What a reader may conclude of a symbol from what its first byte leads to: that it is read, or that reading ends in it.
+use Rattle.std.specs.Prelude.{Result, Ok, Err}
 use Prim.Native.Nat.{ℕ, suc, ◌+◌, ◌≤◌, ◌<◌}
 use native.Mathlib.Omega.{arith}
 use mathlib.Core.Path.{◌≡◌, refl, sym, ap, ap₂, ◌∙◌, subst}
@@ -12,8 +13,8 @@ use Rattle.rule_spec.specs.Machine.{Symbol, Stack, Value, move, Answer, stopped,
 use Rattle.rule_spec.specs.Readers.{key, keys, Returns}
 use Rattle.rule_spec.proofs.Comes.{fresh, comes_as, ends_as, comes_none, comes_one, ends_one, comes_two, ends_first, ends_second}
 use Rattle.tokens.specs.declared.read.Tally.{Tally}
-use Rattle.tokens.specs.declared.read.Read.{Read}
-use Rattle.tokens.specs.declared.read.Read.TheVariants.{Behind, Stuck, Deep}
+use Rattle.tokens.specs.declared.read.Behind.{Behind}
+use Rattle.tokens.specs.declared.read.Refusal.{Refusal}
 use Rattle.tokens.specs.Tallies.{noted, tallied}
 use Rattle.tokens.specs.Readers.{parts_of, size_of, width, Shallow, Stands, Back, Halts, Reading}
 
@@ -97,10 +98,9 @@ module _ (s : List ℕ) where
             (comes_as close stopped e (sym here.here) refl (comes_one close stopped x b mark y f.join f.moves c.returns))
             (omega arith) c.few (c.kept ∙ sym (tallied_append (new i) inner t))
 
-        pub lead_reads : (k : ℕ) (t : Tally) (r : Read) → Reading s y (suc i) k (tallied t (new i)) r → Reading s x i k t r
-        lead_reads k t (Behind j l u) h = lead_back t h
-        lead_reads k t (Stuck j) h = lead_halts _ h
-        lead_reads k t (Deep j) h = lead_halts _ h
+        pub lead_reads : (k : ℕ) (t : Tally) (r : Result Behind Refusal) → Reading s y (suc i) k (tallied t (new i)) r → Reading s x i k t r
+        lead_reads k t (Ok b) h = lead_back t h
+        lead_reads k t (Err e) h = lead_halts _ h
 
     -- ── Two symbols behind the byte ──
     module _ {x y z : Symbol} (f : Fork x y z b mark) where
@@ -154,7 +154,6 @@ module _ (s : List ℕ) where
             (omega arith) d.inside (omega arith) q.shallow q.returns (omega arith) d.few
             (d.kept ∙ ap (λ u. tallied u two) c.kept ∙ sym (tallied_append one two (tallied t (new i))) ∙ sym (tallied_append (new i) (one ++ two) t))
 
-        pub fork_reads : (k : ℕ) {j l : ℕ} (t : Tally) {u : Tally} (c : Back s y (suc i) (k + m) (tallied t (new i)) j l u) (r : Read) → Reading s z j l u r → Reading s x i k t r
-        fork_reads k t c (Behind j l u) h = fork_back t c h
-        fork_reads k t c (Stuck j) h = second_halts c _ h
-        fork_reads k t c (Deep j) h = second_halts c _ h
+        pub fork_reads : (k : ℕ) {j l : ℕ} (t : Tally) {u : Tally} (c : Back s y (suc i) (k + m) (tallied t (new i)) j l u) (r : Result Behind Refusal) → Reading s z j l u r → Reading s x i k t r
+        fork_reads k t c (Ok b) h = fork_back t c h
+        fork_reads k t c (Err e) h = second_halts c _ h

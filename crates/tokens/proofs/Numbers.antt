@@ -1,4 +1,5 @@
 -- Numbers: what `tokens::goes_on`, `figures` and `number` conclude is what the machine does with the number of a count.
+use Rattle.std.specs.Prelude.{Ok}
 use Prim.Native.Nat.{ℕ, suc, ◌+◌, ◌-◌, ◌*◌, ◌≤◌, ◌<◌}
 use native.Mathlib.Omega.{arith}
 use native.Mathlib.Numerals.{add-one}
@@ -25,10 +26,8 @@ use Rattle.lexer.specs.declared.Class.TheVariants as class
 use Rattle.lexer.specs.Reading.{in_class}
 use Rattle.tokens.specs.declared.Digits.{Digits}
 use Rattle.tokens.specs.declared.read.Tally.{Tally}
-use Rattle.tokens.specs.declared.read.Read.{Read}
-use Rattle.tokens.specs.declared.read.Read.TheVariants.{Behind, Stuck, Deep}
 use Rattle.tokens.specs.Tallies.{tallied}
-use Rattle.tokens.specs.Readers.{Back, StuckAt, Reading, NumberRead}
+use Rattle.tokens.specs.Readers.{Back, StuckAt, NumberRead}
 use Rattle.tokens.specs.Numbers.{told, figured, numbered}
 use Rattle.tokens.proofs.Places.{stands_cons, at_end_lem, stuck_end, stuck_at}
 use Rattle.tokens.proofs.Bytes.{and_is}
@@ -57,9 +56,9 @@ module _ (s : List ℕ) where
   unfolding numbered
   none_at_end e = rw (at_end_lem s e) refl
 
-  pub ended : {n i : ℕ} → i ≡ length s → figured n i (drop i s) ≡ told n i
+  pub ended : {n i : ℕ} → i ≡ length s → figured n i (drop i s) ≡ told n (length s)
   unfolding figured
-  ended e = rw (at_end_lem s e) refl
+  ended {n} e = rw (at_end_lem s e) (ap (told n) e)
 
   module _ {i : ℕ} (h : i < length s) where
     pub none_here : in_class class.Digit (get_or s i 0) ≡ false → told 0 i ≡ numbered i (drop i s)
@@ -149,11 +148,11 @@ module _ (s : List ℕ) where
             let n : f.next ≡ i + length ds = ap (λ f. f.next) (e ∙ ap (numbered i) d ∙ numbered_is ds i r l c) in
             absurd (omega arith)
 
-    pub number_back : (k : ℕ) (t : Tally) → f.next ≢ i → k ≤ i → NumberRead s i k t (Behind f.next k t)
+    pub number_back : (k : ℕ) (t : Tally) → f.next ≢ i → k ≤ i → NumberRead s i k t (Ok (record { next = f.next; steps = k; tally = t }))
     unfolding tallied
     number_back k t moves few = go (found i)
       where
-        go : Found i → NumberRead s i k t (Behind f.next k t)
+        go : Found i → NumberRead s i k t (Ok (record { next = f.next; steps = k; tally = t }))
         go (inl (z, stuck)) = absurd (moves (ap (λ f. f.next) (e ∙ z)))
         go (inr (ds, r, d, l, c)) =
             let p = some_digit ds l in
@@ -173,9 +172,3 @@ module _ (s : List ℕ) where
               kept = refl;
             } in
             (whole, decimal_reading ds ((number_iff ds).0 l).0)
-
-  -- whatever its digits are
-  pub number_reads : (i k : ℕ) (t : Tally) (r : Read) → NumberRead s i k t r → Reading s number i k t r
-  number_reads i k t (Behind j l u) h = h.0
-  number_reads i k t (Stuck j) h = h
-  number_reads i k t (Deep j) h = h

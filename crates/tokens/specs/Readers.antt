@@ -1,5 +1,5 @@
 -- What a reader answers: it goes along the rule as the machine does that reads rules byte by byte.
-use Rattle.std.specs.Prelude.{ℕ, suc, ◌+◌, ◌≤◌, ◌<◌, ◌-◌, ◌≡◌, ◌≢◌, Bool, true, false, List, [], ◌∷◌, length, drop}
+use Rattle.std.specs.Prelude.{ℕ, suc, ◌+◌, ◌≤◌, ◌<◌, ◌-◌, ◌≡◌, ◌≢◌, Bool, true, false, List, [], ◌∷◌, length, drop, Result, Ok, Err}
 use Rattle.std.proofs.Common.{inl, inr}
 use Rattle.limits.specs.Limits.{label_bytes, rule_nesting}
 use Rattle.lists.specs.Lists.{All}
@@ -12,10 +12,9 @@ use Rattle.rule_spec.specs.Bytes.{choose}
 use Rattle.rule_spec.specs.Machine.{Symbol, test, path, byte, label, tail, quoted, number, figures, signed, or_equal, operand, Stack, Value, Values, Operand, Answer, stopped, close, Key}
 use Rattle.rule_spec.specs.Readers.{goes, Ends, Stop, Meet, keys, spell_operand, Returns}
 use Rattle.tokens.specs.declared.read.Tally.{Tally}
-use Rattle.tokens.specs.declared.Sign.{Sign}
-use Rattle.tokens.specs.declared.Sign.TheVariants.{Passed, NoSign}
-use Rattle.tokens.specs.declared.read.Read.{Read}
-use Rattle.tokens.specs.declared.read.Read.TheVariants.{Behind, Stuck, Deep}
+use Rattle.tokens.specs.declared.read.Behind.{Behind}
+use Rattle.tokens.specs.declared.read.Refusal.{Refusal}
+use Rattle.tokens.specs.declared.read.Refusal.TheVariants.{Stuck, Deep}
 use Rattle.tokens.specs.Tallies.{tallied}
 
 -- ── Of what a symbol reads: its parts, its steps, and how many bytes it has ──
@@ -76,6 +75,11 @@ abbrev pub Lacks : ℕ → List ℕ → Type 0
 Lacks b [] = Unit {0}
 Lacks b (c ∷ w) = c ≢ b
 
+-- how the machine answers where reading is refused
+abbrev pub ending : Refusal → List Key → Answer Test → Type 0
+ending (Stuck j) = Stop {R = Test} close stopped j
+ending (Deep j) = Meet {R = Test} close stopped (j, suc rule_nesting)
+
 module _ (s : List ℕ) where
   pub record Stands (i b : ℕ) : Type 0 where
     pub inside : i < length s
@@ -110,16 +114,18 @@ module _ (s : List ℕ) where
   abbrev pub DeepAt : ℕ → Symbol → ℕ → Type 0
   DeepAt j = Halts (Meet {R = Test} close stopped (j, suc rule_nesting))
 
-  abbrev pub Reading : Symbol → ℕ → ℕ → Tally → Read → Type 0
-  Reading x i k t (Behind j l u) = Back x i k t j l u
-  Reading x i k t (Stuck j) = StuckAt j x i
-  Reading x i k t (Deep j) = DeepAt j x i
+  -- the way in which it ends, by what is answered: StuckAt j at Stuck j, DeepAt j at Deep j
+  abbrev pub RefusedAt : Refusal → Symbol → ℕ → Type 0
+  RefusedAt e = Halts (ending e)
+
+  abbrev pub Reading : Symbol → ℕ → ℕ → Tally → Result Behind Refusal → Type 0
+  Reading x i k t (Ok b) = Back x i k t b.next b.steps b.tally
+  Reading x i k t (Err e) = RefusedAt e x i
 
   -- the n of a count: its digits are those of the number that they make
-  abbrev pub NumberRead : ℕ → ℕ → Tally → Read → Type 0
-  NumberRead i k t (Behind j l u) = (c : Back number i k t j l u) × (decimal (reading c.value) ≡ c.value)
-  NumberRead i k t (Stuck j) = StuckAt j number i
-  NumberRead i k t (Deep j) = DeepAt j number i
+  abbrev pub NumberRead : ℕ → ℕ → Tally → Result Behind Refusal → Type 0
+  NumberRead i k t (Ok b) = (c : Back number i k t b.next b.steps b.tally) × (decimal (reading c.value) ≡ c.value)
+  NumberRead i k t (Err e) = RefusedAt e number i
 
   -- behind the first letter of a name
   pub record NameEnds (i j : ℕ) : Type 0 where
@@ -139,6 +145,8 @@ module _ (s : List ℕ) where
     pub long : j ≡ i + length (sign o)
     pub turns : (n : ℕ) → Turns (signed n) (operand n) (λ w. (o, w)) i j
 
-  abbrev pub SignRead : ℕ → Sign → Type 0
-  SignRead i (Passed j) = (o : Op) × Signs o i j
-  SignRead i (NoSign j) = (n : ℕ) → StuckAt j (signed n) i
+  -- a sign holds no part, so none is too deep
+  abbrev pub SignRead : ℕ → Result ℕ Refusal → Type 0
+  SignRead i (Ok j) = (o : Op) × Signs o i j
+  SignRead i (Err (Stuck j)) = (n : ℕ) → StuckAt j (signed n) i
+  SignRead i (Err (Deep j)) = ⊥

@@ -3,6 +3,7 @@ ghost use Rattle.std.specs.Prelude.{◌≤◌, suc, length};
 ghost use Rattle.limits.specs.Limits.{rule_nesting};
 ghost use Rattle.tokens.specs.Heads.{TestByte, PathByte, TestBegins, PathBegins};
 
+use crate::read::Refusal;
 use limits::Rule;
 
 #[derive(Clone, Copy)]
@@ -12,8 +13,6 @@ pub enum TestHead {
     TwoTests,
     Comparison,
     Count,
-    NoTest,
-    DeepTest,
 }
 
 #[derive(Clone, Copy)]
@@ -23,67 +22,59 @@ pub enum PathHead {
     Bracket,
     TwoPaths,
     Star,
-    NoPath,
-    DeepPath,
 }
 
-fn test_byte(b: u8) -> TestHead
+fn test_byte(b: u8) -> Option<TestHead>
     ensures { TestByte b result }
 {
     match b {
-        b':' => TestHead::Name,
-        b'!' => TestHead::Not,
-        b'&' | b'|' => TestHead::TwoTests,
-        b'(' => TestHead::Comparison,
-        b'#' => TestHead::Count,
-        _ => TestHead::NoTest,
+        b':' => Some(TestHead::Name),
+        b'!' => Some(TestHead::Not),
+        b'&' | b'|' => Some(TestHead::TwoTests),
+        b'(' => Some(TestHead::Comparison),
+        b'#' => Some(TestHead::Count),
+        _ => None,
     }
 }
 
-fn path_byte(b: u8) -> PathHead
+fn path_byte(b: u8) -> Option<PathHead>
     ensures { PathByte b result }
 {
     match b {
-        b'e' => PathHead::Empty,
-        b'L' | b'R' | b'l' | b'r' => PathHead::Step,
-        b'[' => PathHead::Bracket,
-        b'+' | b'.' => PathHead::TwoPaths,
-        b'*' => PathHead::Star,
-        _ => PathHead::NoPath,
+        b'e' => Some(PathHead::Empty),
+        b'L' | b'R' | b'l' | b'r' => Some(PathHead::Step),
+        b'[' => Some(PathHead::Bracket),
+        b'+' | b'.' => Some(PathHead::TwoPaths),
+        b'*' => Some(PathHead::Star),
+        _ => None,
     }
 }
 
 // A part too deep is refused only where one begins.
-pub fn test_head(s: &[u8], at: usize, n: usize) -> TestHead
+pub fn test_head(s: &[u8], at: usize, n: usize) -> Result<TestHead, Refusal>
     requires { (at ≤ length s.now) × (n ≤ suc rule_nesting) }
     ensures { TestBegins s.now at n result }
 {
     if at == s.len() {
-        return TestHead::NoTest;
+        return Err(Refusal::Stuck(at));
     }
-    let h = test_byte(s[at]);
-    if n <= Rule::MAX_NESTING {
-        return h;
-    }
-    match h {
-        TestHead::NoTest => TestHead::NoTest,
-        _ => TestHead::DeepTest,
+    match test_byte(s[at]) {
+        Some(test) if n <= Rule::MAX_NESTING => Ok(test),
+        Some(_) => Err(Refusal::Deep(at)),
+        None => Err(Refusal::Stuck(at)),
     }
 }
 
-pub fn path_head(s: &[u8], at: usize, n: usize) -> PathHead
+pub fn path_head(s: &[u8], at: usize, n: usize) -> Result<PathHead, Refusal>
     requires { (at ≤ length s.now) × (n ≤ suc rule_nesting) }
     ensures { PathBegins s.now at n result }
 {
     if at == s.len() {
-        return PathHead::NoPath;
+        return Err(Refusal::Stuck(at));
     }
-    let h = path_byte(s[at]);
-    if n <= Rule::MAX_NESTING {
-        return h;
-    }
-    match h {
-        PathHead::NoPath => PathHead::NoPath,
-        _ => PathHead::DeepPath,
+    match path_byte(s[at]) {
+        Some(path) if n <= Rule::MAX_NESTING => Ok(path),
+        Some(_) => Err(Refusal::Deep(at)),
+        None => Err(Refusal::Stuck(at)),
     }
 }

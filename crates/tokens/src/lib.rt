@@ -13,35 +13,29 @@ ghost use Rattle.tokens.specs.Numbers.{numbered};
 
 use lexer::{Class, fits};
 use limits::{Document, Rule};
-use read::{Read, Tally};
-
-// Where a comparison goes on behind its sign, or the first byte that no sign has.
-#[derive(Clone, Copy)]
-pub enum Sign {
-    Passed(usize),
-    NoSign(usize),
-}
+use read::{Behind, Refusal, Tally};
 
 // Whether the byte at an offset is x.
 pub fn stands(s: &[u8], at: usize, x: u8) -> bool
     requires { at ≤ length s.now }
     ensures { Stood s.now at x result }
 {
-    if at == s.len() {
-        return false;
-    }
-    s[at] == x
+    at < s.len() && s[at] == x
 }
 
 // The byte x, behind which reading goes on.
-pub fn closing(s: &[u8], at: usize, x: u8, k: usize, t: Tally) -> Read
+pub fn closing(s: &[u8], at: usize, x: u8, k: usize, t: Tally) -> Result<Behind, Refusal>
     requires { (at ≤ length s.now) × (k ≤ at) }
     ensures { Reading s.now (byte x) at k t result }
 {
     if stands(s, at, x) {
-        Read::Behind(at + 1, k, t)
+        Ok(Behind {
+            next: at + 1,
+            steps: k,
+            tally: t,
+        })
     } else {
-        Read::Stuck(at)
+        Err(Refusal::Stuck(at))
     }
 }
 
@@ -50,34 +44,26 @@ fn name_end(s: &[u8], at: usize) -> usize
     requires { at ≤ length s.now }
     ensures { NameEnds s.now at result }
 {
-    let mut i = at;
-    while i < s.len() {
-        if i - at == Document::MAX_LABEL - 1 {
+    for i in at..s.len() {
+        if i - at == Document::MAX_LABEL - 1 || !fits(Class::Label, s[i]) {
             return i;
         }
-        if !fits(Class::Label, s[i]) {
-            return i;
-        }
-        i += 1;
     }
-    i
+    s.len()
 }
 
-pub fn name(s: &[u8], at: usize, k: usize, t: Tally) -> Read
+pub fn name(s: &[u8], at: usize, k: usize, t: Tally) -> Result<Behind, Refusal>
     requires { (at ≤ length s.now) × (k ≤ at) }
     ensures { Reading s.now label at k t result }
 {
-    if at == s.len() {
-        return Read::Stuck(at);
+    if at == s.len() || !s[at].is_ascii_lowercase() {
+        return Err(Refusal::Stuck(at));
     }
-    let b = s[at];
-    if b < b'a' {
-        return Read::Stuck(at);
-    }
-    if b'z' < b {
-        return Read::Stuck(at);
-    }
-    Read::Behind(name_end(s, at + 1), k, t)
+    Ok(Behind {
+        next: name_end(s, at + 1),
+        steps: k,
+        tally: t,
+    })
 }
 
 // The number that digits make, and the offset behind them.
@@ -100,13 +86,7 @@ fn goes_on(n: usize, b: u8) -> bool
     requires { n ≤ rule_count }
     ensures { result ≡ goes_on n b }
 {
-    if !fits(Class::Digit, b) {
-        return false;
-    }
-    if n == 0 {
-        return false;
-    }
-    with_digit(n, b) <= Rule::MAX_COUNT
+    fits(Class::Digit, b) && n != 0 && with_digit(n, b) <= Rule::MAX_COUNT
 }
 
 // The digits of a count's number from an offset on, as many as it can have; none make 0.
@@ -122,91 +102,84 @@ pub fn figures(s: &[u8], at: usize) -> Digits
         return Digits { value: 0, next: at };
     }
     let mut n = with_digit(0, first);
-    let mut i = at + 1;
-    while i < s.len() {
+    for i in at + 1..s.len() {
         let b = s[i];
         if !goes_on(n, b) {
             return Digits { value: n, next: i };
         }
         n = with_digit(n, b);
-        i += 1;
     }
-    Digits { value: n, next: i }
+    Digits {
+        value: n,
+        next: s.len(),
+    }
 }
 
 // The number of a count, behind which its path is due.
-pub fn number(s: &[u8], at: usize, k: usize, t: Tally) -> Read
+pub fn number(s: &[u8], at: usize, k: usize, t: Tally) -> Result<Behind, Refusal>
     requires { (at ≤ length s.now) × (k ≤ at) }
     ensures { NumberRead s.now at k t result }
 {
     let f = figures(s, at);
-    let j = f.next;
-    if j == at {
-        return Read::Stuck(at);
+    if f.next == at {
+        return Err(Refusal::Stuck(at));
     }
-    Read::Behind(j, k, t)
+    Ok(Behind {
+        next: f.next,
+        steps: k,
+        tally: t,
+    })
 }
 
 // The bytes of a constant behind its opening quote, and the quote that ends it.
-fn quoted_bytes(s: &[u8], at: usize, k: usize, t: Tally) -> Read
+fn quoted_bytes(s: &[u8], at: usize, k: usize, t: Tally) -> Result<Behind, Refusal>
     requires { (at ≤ length s.now) × (k ≤ at) }
     ensures { Reading s.now (quoted constant_bytes) at k t result }
 {
-    let mut i = at;
-    while i < s.len() {
+    for i in at..s.len() {
         let b = s[i];
-        if b == b'\"' {
-            return Read::Behind(i + 1, k, t);
+        if b == b'"' {
+            return Ok(Behind {
+                next: i + 1,
+                steps: k,
+                tally: t,
+            });
         }
-        if i - at == Rule::MAX_CONSTANT {
-            return Read::Stuck(i);
+        if i == at + Rule::MAX_CONSTANT || !fits(Class::Text, b) {
+            return Err(Refusal::Stuck(i));
         }
-        if !fits(Class::Text, b) {
-            return Read::Stuck(i);
-        }
-        i += 1;
     }
-    Read::Stuck(i)
+    Err(Refusal::Stuck(s.len()))
 }
 
 // A constant from its opening quote on, and the bracket that ends the comparison.
-pub fn constant(s: &[u8], at: usize, k: usize, t: Tally) -> Read
+pub fn constant(s: &[u8], at: usize, k: usize, t: Tally) -> Result<Behind, Refusal>
     requires { Stands s.now at 34 × (k ≤ at) }
     ensures { (n : ℕ) → Reading s.now (operand n) at k t result }
 {
-    let c = quoted_bytes(s, at + 1, k, t);
-    let Read::Behind(j, l, u) = c else {
-        return c;
-    };
-    closing(s, j, b')', l, u)
+    let c = quoted_bytes(s, at + 1, k, t)?;
+    closing(s, c.next, b')', c.steps, c.tally)
 }
 
 // A sign ends behind its first byte unless = follows; a lone ! is none.
-pub fn read_sign(s: &[u8], at: usize) -> Sign
+pub fn read_sign(s: &[u8], at: usize) -> Result<usize, Refusal>
     requires { at ≤ length s.now }
     ensures { SignRead s.now at result }
 {
     if at == s.len() {
-        return Sign::NoSign(at);
+        return Err(Refusal::Stuck(at));
     }
-    let b = s[at];
     let equal = stands(s, at + 1, b'=');
-    match b {
-        b'=' => Sign::Passed(at + 1),
+    match s[at] {
+        b'=' => Ok(at + 1),
         b'!' => {
             if equal {
-                Sign::Passed(at + 2)
+                Ok(at + 2)
             } else {
-                Sign::NoSign(at + 1)
+                Err(Refusal::Stuck(at + 1))
             }
         }
-        b'<' | b'>' => {
-            if equal {
-                Sign::Passed(at + 2)
-            } else {
-                Sign::Passed(at + 1)
-            }
-        }
-        _ => Sign::NoSign(at),
+        b'<' | b'>' => { if equal { Ok(at + 2) } else { Ok(at + 1) } }
+        _ => Err(Refusal::Stuck(at)),
     }
 }

@@ -1,4 +1,5 @@
 -- The verdict of the check is what the definition of its answer says.
+use Rattle.std.specs.Prelude.{Result, Ok, Err}
 use Prim.Native.Nat.{ℕ}
 use mathlib.Core.Path.{refl, ap, subst}
 use mathlib.Core.List.{List}
@@ -9,8 +10,8 @@ use Rattle.document_spec.specs.Library.{Node}
 use Rattle.document_spec.specs.Verdict.{DocumentGround, Accepts, Checked}
 use Rattle.document_spec.proofs.Accepted.{accepts_one}
 use Rattle.document_spec.proofs.Verdict.{accepted_unrefused}
-use Rattle.document.specs.declared.Verdict.{Verdict}
-use Rattle.document.specs.declared.Verdict.TheVariants.{Accepted, Length, Form, Count, Tree, Duplicate}
+use Rattle.document.specs.declared.Refusal as Document
+use Rattle.document.specs.declared.Refusal.TheVariants.{Length, Form, Count, Tree, Duplicate}
 use Rattle.document.specs.Check.{Judged}
 use Rattle.verdicts.specs.Answers.{answer_of}
 
@@ -27,10 +28,10 @@ module _ (s : List ℕ) where
     accepted = λ ms b. (refl, refl, ap length (accepts_one s ns ms a b));
   }
 
-  pub checked_by : (v : Verdict) → Judged s v → Checked s (answer_of v).number (answer_of v).place (answer_of v).nodes
-  checked_by (Accepted n) (ns, a, e) = subst (λ n. Checked s 0 0 n) e (accepted_so ns a)
-  checked_by Length f = refused_so document_length f
-  checked_by (Form line) f = refused_so (line_form line) f
-  checked_by Count f = refused_so node_count f
-  checked_by (Tree line) f = refused_so (tree_rule line) f
-  checked_by (Duplicate line) f = refused_so (duplicate_attribute line) f
+  pub checked_by : (v : Result ℕ Document.Refusal) → Judged s v → Checked s (answer_of v).number (answer_of v).place (answer_of v).nodes
+  checked_by (Ok n) (ns, a, e) = subst (λ n. Checked s 0 0 n) e (accepted_so ns a)
+  checked_by (Err Length) f = refused_so document_length f
+  checked_by (Err (Form line)) f = refused_so (line_form line) f
+  checked_by (Err Count) f = refused_so node_count f
+  checked_by (Err (Tree line)) f = refused_so (tree_rule line) f
+  checked_by (Err (Duplicate line)) f = refused_so (duplicate_attribute line) f

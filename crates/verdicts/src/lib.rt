@@ -3,19 +3,88 @@
 
 ghost use Rattle.std.specs.Prelude.{◌≤◌, ◌<◌, ◌≡◌};
 ghost use Rattle.limits.specs.Limits.{document_nodes};
+ghost use Rattle.refusals.specs.Refusals.{number, place};
 ghost use Rattle.xpath.specs.Syntax.{Test};
-ghost use Rattle.verdicts.specs.Answers.{answer_of, rule_answer_of};
+ghost use Rattle.verdicts.specs.declared.Refusal.TheVariants as refusal;
+ghost use Rattle.verdicts.specs.Answers.{answer_of, rule_answer_of, ground_of, number_of, place_of, nodes_of};
 ghost use Rattle.rule_spec.specs.Verdict as Grammar;
 ghost use Rattle.document_spec.specs.Verdict.{Checked};
 ghost use Rattle.verdicts.specs.Judging.{JudgesTexts, JudgesBuffers, Judges, Equates, HasNodes, JudgesValues};
 
-use document::Verdict;
 use limits::Scratch;
 use rule_parts::kinds::{Operator, TestKind, test_kind};
 use rule_parts::parted;
 use tokens::stands;
 
-// What the document check returns: number, place and N.
+// Why a call is refused: a ground of the document or of the rule, too few words of scratch or too few marks, a rule that is no equality between two paths, or a list with a number of no node.
+#[derive(Clone, Copy)]
+pub enum Refusal {
+    Document(document::Refusal),
+    Rule(rule::Refusal),
+    Words,
+    Marks,
+    Equality,
+    Values,
+}
+
+impl From<document::Refusal> for Refusal {
+    ghost from_gives = { λ d r. r ≡ refusal.Document d };
+
+    fn from(ground: document::Refusal) -> Refusal {
+        Refusal::Document(ground)
+    }
+}
+
+impl From<rule::Refusal> for Refusal {
+    ghost from_gives = { λ d r. r ≡ refusal.Rule d };
+
+    fn from(ground: rule::Refusal) -> Refusal {
+        Refusal::Rule(ground)
+    }
+}
+
+impl Refusal {
+    // The number of the ground.
+    pub fn number(self) -> u16
+        ensures { result ≡ number (ground_of self) }
+    {
+        match self {
+            Refusal::Document(document::Refusal::Length) => 1,
+            Refusal::Document(document::Refusal::Form(_)) => 2,
+            Refusal::Document(document::Refusal::Count) => 3,
+            Refusal::Document(document::Refusal::Tree(_)) => 4,
+            Refusal::Document(document::Refusal::Duplicate(_)) => 14,
+            Refusal::Rule(rule::Refusal::Length) => 5,
+            Refusal::Rule(rule::Refusal::Unreadable(_)) => 6,
+            Refusal::Rule(rule::Refusal::Nesting(_)) => 7,
+            Refusal::Rule(rule::Refusal::Tests(_)) => 8,
+            Refusal::Rule(rule::Refusal::Steps(_)) => 9,
+            Refusal::Words => 10,
+            Refusal::Marks => 11,
+            Refusal::Equality => 23,
+            Refusal::Values => 13,
+        }
+    }
+
+    // Its line in the document, or its offset in the rule; 0 where it has none.
+    pub fn place(self) -> usize
+        ensures { result ≡ place (ground_of self) }
+    {
+        match self {
+            Refusal::Document(document::Refusal::Count) => 1,
+            Refusal::Document(document::Refusal::Form(line)) => line,
+            Refusal::Document(document::Refusal::Tree(line)) => line,
+            Refusal::Document(document::Refusal::Duplicate(line)) => line,
+            Refusal::Rule(rule::Refusal::Unreadable(offset)) => offset,
+            Refusal::Rule(rule::Refusal::Nesting(offset)) => offset,
+            Refusal::Rule(rule::Refusal::Tests(offset)) => offset,
+            Refusal::Rule(rule::Refusal::Steps(offset)) => offset,
+            _ => 0,
+        }
+    }
+}
+
+// What the document check returns: number, place and N. C reads it.
 #[repr(C)]
 #[derive(Clone, Copy)]
 pub struct DocumentAnswer {
@@ -24,40 +93,23 @@ pub struct DocumentAnswer {
     pub nodes: usize,
 }
 
-fn document_answer(v: Verdict) -> DocumentAnswer
+fn document_answer(v: Result<usize, document::Refusal>) -> DocumentAnswer
     ensures { result ≡ answer_of v }
 {
     match v {
-        Verdict::Accepted(n) => DocumentAnswer {
+        Ok(n) => DocumentAnswer {
             number: 0,
             place: 0,
             nodes: n,
         },
-        Verdict::Length => DocumentAnswer {
-            number: 1,
-            place: 0,
-            nodes: 0,
-        },
-        Verdict::Form(line) => DocumentAnswer {
-            number: 2,
-            place: line,
-            nodes: 0,
-        },
-        Verdict::Count => DocumentAnswer {
-            number: 3,
-            place: 1,
-            nodes: 0,
-        },
-        Verdict::Tree(line) => DocumentAnswer {
-            number: 4,
-            place: line,
-            nodes: 0,
-        },
-        Verdict::Duplicate(line) => DocumentAnswer {
-            number: 14,
-            place: line,
-            nodes: 0,
-        },
+        Err(ground) => {
+            let d = Refusal::from(ground);
+            DocumentAnswer {
+                number: d.number(),
+                place: d.place(),
+                nodes: 0,
+            }
+        }
     }
 }
 
@@ -68,7 +120,7 @@ pub fn check_document(document: &[u8]) -> DocumentAnswer
     document_answer(document::check(document))
 }
 
-// What the rule check returns: number and place.
+// What the rule check returns: number and place. C reads it.
 #[repr(C)]
 #[derive(Clone, Copy)]
 pub struct RuleAnswer {
@@ -76,34 +128,21 @@ pub struct RuleAnswer {
     pub place: usize,
 }
 
-fn rule_answer(v: rule::Verdict) -> RuleAnswer
+fn rule_answer(v: Result<(), rule::Refusal>) -> RuleAnswer
     ensures { result ≡ rule_answer_of v }
 {
     match v {
-        rule::Verdict::Accepted => RuleAnswer {
+        Ok(()) => RuleAnswer {
             number: 0,
             place: 0,
         },
-        rule::Verdict::Length => RuleAnswer {
-            number: 5,
-            place: 0,
-        },
-        rule::Verdict::Unreadable(offset) => RuleAnswer {
-            number: 6,
-            place: offset,
-        },
-        rule::Verdict::Nesting(offset) => RuleAnswer {
-            number: 7,
-            place: offset,
-        },
-        rule::Verdict::Tests(offset) => RuleAnswer {
-            number: 8,
-            place: offset,
-        },
-        rule::Verdict::Steps(offset) => RuleAnswer {
-            number: 9,
-            place: offset,
-        },
+        Err(ground) => {
+            let r = Refusal::from(ground);
+            RuleAnswer {
+                number: r.number(),
+                place: r.place(),
+            }
+        }
     }
 }
 
@@ -114,77 +153,36 @@ pub fn check_rule(rule: &[u8]) -> RuleAnswer
     rule_answer(rule::check(rule))
 }
 
-// Number and place of the first ground of refusal; or zeros, and the number of nodes.
-#[derive(Clone, Copy)]
-pub struct Judgement {
-    pub number: u16,
-    pub place: usize,
-    pub nodes: usize,
-}
-
-// Judges a document and a rule, in this order.
-fn judge_texts(document: &[u8], rule: &[u8]) -> Judgement
-    ensures { JudgesTexts document.now rule.now result.number result.place result.nodes }
+// Judges a document and a rule, in this order. The number of nodes is told.
+fn judge_texts(document: &[u8], rule: &[u8]) -> Result<usize, Refusal>
+    ensures { JudgesTexts document.now rule.now (number_of result) (place_of result) (nodes_of result) }
 {
-    let d = check_document(document);
-    if d.number != 0 {
-        return Judgement {
-            number: d.number,
-            place: d.place,
-            nodes: 0,
-        };
-    }
-    let r = check_rule(rule);
-    if r.number != 0 {
-        return Judgement {
-            number: r.number,
-            place: r.place,
-            nodes: 0,
-        };
-    }
-    Judgement {
-        number: 0,
-        place: 0,
-        nodes: d.nodes,
-    }
+    let nodes = document::check(document)?;
+    rule::check(rule)?;
+    Ok(nodes)
 }
 
 // Judges the lengths of the two buffers, in this order, for so many nodes.
-fn judge_buffers(nodes: usize, words: usize, marks: usize) -> Judgement
+fn judge_buffers(nodes: usize, words: usize, marks: usize) -> Result<usize, Refusal>
     requires { (0 < nodes) × (nodes ≤ document_nodes) }
-    ensures { JudgesBuffers nodes words marks result.number result.place result.nodes }
+    ensures { JudgesBuffers nodes words marks (number_of result) (place_of result) (nodes_of result) }
 {
     let needed = Scratch::needed(nodes);
     if words < needed {
-        return Judgement {
-            number: 10,
-            place: 0,
-            nodes: 0,
-        };
+        return Err(Refusal::Words);
     }
     if marks < nodes {
-        return Judgement {
-            number: 11,
-            place: 0,
-            nodes: 0,
-        };
+        return Err(Refusal::Marks);
     }
-    Judgement {
-        number: 0,
-        place: 0,
-        nodes,
-    }
+    Ok(nodes)
 }
 
-// Judges a document, a rule, and the lengths of the two buffers, in this order.
-pub fn judge(document: &[u8], rule: &[u8], words: usize, marks: usize) -> Judgement
-    ensures { Judges document.now rule.now words marks result.number result.place result.nodes }
+// Judges a document, a rule, and the lengths of the two buffers, in this order. The first ground of refusal is told, or the number of nodes.
+pub fn judge(document: &[u8], rule: &[u8], words: usize, marks: usize) -> Result<usize, Refusal>
+    ensures { Judges document.now rule.now words marks (number_of result) (place_of result) (nodes_of result) }
 {
-    let t = judge_texts(document, rule);
-    if t.number != 0 {
-        return t;
-    }
-    judge_buffers(t.nodes, words, marks)
+    let nodes = judge_texts(document, rule)?;
+    judge_buffers(nodes, words, marks)
 }
 
 // Whether an accepted rule is an equality between two paths: a constant would begin with a quote.
@@ -192,15 +190,10 @@ fn is_equality(rule: &[u8]) -> bool
     requires { (T : Test) × Grammar.Accepts rule.now T }
     ensures { (T : Test) → Grammar.Accepts rule.now T → Equates T result }
 {
-    let kind = test_kind(rule, 0);
-    match kind {
+    match test_kind(rule, 0) {
         TestKind::Comparison => {
             let m = parted(rule, 0);
-            let o = m.operator;
-            match o {
-                Operator::Equal => !stands(rule, m.second, b'"'),
-                _ => false,
-            }
+            matches!(m.operator, Operator::Equal) && !stands(rule, m.second, b'"')
         }
         _ => false,
     }
@@ -210,12 +203,7 @@ fn is_equality(rule: &[u8]) -> bool
 fn has_nodes(values: &[u16], nodes: usize) -> bool
     ensures { HasNodes values.now nodes result }
 {
-    for i in 0..values.len() {
-        if values[i] as usize >= nodes {
-            return false;
-        }
-    }
-    true
+    values.iter().all(|v| (*v as usize) < nodes)
 }
 
 // Judges a call by a list of values. Besides, the rule is to be an equality between two paths, which is told in front of the buffers, and the list to have nodes alone, which is told last.
@@ -225,33 +213,18 @@ pub fn judge_values(
     values: &[u16],
     words: usize,
     marks: usize,
-) -> Judgement
-    ensures { JudgesValues document.now rule.now values.now words marks result.number result.place result.nodes }
+) -> Result<usize, Refusal>
+    ensures { JudgesValues document.now rule.now values.now words marks (number_of result) (place_of result) (nodes_of result) }
 {
-    let t = judge_texts(document, rule);
-    if t.number != 0 {
-        return t;
-    }
+    let nodes = judge_texts(document, rule)?;
     let equality = is_equality(rule);
-    let b = judge_buffers(t.nodes, words, marks);
-    let listed = has_nodes(values, t.nodes);
-    let number = b.number;
     if !equality {
-        return Judgement {
-            number: 23,
-            place: 0,
-            nodes: 0,
-        };
+        return Err(Refusal::Equality);
     }
-    if number != 0 {
-        return b;
-    }
+    let lent = judge_buffers(nodes, words, marks)?;
+    let listed = has_nodes(values, nodes);
     if !listed {
-        return Judgement {
-            number: 13,
-            place: 0,
-            nodes: 0,
-        };
+        return Err(Refusal::Values);
     }
-    b
+    Ok(lent)
 }

@@ -1,15 +1,20 @@
 -- `evaluation::evaluate` meets its contract.
-use Rattle.verdicts.proofs.Judging.{judged_accepted}
+use mathlib.Core.Path.{refl, sym, subst}
+use Rattle.verdicts.proofs.Judging.{judged_accepted, positive}
+use Rattle.evaluation.specs.Outcomes.{Evaluated}
 use Rattle.evaluation.proofs.Calls.{call_refused, call_accepted}
 use Rattle.evaluation.proofs.evaluate.Goals as goal
 
-pub returns-then-j-ne0 : goal.returns-then-j-ne0
-returns-then-j-ne0 c = call_refused c.judge-j.ensures c.args.e c.if-j-ne0.true
-
 pub select-picked-requires : goal.select-picked-requires
-select-picked-requires c = judged_accepted c.judge-j.ensures c.if-j-ne0.false
+select-picked-requires c = judged_accepted c.in-Ok.ensures refl
 
-pub returns : goal.returns
-returns c =
+pub returns-in-Ok : goal.returns-in-Ok
+returns-in-Ok c =
     let s = c.select-picked in
-    call_accepted c.judge-j.ensures c.args.e c.if-j-ne0.false s.result.selected s.result.snippets s.new.scratch s.new.marks s.ensures
+    call_accepted c.in-Ok.ensures c.args.e refl s.result.selected s.result.snippets s.new.scratch s.new.marks s.ensures
+
+pub returns-in-Err : goal.returns-in-Err
+returns-in-Err c =
+    let a = c.args in
+    subst (λ o. Evaluated a.e a.document.now a.rule.now a.scratch.now a.marks.now o a.scratch.now a.marks.now) (sym c.refused.ensures)
+    (call_refused c.in-Err.ensures a.e (positive c.in-Err.refusal))

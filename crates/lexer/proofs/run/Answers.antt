@@ -7,6 +7,7 @@ use native.Mathlib.Omega.{arith}
 use Rattle.lexer.proofs.Laws.{run_ends, run_never, run_stops}
 use Rattle.lexer.proofs.Passing.{passed_more}
 use Rattle.lexer.proofs.run.Goals as goal
+use Rattle.lexer.proofs.run.Goals.{then-i-at-via-then-i-at, then-i-at-via-else-i-at+then-not-fits}
 
 pub pass-i-requires : goal.pass-i-requires
 pass-i-requires c = omega arith
@@ -32,16 +33,16 @@ overflow_sub-i c = omega arith
 pub returns-then-i-at : goal.returns-then-i-at
 returns-then-i-at c =
     let a = c.args in let l = c.loop-i in
-    run_never a.s.now a.at l.i a.k a.most l.invariant.from l.invariant.fits
-    (λ m p q r e h. c.if-b-eq10.false (let z : a.at + m ≡ l.i = omega arith in subst (λ x. get_or a.s.now x 0 ≡ 10) z e))
+    elim c.then-i-at.branch [
+      | then-i-at-via-then-i-at w ↦
+          run_never a.s.now a.at l.i a.k a.most l.invariant.from l.invariant.fits
+          (λ m p q r e h. let f = w.if-i-at.true in c.if-b-eq10.false (let z : a.at + m ≡ l.i = omega arith in subst (λ x. get_or a.s.now x 0 ≡ 10) z e))
+      | then-i-at-via-else-i-at+then-not-fits w ↦
+          run_stops a.s.now a.at l.i a.k a.most l.invariant.from l.invariant.fits c.if-b-eq10.false (sym w.fits.ensures ∙ w.if-not-fits.true)
+    ]
 
 pub fits-requires : goal.fits-requires
 fits-requires c = tt
-
-pub returns-then-not-fits : goal.returns-then-not-fits
-returns-then-not-fits c =
-    let a = c.args in let l = c.loop-i in
-    run_stops a.s.now a.at l.i a.k a.most l.invariant.from l.invariant.fits c.if-b-eq10.false (sym c.fits.ensures ∙ c.if-not-fits.true)
 
 -- ── One turn of the loop ──
 pub loop-i-preserved : goal.loop-i-preserved

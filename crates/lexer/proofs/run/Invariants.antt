@@ -1,6 +1,4 @@
 -- `lexer::run` meets its contract.
-use Prim.Native.Nat.{◌-◌}
-use lib.ListN.{length}
 use Rattle.lexer.specs.Reading.{Passed}
 use Rattle.lexer.proofs.run.Given as goal
 

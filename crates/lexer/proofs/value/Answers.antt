@@ -1,54 +1,48 @@
 -- `lexer::value` meets its contract.
-use Prim.Native.Nat.{◌+◌, ◌-◌, ◌^◌, ◌<◌}
-use mathlib.Core.Path.{◌≡◌, refl, sym, ◌∙◌, subst}
-use lib.ListN.{get_or}
+use Prim.Native.Nat.{ℕ, ◌+◌, ◌*◌, ◌-◌}
+use mathlib.Core.List.{map}
+use lib.ListN.{drop}
+use Rattle.std.specs.List.{between}
+use mathlib.Core.Path.{refl, sym, ap, ◌∙◌}
 use native.Mathlib.Omega.{arith}
-use Rattle.lexer.proofs.Classes.{between_is}
-use Rattle.lexer.proofs.Laws.{reading_step, reading_end, ten_more, ten_small}
+use Rattle.std.proofs.lemmas.Slice.{between_is}
+use Rattle.lists.specs.Numerals.{value_from, reading}
+use Rattle.lexer.proofs.Laws.{reading_step, reading_end, ten_more, ten_small, digits_few, digits_are}
 use Rattle.lexer.proofs.value.Goals as goal
 
-pub loop-i-init : goal.loop-i-init
-loop-i-init c = (omega arith, c.requires.from, subst (λ x. 0 < 10 ^ x) (let z : 0 ≡ c.args.at - c.args.at = omega arith in z) (omega arith), refl)
+pub loop-b-init : goal.loop-b-init
+loop-b-init c = (omega arith, refl)
 
 -- ── One digit more: a value that fits ──
 pub overflow_mul-n : goal.overflow_mul-n
 overflow_mul-n c =
-    let l = c.loop-i in let p = c.requires in
-    let h = ten_small l.n (l.i - c.args.at) l.invariant.2 (omega (arith, p.few)) in omega arith
-
-pub bounds-s-i : goal.bounds-s-i
-bounds-s-i c = omega (arith, c.requires.inside)
-
-pub overflow_sub-n : goal.overflow_sub-n
-overflow_sub-n c =
-    let l = c.loop-i in let p = c.requires in
-    let d = between_is 48 57 (get_or c.args.s.now l.i 0) (p.digits l.i l.invariant.0 (omega arith)) in omega arith
-
-pub overflow_cast-n : goal.overflow_cast-n
-overflow_cast-n c =
-    let l = c.loop-i in let p = c.requires in
-    let d = between_is 48 57 (get_or c.args.s.now l.i 0) (p.digits l.i l.invariant.0 (omega arith)) in omega arith
+    let a = c.args in
+    let l = c.loop-b in
+    let f = digits_few a.s.now a.at a.end c.requires in
+    let h = ten_small l.n l.b-index l.invariant.0 (omega arith) in omega arith
 
 pub overflow_add-n : goal.overflow_add-n
 overflow_add-n c =
-    let l = c.loop-i in let p = c.requires in
-    let d = between_is 48 57 (get_or c.args.s.now l.i 0) (p.digits l.i l.invariant.0 (omega arith)) in
-    let h = ten_small l.n (l.i - c.args.at) l.invariant.2 (omega (arith, p.few)) in omega arith
+    let a = c.args in
+    let l = c.loop-b in
+    let f = digits_few a.s.now a.at a.end c.requires in
+    let d = digits_are a.s.now a.at a.end c.requires l.b-index c.loop-b-test.true in
+    let h = ten_small l.n l.b-index l.invariant.0 (omega arith) in omega arith
 
 -- ── One turn of the loop ──
-pub loop-i-preserved : goal.loop-i-preserved
-loop-i-preserved c =
-    let l = c.loop-i in let p = c.requires in
-    let d = between_is 48 57 (get_or c.args.s.now l.i 0) (p.digits l.i l.invariant.0 (omega arith)) in
-    let s = c.args.s.now in let at = c.args.at in let end = c.args.end in (
-      omega arith,
-      omega arith,
-      ten_more l.n (get_or s l.i 0 - 48) (l.i - at) (l.i + 1 - at) l.invariant.2 (omega arith) (omega arith),
-      sym (reading_step s l.i end l.n (omega arith) p.inside) ∙ l.invariant.3,
+pub loop-b-preserved : goal.loop-b-preserved
+loop-b-preserved c =
+    let a = c.args in
+    let l = c.loop-b in
+    let d = digits_are a.s.now a.at a.end c.requires l.b-index c.loop-b-test.true in
+    let w = c.from.ensures in (
+      ten_more l.n c.from.result l.b-index (l.b-index + 1) l.invariant.0 (omega arith) (omega arith),
+      ap (λ (x : ℕ). value_from 10 (l.n * 10 + x) (map (λ b. b - 48) (drop (l.b-index + 1) (between a.at a.end a.s.now)))) w ∙ sym (reading_step _ l.b-index l.n c.loop-b-test.true) ∙ l.invariant.1,
     )
 
 -- ── What is returned ──
 pub returns : goal.returns
 returns c =
-    let l = c.loop-i in
-    sym (reading_end c.args.s.now l.i c.args.end l.n (omega arith)) ∙ l.invariant.3
+    let a = c.args in
+    let l = c.loop-b in
+    sym (reading_end _ l.b-index l.n c.loop-b-test.false) ∙ l.invariant.1 ∙ ap reading (between_is a.s.now a.at a.end)

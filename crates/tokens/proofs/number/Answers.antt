@@ -2,8 +2,8 @@
 use Rattle.tokens.proofs.Numbers.{number_stuck, number_back}
 use Rattle.tokens.proofs.number.Goals as goal
 
-pub returns-then-j-at : goal.returns-then-j-at
-returns-then-j-at c = number_stuck c.args.s.now c.requires.0 c.figures-f.ensures c.if-j-at.true
+pub returns-then-f-at : goal.returns-then-f-at
+returns-then-f-at c = number_stuck c.args.s.now c.requires.0 c.figures-f.ensures c.if-f-at.true
 
 pub returns : goal.returns
-returns c = number_back c.args.s.now c.requires.0 c.figures-f.ensures c.args.k c.args.t c.if-j-at.false c.requires.1
+returns c = number_back c.args.s.now c.requires.0 c.figures-f.ensures c.args.k c.args.t c.if-f-at.false c.requires.1

@@ -1,11 +1,6 @@
 -- `tokens::quoted_bytes` meets its contract.
-use Prim.Native.Nat.{◌-◌, ◌≤◌}
-use lib.ListN.{length}
 use Rattle.tokens.proofs.Constants.{QuotedRun}
 use Rattle.tokens.proofs.quoted_bytes.Given as goal
 
 abbrev pub invariant-loop-i : goal.invariant-loop-i
-invariant-loop-i l = (l.at ≤ l.i) × (l.i ≤ length l.s) × QuotedRun l.s l.at l.i
-
-abbrev pub decreases-loop-i : goal.decreases-loop-i
-decreases-loop-i l = length l.s - l.i
+invariant-loop-i l = QuotedRun l.s l.at l.i

@@ -1,7 +1,7 @@
 -- `lexer::blocks::text_block` meets its contract.
 use mathlib.Core.Path.{◌≡◌}
 use mathlib.Core.Bool.{true}
-use Prim.Native.Nat.{◌+◌, ◌-◌, ◌≤◌}
+use Prim.Native.Nat.{◌+◌, ◌≤◌}
 use Rattle.lexer.specs.declared.Class.TheVariants.{Text}
 use Rattle.lexer.specs.Reading.{AllIn}
 use Rattle.lexer.proofs.blocks.text_block.Given as goal

@@ -23,9 +23,6 @@ returns-then-most-i-lt-BLOCK c = c.loop-i.invariant
 pub text_block-requires : goal.text_block-requires
 text_block-requires c = omega arith
 
-pub returns-then-not-text_block : goal.returns-then-not-text_block
-returns-then-not-text_block c = c.loop-i.invariant
-
 pub overflow_add-i : goal.overflow_add-i
 overflow_add-i c = omega arith
 

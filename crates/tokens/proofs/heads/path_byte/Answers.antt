@@ -2,12 +2,6 @@
 use Rattle.tokens.proofs.FirstBytes.{no_path}
 use Rattle.tokens.proofs.heads.path_byte.Goals as goal
 
-pub returns-in-76 : goal.returns-in-76
-returns-in-76 c = c.in-76.is
-
-pub returns-in-43 : goal.returns-in-43
-returns-in-43 c = c.in-43.is
-
 pub returns-in_default : goal.returns-in_default
 returns-in_default c =
     let n = c.in_default.in_default-own.rest in
