@@ -38,15 +38,9 @@ fn read_nodes(s: &[u8], n: usize, start: Progress, words: &mut [u32]) -> Result<
     let mut here = start;
     while here.node < n {
         match node(s, here, words) {
-            Ok(next) => {
-                here = next;
-            }
-            Err(Stop::Refused(why)) => {
-                return Err(Halt::Refused(why));
-            }
-            Err(Stop::Full) => {
-                return Err(Halt::Full(here));
-            }
+            Ok(next) => here = next,
+            Err(Stop::Refused(why)) => return Err(Halt::Refused(why)),
+            Err(Stop::Full) => return Err(Halt::Full(here)),
         }
     }
     if here.at < s.len() {

@@ -34,6 +34,7 @@ impl From<Refusal> for Stop {
     }
 }
 
+// The value line: behind it the node is done.
 fn value_step(s: &[u8], at: usize, v: usize, node: Node) -> Result<Progress, Refusal>
     requires { (n : ℕ) × AtValue s.now n v node at }
     ensures { (n : ℕ) → AtValue s.now n v node at → Valued s.now n v node at result }
@@ -61,6 +62,7 @@ fn enter(s: &[u8], at: usize, end: usize, k: Kind, words: &mut [u32]) -> Result<
     }
 }
 
+// The label line: the label of an attribute is entered.
 fn label_step(
     s: &[u8],
     at: usize,
@@ -96,6 +98,7 @@ fn begin_labels(before: Kind, k: Kind, words: &mut [u32])
     }
 }
 
+// The kind line: the words are made ready for the label.
 fn kind_step(
     s: &[u8],
     at: usize,
