@@ -119,7 +119,7 @@ fn at_start(b: u8) -> Option<Scan>
 }
 
 // One byte more.
-fn step(c: Scan, b: u8) -> Option<Scan>
+pub fn step(c: Scan, b: u8) -> Option<Scan>
     requires { Fits c }
     ensures { FitsIf result × ((bs : List ℕ) → resume_if result bs ≡ resume c (b ∷ bs)) }
 {

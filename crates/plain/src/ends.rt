@@ -22,5 +22,10 @@ pub fn any_hit(p: &[u16], n: usize, last: u16) -> bool
     requires { Room n p.now }
     ensures { (result ≡ true) ↔ ((w : ℕ) × (w < n) × Ended n last p.now w × (word p.now n HIT w ≡ 1)) }
 {
-    (0..n).any(|w| hit_at(p, n, last, w))
+    for w in 0..n {
+        if hit_at(p, n, last, w) {
+            return true;
+        }
+    }
+    false
 }

@@ -44,5 +44,10 @@ pub fn any_marked(p: &[u16], n: usize, last: u16) -> bool
     requires { Room n p.now × SmallRanks n p.now }
     ensures { (result ≡ true) ↔ ((w : ℕ) × (w < n) × Ended n last p.now w × (word p.now n MARK (word p.now n RANK w) ≡ 1)) }
 {
-    (0..n).any(|w| marked_at(p, n, last, w))
+    for w in 0..n {
+        if marked_at(p, n, last, w) {
+            return true;
+        }
+    }
+    false
 }

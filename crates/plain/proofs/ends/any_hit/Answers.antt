@@ -1,20 +1,20 @@
 -- `plain::ends::any_hit` meets its contract.
-use Prim.Native.Nat.{ℕ}
+use borrow.Author.Count.{below_none, below_more}
 use native.Mathlib.Omega.{arith}
-use mathlib.Core.Path.{◌≡◌, refl}
-use mathlib.Core.Bool.{true, false, false≢true}
-use Rattle.std.proofs.Common.{rules}
-use Rattle.std.proofs.lemmas.Iterator.{cases_from_any, YieldsList-from_range}
-use Rattle.layout.specs.Part.{HIT}
-use Rattle.layout.specs.Words.{word}
-use Rattle.rank_sets.specs.Ends.{Ended}
-use Rattle.rank_sets.proofs.Telling.{any_below}
+use Rattle.rank_sets.proofs.Telling.{tells_yes, tells_no, denied}
 use Rattle.plain.proofs.ends.any_hit.Goals as goal
 
+pub loop-w-init : goal.loop-w-init
+loop-w-init c = below_none _
+
+pub hit_at-requires : goal.hit_at-requires
+hit_at-requires c = (c.loop-w-test.true, c.requires)
+
+pub returns-then-hit_at : goal.returns-then-hit_at
+returns-then-hit_at c = let e = c.hit_at.ensures.0 c.if-hit_at.true in tells_yes (c.loop-w.w, c.loop-w-test.true, e.0, e.1)
+
+pub loop-w-preserved : goal.loop-w-preserved
+loop-w-preserved c = below_more _ _ c.loop-w.invariant (denied c.hit_at.ensures c.if-hit_at.false)
+
 pub returns : goal.returns
-returns c =
-    let x = c.args in
-    let P : ℕ → Type 0 = λ w. Ended x.n x.last x.p.now w × (word x.p.now x.n HIT w ≡ 1) in
-    let t = any_below {P = P} x.n c.any.result
-    (cases_from_any _ _ _ P (λ w. ¬ P w) c.any.ensures.ran (YieldsList-from_range 0 x.n x.n refl (omega arith)) (λ w q k. search rules) (λ w q k. (search rules, λ h. let e : false ≡ true = search rules in false≢true e))) in
-    (λ e. let (w, l, h) = t.0 e in (w, l, h.0, h.1), λ (w, l, a, b). t.1 (w, l, (a, b)))
+returns c = tells_no (λ h. let l = h.1 in let r = c.loop-w-test.false in c.loop-w.invariant h.0 (omega arith) (h.2, h.3))

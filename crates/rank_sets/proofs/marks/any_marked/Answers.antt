@@ -1,21 +1,20 @@
 -- `rank_sets::marks::any_marked` meets its contract.
-use Prim.Native.Nat.{ℕ}
+use borrow.Author.Count.{below_none, below_more}
 use native.Mathlib.Omega.{arith}
-use mathlib.Core.Path.{◌≡◌, refl}
-use mathlib.Core.Bool.{true, false, false≢true}
-use Rattle.std.proofs.Common.{rules}
-use Rattle.std.proofs.lemmas.Iterator.{cases_from_any, YieldsList-from_range}
-use Rattle.layout.specs.Part.{MARK}
-use Rattle.layout.specs.Table.{RANK}
-use Rattle.layout.specs.Words.{word}
-use Rattle.rank_sets.specs.Ends.{Ended}
-use Rattle.rank_sets.proofs.Telling.{any_below}
+use Rattle.rank_sets.proofs.Telling.{tells_yes, tells_no, denied}
 use Rattle.rank_sets.proofs.marks.any_marked.Goals as goal
 
+pub loop-w-init : goal.loop-w-init
+loop-w-init c = below_none _
+
+pub marked_at-requires : goal.marked_at-requires
+marked_at-requires c = let r = c.requires in (r.0, r.1, c.loop-w-test.true)
+
+pub returns-then-marked_at : goal.returns-then-marked_at
+returns-then-marked_at c = let e = c.marked_at.ensures.0 c.if-marked_at.true in tells_yes (c.loop-w.w, c.loop-w-test.true, e.0, e.1)
+
+pub loop-w-preserved : goal.loop-w-preserved
+loop-w-preserved c = below_more _ _ c.loop-w.invariant (denied c.marked_at.ensures c.if-marked_at.false)
+
 pub returns : goal.returns
-returns c =
-    let x = c.args in
-    let P : ℕ → Type 0 = λ w. Ended x.n x.last x.p.now w × (word x.p.now x.n MARK (word x.p.now x.n RANK w) ≡ 1) in
-    let t = any_below {P = P} x.n c.any.result
-    (cases_from_any _ _ _ P (λ w. ¬ P w) c.any.ensures.ran (YieldsList-from_range 0 x.n x.n refl (omega arith)) (λ w q k. search rules) (λ w q k. (search rules, λ h. let e : false ≡ true = search rules in false≢true e))) in
-    (λ e. let (w, l, h) = t.0 e in (w, l, h.0, h.1), λ (w, l, a, b). t.1 (w, l, (a, b)))
+returns c = tells_no (λ h. let l = h.1 in let r = c.loop-w-test.false in c.loop-w.invariant h.0 (omega arith) (h.2, h.3))
