@@ -62,8 +62,8 @@ pub fn is_empty(p: &[u16], at: usize) -> bool
     ensures { result ≡ true → (i j : ℕ) → i < positions → ¬ Related p.now at i j }
 {
     let mut all = 0;
-    for i in 0..Rule::MAX_POSITIONS {
-        all = union(all, p[at + i]);
+    for row in &p[at..at + Rule::MAX_POSITIONS] {
+        all = union(all, *row);
     }
     all == 0
 }

@@ -22,8 +22,5 @@ loop-v-preserved c = let h = c.loop-v.invariant.0 in let l = c.loop-v-test.true 
   λ q e. answers_step b.result l (c.loop-v.invariant.1 q e) b.ensures.0 (Iff.trans (b.ensures.1 q e) (Iff.symm (meets_same h q c.loop-v.v l))) w,
 )
 
-pub shape_of-p : goal.shape_of-p
-shape_of-p c = c.loop-v.invariant.0.middle.long
-
 pub returns : goal.returns
 returns c = let g = c.loop-v.invariant in λ q e. answers_all c.loop-v-test.false g.0 (g.1 q e)

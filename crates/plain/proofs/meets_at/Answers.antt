@@ -7,9 +7,6 @@ use Rattle.machine.specs.Walks.{Meets}
 use Rattle.plain.proofs.Signs.{equal_sign, other_sign}
 use Rattle.plain.proofs.meets_at.Goals as goal
 
-pub equal_at-requires : goal.equal_at-requires
-equal_at-requires c = let x = c.requires in (x.0, x.1 c.in-Equal.is, x.2, x.3)
-
 pub returns-in-Equal : goal.returns-in-Equal
 returns-in-Equal c =
     let x = c.args in let r = c.equal_at in

@@ -1,20 +1,10 @@
 -- `reach::reach` meets its contract.
-use mathlib.Core.Path.{◌∙◌}
 use native.Mathlib.Omega.{arith}
 use Rattle.reach.proofs.Totals.{work_room}
 use Rattle.reach.proofs.Adding.{spared_then}
 use Rattle.reach.proofs.Clearing.{cleared_spared, cleared_work}
 use Rattle.reach.proofs.Reaching.{working_start, working_step, working_all}
 use Rattle.reach.proofs.reach.Goals as goal
-
-pub fill-requires : goal.fill-requires
-fill-requires c = let r = c.requires.0.room in (omega arith, omega arith, omega arith)
-
-pub overflow_cast-i : goal.overflow_cast-i
-overflow_cast-i c = let l = c.requires.1 in omega arith
-
-pub insert-w-requires : goal.insert-w-requires
-insert-w-requires c = c.requires.1
 
 pub add-len-requires : goal.add-len-requires
 add-len-requires c = cleared_work c.fill.ensures c.requires.0
@@ -23,9 +13,6 @@ pub loop-h-init : goal.loop-h-init
 loop-h-init c =
     let x = c.requires in
     working_start x.1 x.2 (cleared_work c.fill.ensures x.0) c.insert-w.result c.insert-w.ensures c.add-len.ensures
-
-pub expand-len-requires : goal.expand-len-requires
-expand-len-requires c = (c.loop-h.invariant.work, c.loop-h-test.true)
 
 pub overflow_add-h : goal.overflow_add-h
 overflow_add-h c =
@@ -39,10 +26,6 @@ loop-h-smaller c =
 
 pub loop-h-preserved : goal.loop-h-preserved
 loop-h-preserved c = working_step (omega arith) c.loop-h.invariant c.loop-h-test.true c.expand-len.ensures
-
-pub shape_of-p : goal.shape_of-p
-shape_of-p c =
-    c.loop-h.invariant.spared.same.long ∙ c.add-len.ensures.spared.same.long ∙ c.fill.ensures.within.long
 
 pub returns : goal.returns
 returns c =

@@ -1,6 +1,5 @@
 -- `test_passes::deny` meets its contract.
 use mathlib.Core.Path.{◌∙◌}
-use native.Mathlib.Omega.{arith}
 use Rattle.std.proofs.lemmas.Bool.Decides.{Decides-not}
 use native.Mathlib.Numerals.{add-one}
 use Rattle.test_passes.proofs.Told.{told}
@@ -10,21 +9,12 @@ use Rattle.test_passes.proofs.deny.Goals as goal
 pub loop-v-init : goal.loop-v-init
 loop-v-init c = settling_none _ _ _ _
 
-pub holds-x-requires : goal.holds-x-requires
-holds-x-requires c = let l = c.loop-v.invariant.within.long in omega arith
-
-pub note-requires : goal.note-requires
-note-requires c = let l = c.loop-v.invariant.within.long in omega arith
-
 pub loop-v-preserved : goal.loop-v-preserved
 loop-v-preserved c =
     let g = c.loop-v.invariant in let l = c.loop-v-test.true in
     rw add-one (settling_step c.requires.0 l g
     (Decides-not _ (told (c.holds-x.ensures ∙ settling_here g c.args.a c.requires.1 l)))
     c.note.ensures)
-
-pub shape_of-t : goal.shape_of-t
-shape_of-t c = c.loop-v.invariant.within.long
 
 pub returns : goal.returns
 returns c = settling_all c.loop-v-test.false c.loop-v.invariant

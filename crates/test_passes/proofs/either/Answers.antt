@@ -3,7 +3,6 @@ use mathlib.Core.Path.{◌≡◌, ◌∙◌}
 use mathlib.Core.Bool.{◌||◌}
 use Rattle.std.proofs.Common.{rules}
 use Rattle.std.proofs.lemmas.Bool.Decides.{Decides-or}
-use native.Mathlib.Omega.{arith}
 use native.Mathlib.Numerals.{add-one}
 use Rattle.test_passes.proofs.Told.{told}
 use Rattle.test_bits.proofs.Settling.{settling_none, settling_here, settling_step, settling_all}
@@ -11,15 +10,6 @@ use Rattle.test_passes.proofs.either.Goals as goal
 
 pub loop-v-init : goal.loop-v-init
 loop-v-init c = settling_none _ _ _ _
-
-pub holds-x-requires : goal.holds-x-requires
-holds-x-requires c = let l = c.loop-v.invariant.within.long in omega arith
-
-pub holds-y-requires : goal.holds-y-requires
-holds-y-requires c = let l = c.loop-v.invariant.within.long in omega arith
-
-pub note-requires : goal.note-requires
-note-requires c = let l = c.loop-v.invariant.within.long in omega arith
 
 pub loop-v-preserved : goal.loop-v-preserved
 loop-v-preserved c =
@@ -30,9 +20,6 @@ loop-v-preserved c =
     (told (c.holds-x.ensures ∙ settling_here g c.args.a c.requires.1 l))
     (told (c.holds-y.ensures ∙ settling_here g c.args.b c.requires.2 l))))
     c.note.ensures)
-
-pub shape_of-t : goal.shape_of-t
-shape_of-t c = c.loop-v.invariant.within.long
 
 pub returns : goal.returns
 returns c = settling_all c.loop-v-test.false c.loop-v.invariant

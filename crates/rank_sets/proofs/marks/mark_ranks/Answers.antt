@@ -13,8 +13,5 @@ mark_rank-requires c = let h = c.loop-w.invariant.1.steady.held in let x = c.req
 pub loop-w-preserved : goal.loop-w-preserved
 loop-w-preserved c = let l = c.loop-w-test.true in (omega arith, marking_step c.requires.1 l c.loop-w.invariant.1 c.mark_rank.ensures)
 
-pub shape_of-p : goal.shape_of-p
-shape_of-p c = c.loop-w.invariant.1.steady.held.middle.long
-
 pub returns : goal.returns
 returns c = let g = c.loop-w.invariant in marking_all g.0 c.loop-w-test.false g.1

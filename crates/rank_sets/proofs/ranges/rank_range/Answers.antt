@@ -1,6 +1,5 @@
 -- `rank_sets::ranges::rank_range` meets its contract.
 use mathlib.Core.Path.{◌≡◌, subst}
-use native.Mathlib.Numerals.{add-one}
 use native.Mathlib.Omega.{arith}
 use Rattle.layout.specs.Table.{RANK}
 use Rattle.layout.specs.Words.{word}
@@ -11,12 +10,6 @@ use Rattle.rank_sets.proofs.ranges.rank_range.Goals as goal
 
 pub loop-w-init : goal.loop-w-init
 loop-w-init c = (omega arith, ranged_none _ _)
-
-pub widened-a-requires : goal.widened-a-requires
-widened-a-requires c = (c.loop-w-test.true, c.requires, c.loop-w.invariant.1)
-
-pub loop-w-preserved : goal.loop-w-preserved
-loop-w-preserved c = let l = c.loop-w-test.true in (omega arith, rw add-one c.widened-a.ensures)
 
 pub returns : goal.returns
 returns c =

@@ -1,10 +1,6 @@
 -- `reach::expand::upward` meets its contract.
-use native.Mathlib.Omega.{arith}
 use Rattle.reach.proofs.Spreading.{either}
 use Rattle.reach.proofs.expand.upward.Goals as goal
-
-pub returns-then-n-u : goal.returns-then-n-u
-returns-then-n-u c h = absurd (omega arith)
 
 pub returns : goal.returns
 returns c h =

@@ -6,12 +6,6 @@ use Rattle.layout.specs.Words.{cell}
 use Rattle.layout.proofs.Cells.{wrote_one, wrote_then}
 use Rattle.reach.proofs.list.enter.Goals as goal
 
-pub bounds-p-n-2 : goal.bounds-p-n-2
-bounds-p-n-2 c = simp length-set (omega arith)
-
-pub bounds-p-n-3 : goal.bounds-p-n-3
-bounds-p-n-3 c = simp length-set (omega arith)
-
 pub returns : goal.returns
 returns c =
     let x = c.args in let q = c.requires.0.room in let l = c.requires.1 in let k = c.requires.2 in
