@@ -46,7 +46,7 @@ fn column(c: Target) -> usize
     }
 }
 
-// The node with the smallest rank in a column from `low` on, or `n` if there is none.
+// The node with the smallest rank in a column from `low` on, or `n` if there is none: `Nearest` has it so, and no rank is `n`.
 fn nearest(t: &[u16], n: usize, column: usize, low: usize) -> usize
     requires { Room n t.now × (column < COLUMNS) }
     ensures { Nearest n (word t.now n column) low result }

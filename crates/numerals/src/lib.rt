@@ -15,7 +15,7 @@ use limits::Numeral;
 // The key of 0: no numeral has so many ten-thousandths.
 pub const BIAS: usize = 10_000_000_000_000;
 
-// Stands for no amount, above all keys.
+// Stands for no amount, above all keys: a number and no `Option`, since it is kept in the words of columns (fixed memory), and sorted last.
 pub const NO_KEY: usize = 2 * BIAS;
 
 // The constants are those that the definitions name.

@@ -16,6 +16,7 @@ use layout::words::get;
 use layout::{Ranking, Table};
 
 // The first and the last of some nodes that have text that is not blank, or no node twice if none has.
+// `NONE` and no `Option`: the two are words of two columns (fixed memory).
 #[derive(Clone, Copy)]
 pub struct Texts {
     pub first: usize,
