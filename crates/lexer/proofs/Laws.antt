@@ -1,22 +1,20 @@
 -- Bytes that stand at an offset, and what is behind them.
-use Prim.Native.Nat.{ℕ, suc, ◌+◌, ◌-◌, ◌*◌, ◌^◌, ◌≤◌, ◌<◌}
+use Prim.Native.Nat.{ℕ, ◌+◌, ◌-◌, ◌≤◌, ◌<◌}
 use mathlib.Core.Path.{◌≡◌, refl, sym, ap, ap₂, ◌∙◌, subst}
 use mathlib.Core.Bool.{false}
 use mathlib.Core.List.{List, [], ◌∷◌, ◌++◌, map, append_assoc}
-use lib.ListN.{length, get_or, take, drop, length-take, length-drop, length-append, take-append-drop, get_or-append, drop_of_length-le}
+use lib.ListN.{length, get_or, take, drop, length-drop, length-append, take-append-drop, get_or-append, drop_of_length-le}
 use lib.Seq.{get_or-drop, get_or-take, drop-drop, drop-cons, get_or-append_seam, length-take-le, slice, take-add, take-append_seam, drop_at}
-use lib.Dec.{T, lit<}
+use lib.Dec.{T}
 use native.Mathlib.Omega.{arith}
 use native.Mathlib.Numerals.{add-one}
-use native.Mathlib.Nat.{pow-le-pow_right}
 use Rattle.lists.specs.Numerals.{value_from}
 use native.Mathlib.Decide.{dec_lt}
 use Rattle.lists.proofs.Indices.{all_at, at_all}
 use Rattle.std.specs.Prelude.{Some, None}
 use Rattle.lexer.specs.declared.Class.{Class}
-use Rattle.lexer.specs.Reading.{Ended, in_class, AllIn, Run, Digits}
-use Rattle.std.specs.List.{between}
-use Rattle.lexer.proofs.Classes.{lf_out, between_is}
+use Rattle.lexer.specs.Reading.{Ended, in_class, AllIn, Run}
+use Rattle.lexer.proofs.Classes.{lf_out}
 
 module _ (s : List ℕ) (at i : ℕ) (k : Class) (most : ℕ) (from : at ≤ i) (passed : AllIn k s at i) where
   -- the LF at i ends the run
@@ -75,31 +73,9 @@ module _ (s : List ℕ) (at i : ℕ) (k : Class) (most : ℕ) (from : at ≤ i) 
       go m p h f (no r) = let z : at + m ≡ i = omega arith in ne (subst (λ x. get_or s x 0 ≡ 10) z h)
 
 -- ── Numerals ──
--- reading a byte more: what was read so far, times ten, plus the digit
-pub reading_step : (l : List ℕ) (i n : ℕ) → i < length l
-    → value_from 10 n (map (λ b. b - 48) (drop i l)) ≡ value_from 10 (n * 10 + (get_or l i 0 - 48)) (map (λ b. b - 48) (drop (i + 1) l))
-reading_step l i n h =
-    ap (λ (x : List ℕ). value_from 10 n (map (λ b. b - 48) x)) (drop-cons l i 0 h)
-    ∙ ap (λ (m : ℕ). value_from 10 (n * 10 + (get_or l i 0 - 48)) (map (λ b. b - 48) (drop m l))) (sym (add-one i))
-
+-- nothing is left to read
 pub reading_end : (l : List ℕ) (i n : ℕ) → length l ≤ i → value_from 10 n (map (λ b. b - 48) (drop i l)) ≡ n
 reading_end l i n h = ap (λ (x : List ℕ). value_from 10 n (map (λ b. b - 48) x)) (drop_of_length-le l h)
-
--- the digits from one offset up to another, as bytes of a part
-module _ (s : List ℕ) (at end : ℕ) (p : Digits s at end) where
-  pub digits_few : length (between at end s) ≤ 5
-  digits_few = omega (arith, length-take (end - at) (drop at s), length-drop at s, p.few)
-
-  pub digits_are : (i : ℕ) → i < length (between at end s) → (48 ≤ get_or (between at end s) i 0) × (get_or (between at end s) i 0 ≤ 57)
-  digits_are i h =
-      let n : i < end - at = omega (arith, length-take (end - at) (drop at s), length-drop at s) in
-      rw (get_or-take (end - at) (drop at s) i 0 n, get_or-drop at s i 0) (between_is 48 57 (get_or s (at + i) 0) (p.digits (at + i) (omega arith) (omega arith)))
-
-pub ten_more : (n d k m : ℕ) → n < 10 ^ k → d < 10 → m ≡ suc k → n * 10 + d < 10 ^ m
-ten_more n d k m h g e = subst (λ x. n * 10 + d < 10 ^ x) (sym e) (omega (arith, h, g))
-
-pub ten_small : (n k : ℕ) → n < 10 ^ k → k ≤ 5 → n < 100000
-ten_small n k h g = omega (arith, h, pow-le-pow_right {n = 10} (lit< tt) g)
 
 -- what stands at an offset, as a slice
 pub slice_of : (s : List ℕ) (i : ℕ) (a r : List ℕ) → i ≤ length s → drop i s ≡ a ++ r → slice i (i + length a) s ≡ a

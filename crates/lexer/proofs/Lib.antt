@@ -1,4 +1,3 @@
-pub mod Passing
 pub mod Classes
 pub mod Laws
 pub mod Numbers

@@ -2,9 +2,6 @@
 use Rattle.lexer.proofs.Keys.{key_spans, no_key_numbered, behind_numbered}
 use Rattle.lexer.proofs.number_line.Goals as goal
 
-pub read_number-requires : goal.read_number-requires
-read_number-requires c = (c.in_ok-i.ensures.2.inside, c.requires.1, c.requires.2)
-
 pub returns-in_err-i : goal.returns-in_err-i
 returns-in_err-i c = let a = c.args in rw c.from_residual.ensures (no_key_numbered a.s.now a.key.now a.at a.most c.in_err-i.ensures)
 

@@ -2,33 +2,16 @@
 use Prim.Native.Nat.{◌+◌}
 use mathlib.Core.Path.{◌≡◌, sym, ◌∙◌, subst}
 use lib.ListN.{get_or}
-use lib.Dec.{T}
 use native.Mathlib.Omega.{arith}
 use Rattle.lexer.proofs.Laws.{run_ends, run_never, run_stops}
-use Rattle.lexer.proofs.Passing.{passed_more}
 use Rattle.lexer.proofs.run.Goals as goal
 use Rattle.lexer.proofs.run.Goals.{then-i-at-via-then-i-at, then-i-at-via-else-i-at+then-not-fits}
 
-pub pass-i-requires : goal.pass-i-requires
-pass-i-requires c = omega arith
-
-pub loop-i-init : goal.loop-i-init
-loop-i-init c = c.pass-i.ensures
-
 -- ── A byte at which the run ends ──
-pub bounds-s-i : goal.bounds-s-i
-bounds-s-i c = omega arith
-
-pub overflow_add-result : goal.overflow_add-result
-overflow_add-result c = omega arith
-
 pub returns-then-b-eq10 : goal.returns-then-b-eq10
 returns-then-b-eq10 c =
     let a = c.args in let l = c.loop-i in
     run_ends a.s.now a.at l.i a.k a.most l.invariant.from l.invariant.fits (omega arith) c.if-b-eq10.true l.invariant.short
-
-pub overflow_sub-i : goal.overflow_sub-i
-overflow_sub-i c = omega arith
 
 pub returns-then-i-at : goal.returns-then-i-at
 returns-then-i-at c =
@@ -40,15 +23,6 @@ returns-then-i-at c =
       | then-i-at-via-else-i-at+then-not-fits w ↦
           run_stops a.s.now a.at l.i a.k a.most l.invariant.from l.invariant.fits c.if-b-eq10.false (sym w.fits.ensures ∙ w.if-not-fits.true)
     ]
-
-pub fits-requires : goal.fits-requires
-fits-requires c = tt
-
--- ── One turn of the loop ──
-pub loop-i-preserved : goal.loop-i-preserved
-loop-i-preserved c =
-    let a = c.args in let l = c.loop-i in
-    passed_more a.k a.s.now a.at l.i a.most l.invariant (omega arith) (omega arith) (subst T (sym c.if-not-fits.false ∙ c.fits.ensures) tt)
 
 -- ── No byte left ──
 pub returns : goal.returns

@@ -3,9 +3,6 @@ use Rattle.lexer.specs.Reading.{Run}
 use Rattle.lexer.proofs.Keys.{key_spans, no_key_ended, behind_ended}
 use Rattle.lexer.proofs.run_line.Goals as goal
 
-pub run-requires : goal.run-requires
-run-requires c = c.in_ok-i.ensures.2.inside
-
 pub returns-in_err-i : goal.returns-in_err-i
 returns-in_err-i c = let a = c.args in rw c.from_residual.ensures (no_key_ended a.s.now a.key.now a.at (Run a.k a.most) c.in_err-i.ensures)
 
