@@ -1,5 +1,5 @@
 -- `rank_sets::marks::any_marked` meets its contract.
-use Prim.Native.Nat.{ℕ, ◌-◌, ◌<◌}
+use Prim.Native.Nat.{ℕ, ◌<◌}
 use mathlib.Core.Path.{◌≡◌}
 use Rattle.layout.specs.Part.{MARK}
 use Rattle.layout.specs.Table.{RANK}
