@@ -1,20 +1,7 @@
 -- `label_trees::insert` meets its contract.
 use native.Mathlib.Omega.{arith}
-use lib.ListN.{length-set}
 use Rattle.label_trees.proofs.Inserting.{inserted}
 use Rattle.label_trees.proofs.insert.Goals as goal
-
-pub bounds-t-at-2 : goal.bounds-t-at-2
-bounds-t-at-2 c = simp length-set (omega arith)
-
-pub bounds-t-at-3 : goal.bounds-t-at-3
-bounds-t-at-3 c = simp length-set (omega arith)
-
-pub bounds-t-p : goal.bounds-t-p
-bounds-t-p c = simp length-set (omega arith)
-
-pub bounds-t-0-2 : goal.bounds-t-0-2
-bounds-t-0-2 c = simp length-set (omega arith)
 
 pub returns : goal.returns
 returns c =
