@@ -21,7 +21,7 @@ const UNTOLD: Tally = Tally {
     heavy: 0,
 };
 
-// Where the test ends that stands at an offset.
+// Where the test ends that stands at an offset. Where none stands nothing is promised, and the place where reading stopped is told.
 pub fn skip_test(s: &[u8], at: usize) -> usize
     requires { at ≤ length s.now }
     ensures { (T : Test) (j : ℕ) → TestAt s.now T at j → result ≡ j }
@@ -32,7 +32,7 @@ pub fn skip_test(s: &[u8], at: usize) -> usize
     }
 }
 
-// Where the path ends that stands at an offset.
+// Where the path ends that stands at an offset; where none stands, the same.
 pub fn skip_path(s: &[u8], at: usize) -> usize
     requires { at ≤ length s.now }
     ensures { (P : XPath) (j : ℕ) → PathAt s.now P at j → result ≡ j }

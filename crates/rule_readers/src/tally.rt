@@ -5,7 +5,7 @@ ghost use Rattle.tokens.specs.Tallies.{begun, weighed};
 use limits::Rule;
 use tokens::read::Tally;
 
-// No rule has so many bytes that a part begins here.
+// No rule has so many bytes that a part begins here. It stands for no place, and not None: so the lower of two places is their min, whether there are any or not.
 pub const NOWHERE: usize = Rule::MAX_BYTES;
 
 // A test begins.
