@@ -12,7 +12,7 @@ use Rattle.value_notes.specs.Values.{up_to}
 use Rattle.values.specs.declared.Reading.{Reading}
 use Rattle.values.specs.Comes.{at_hand, Goes, Comes, Opens, Filled}
 use Rattle.values.proofs.Texts.{used_up}
-use Rattle.numerals.specs.declared.Scan.{Scan}
+use Rattle.numerals.specs.declared.scan.Scan.{Scan}
 use Rattle.numerals.specs.Keys.{no_key, key_of}
 use Rattle.numerals.specs.Scans.{resume}
 use Rattle.amounts.specs.Weighed.{key_at}

@@ -6,7 +6,7 @@ use mathlib.Core.Logic.{◌⊎◌, inl, inr}
 use mathlib.Core.Option.{some}
 use mathlib.Core.List.{List, [], ◌∷◌, ◌++◌, append-nil}
 use lib.ListN.{length, get_or, take, drop}
-use lib.Seq.{slice, slice_empty, slice-cons, get_or-take, get_or-drop}
+use lib.Seq.{slice, slice-cons, get_or-take, get_or-drop}
 use lib.Dec.{lit<, ltb, leb, eqb}
 use native.Mathlib.Omega.{arith}
 use native.Mathlib.Nat.{pow-le-pow_right, mul-lt-mul_of_pos_right}
@@ -18,11 +18,12 @@ use Rattle.lists.specs.Text.{Digit}
 use Rattle.xpath.specs.Reading.{given, is_digit, decimals_from, whole_from, with_sign, amount_of}
 use Rattle.std.specs.Prelude.{Some, None}
 use Rattle.std.specs.Prelude.{Option as Possibly}
-use Rattle.numerals.specs.declared.Scan.{Scan}
-use Rattle.numerals.specs.declared.Part.{Part}
-use Rattle.numerals.specs.declared.Part.TheVariants.{Whole, Decimals}
+use Rattle.numerals.specs.declared.scan.Scan.{Scan}
+use Rattle.numerals.specs.declared.scan.Part.{Part}
+use Rattle.numerals.specs.declared.scan.Part.TheVariants.{Whole, Decimals}
 use Rattle.numerals.specs.Keys.{bias, no_key, key_of}
-use Rattle.numerals.specs.Scans.{resumed, resume, resume_if, FitsIn, Fits, FitsIf, further}
+use Rattle.numerals.specs.Fits.{FitsIn}
+use Rattle.numerals.specs.Scans.{resumed, resume, resume_if, digit_more, Further}
 
 -- ── Digits ──
 pub both_true : (x y : Bool) → both x y ≡ true → (x ≡ true) × (y ≡ true)
@@ -65,55 +66,51 @@ number_whole = number_below numeral_digits
 -- ── One byte more ──
 -- what a scan is when it has taken the byte
 abbrev pub Steps : Part → Scan → ℕ → Possibly Scan → Type 0
-Steps p c b r = FitsIf r × ((bs : List ℕ) → resume_if r bs ≡ resumed p c (b ∷ bs))
+Steps p c b r = (bs : List ℕ) → resume_if r bs ≡ resumed p c (b ∷ bs)
+
+-- what a scan says of itself, in the part that it is in
+pub part_fits : (c : Scan) {p : Part} → c.part ≡ p → FitsIn p c.count c.number
+part_fits c e = subst (λ p. FitsIn p c.count c.number) e c.fits
 
 module _ (c : Scan) (b : ℕ) where
-  pub decimals_more : FitsIn Decimals c → is_digit b ≡ true → c.count < numeral_decimals → Steps Decimals c b (Some (further Decimals c b))
-  unfolding decimals_from
-  decimals_more f d h =
+  pub decimals_fit : FitsIn Decimals c.count c.number → is_digit b ≡ true → c.count < numeral_decimals → FitsIn Decimals (suc c.count) (digit_more c b)
+  decimals_fit f d h =
       let i = digit_is b d in
-      let l = lt-ltb c.count numeral_decimals h in (
-        (omega arith, ten_more (numeral_digits + c.count) (numeral_digits + suc c.count) c.number (b - 48) (omega arith) f.1 (omega arith)),
-        λ bs. rw (decimals_from, d, l),
-      )
+      (omega arith, ten_more (numeral_digits + c.count) (numeral_digits + suc c.count) c.number (b - 48) (omega arith) f.1 (omega arith))
+
+  pub decimals_more : {r : Scan} → Further Decimals c b r → is_digit b ≡ true → c.count < numeral_decimals → Steps Decimals c b (Some r)
+  unfolding decimals_from
+  decimals_more {r} f d h = let l = lt-ltb c.count numeral_decimals h in λ bs. ap (λ p. resumed p r bs) f.part ∙ rw (f.minus, f.count, f.number, decimals_from, d, l)
 
   -- no digit, or one too many
   pub decimals_lost : (is_digit b ≡ false) ⊎ (numeral_decimals ≤ c.count) → Steps Decimals c b None
   unfolding decimals_from
-  decimals_lost w = let k = go w in (tt, λ bs. rw (decimals_from, k))
+  decimals_lost w = let k = go w in λ bs. rw (decimals_from, k)
     where
       go : (is_digit b ≡ false) ⊎ (numeral_decimals ≤ c.count) → both (is_digit b) (ltb c.count numeral_decimals) ≡ false
       go (inl d) = ap (λ x. both x (ltb c.count numeral_decimals)) d
       go (inr h) = ap (both (is_digit b)) (le-ltb c.count numeral_decimals h) ∙ both_false (is_digit b)
 
-  pub whole_more : FitsIn Whole c → is_digit b ≡ true → c.count < numeral_digits → Steps Whole c b (Some (further Whole c b))
+  pub whole_fits : FitsIn Whole c.count c.number → is_digit b ≡ true → c.count < numeral_digits → FitsIn Whole (suc c.count) (digit_more c b)
+  whole_fits f d h = let i = digit_is b d in (omega arith, ten_more c.count (suc c.count) c.number (b - 48) refl f.1 (omega arith))
+
+  pub whole_more : {r : Scan} → Further Whole c b r → is_digit b ≡ true → c.count < numeral_digits → Steps Whole c b (Some r)
   unfolding whole_from
-  whole_more f d h =
-      let i = digit_is b d in let l = lt-ltb c.count numeral_digits h in (
-        (omega arith, ten_more c.count (suc c.count) c.number (b - 48) refl f.1 (omega arith)),
-        λ bs. rw (whole_from, d, l),
-      )
+  whole_more {r} f d h = let l = lt-ltb c.count numeral_digits h in λ bs. ap (λ p. resumed p r bs) f.part ∙ rw (f.minus, f.count, f.number, whole_from, d, l)
 
   -- one digit too many
   pub whole_full : is_digit b ≡ true → numeral_digits ≤ c.count → Steps Whole c b None
   unfolding whole_from
-  whole_full d h = let k = le-ltb c.count numeral_digits h in (tt, λ bs. rw (whole_from, d, k))
+  whole_full d h = let k = le-ltb c.count numeral_digits h in λ bs. rw (whole_from, d, k)
 
-  abbrev point : Scan
-  point = record { part = Decimals; minus = c.minus; count = 0; number = c.number }
-
-  pub whole_point : FitsIn Whole c → is_digit b ≡ false → b ≡ 46 → 0 < c.count → Steps Whole c b (Some point)
+  pub whole_point : is_digit b ≡ false → b ≡ 46 → 0 < c.count → (bs : List ℕ) → with_sign c.minus (decimals_from 0 c.number bs) ≡ resumed Whole c (b ∷ bs)
   unfolding whole_from
-  whole_point f d e h =
-      let l = lt-ltb 0 c.count h in let i = eq-eqb b 46 e in (
-        (omega arith, number_whole c.count c.number f.1 f.0),
-        λ bs. rw (whole_from, d, i, l),
-      )
+  whole_point d e h = let l = lt-ltb 0 c.count h in let i = eq-eqb b 46 e in λ bs. rw (whole_from, d, i, l)
 
   -- no digit and no point, or a point without a digit before it
   pub whole_lost : is_digit b ≡ false → ¬ (b ≡ 46) ⊎ (c.count ≡ 0) → Steps Whole c b None
   unfolding whole_from
-  whole_lost d w = let k = go w in (tt, λ bs. rw (whole_from, d, k))
+  whole_lost d w = let k = go w in λ bs. rw (whole_from, d, k)
     where
       go : ¬ (b ≡ 46) ⊎ (c.count ≡ 0) → both (eqb b 46) (ltb 0 c.count) ≡ false
       go (inl n) = ap (λ x. both x (ltb 0 c.count)) (ne_eqb b 46 n)
@@ -132,31 +129,30 @@ start_plain b n bs = let t = ne_eqb b 45 n in rw (amount_of, t)
 module _ (s : List ℕ) (from to : ℕ) (c : Scan) where
   -- what is made of the bytes from `from` on
   abbrev pub Scanned : Possibly Scan → Type 0
-  Scanned r = FitsIf r × ((bs : List ℕ) → resume_if r bs ≡ resume c (slice from to s ++ bs))
+  Scanned r = (bs : List ℕ) → resume_if r bs ≡ resume c (slice from to s ++ bs)
 
   -- at an offset, the bytes before it are in the scan
-  pub record Scanning (i : ℕ) (r : Scan) : Type 0 where
-    pub fits : Fits r
-    pub same : (bs : List ℕ) → resume r (slice i to s ++ bs) ≡ resume c (slice from to s ++ bs)
+  abbrev pub Scanning : ℕ → Scan → Type 0
+  Scanning i r = (bs : List ℕ) → resume r (slice i to s ++ bs) ≡ resume c (slice from to s ++ bs)
 
   -- byte k of those that are read
   abbrev pub byte : ℕ → ℕ
   byte k = get_or (take (to - from) (drop from s)) k 0
 
-  taken : (k : ℕ) {r : Scan} (q : Possibly Scan) → from + k < to → to ≤ length s → Scanning (from + k) r → Steps r.part r (byte k) q
+  taken : (k : ℕ) (r : Scan) (q : Possibly Scan) → from + k < to → to ≤ length s → Scanning (from + k) r → Steps r.part r (byte k) q
       → (bs : List ℕ) → resume_if q (slice (from + (k + 1)) to s ++ bs) ≡ resume c (slice from to s ++ bs)
-  taken k {r} q h l g p bs =
+  taken k r q h l g p bs =
       let e : from + (k + 1) ≡ suc (from + k) = omega arith in
       let same : byte k ≡ get_or s (from + k) 0 = get_or-take (to - from) (drop from s) k 0 (omega arith) ∙ get_or-drop from s k 0 in
       let rest = slice (suc (from + k)) to s ++ bs in
-      rw e (p.1 rest ∙ ap (λ y. resume r (y ∷ rest)) same ∙ ap (λ (x : List ℕ). resume r (x ++ bs)) (sym (slice-cons (from + k) to s 0 h l)) ∙ g.same bs)
+      rw e (p rest ∙ ap (λ y. resume r (y ∷ rest)) same ∙ ap (λ (x : List ℕ). resume r (x ++ bs)) (sym (slice-cons (from + k) to s 0 h l)) ∙ g bs)
 
   pub scanning_more : (k : ℕ) (r r' : Scan) → from + k < to → to ≤ length s → Scanning (from + k) r → Steps r.part r (byte k) (Some r') → Scanning (from + (k + 1)) r'
-  scanning_more k r r' h l g p = record { fits = p.0; same = taken k (Some r') h l g p }
+  scanning_more k r r' = taken k r (Some r')
 
   -- what has failed has failed with all bytes to come
   pub scanning_lost : (k : ℕ) (r : Scan) → from + k < to → to ≤ length s → Scanning (from + k) r → Steps r.part r (byte k) None → Scanned None
-  scanning_lost k r h l g p = (tt, taken k None h l g p)
+  scanning_lost k r = taken k r None
 
 -- a scan of all bytes of a string
 pub scanned : (x : List ℕ) (c : Scan) (r : Possibly Scan) → ((bs : List ℕ) → resume c bs ≡ amount_of bs) → ((bs : List ℕ) → resume_if r bs ≡ resume c (x ++ bs)) → resume_if r [] ≡ amount_of x

@@ -1,14 +1,13 @@
 -- A scan: what the bytes of a numeral so far have made, and what the bytes to come make of it.
-use Rattle.std.specs.Prelude.{ℕ, suc, ◌+◌, ◌-◌, ◌*◌, ◌^◌, ◌≤◌, ◌<◌, List}
+use Rattle.std.specs.Prelude.{ℕ, suc, ◌+◌, ◌-◌, ◌*◌, ◌≡◌, List}
 use Rattle.std.specs.Prelude.{Some, None}
 use Rattle.std.specs.Prelude.{Option as Possibly}
 use Rattle.std.proofs.Math.Option.{Option, none}
-use Rattle.limits.specs.Limits.{numeral_digits, numeral_decimals}
 use Rattle.xpath.specs.Amounts.{Amount}
 use Rattle.xpath.specs.Reading.{whole_from, decimals_from, with_sign, amount_of}
-use Rattle.numerals.specs.declared.Scan.{Scan}
-use Rattle.numerals.specs.declared.Part.{Part}
-use Rattle.numerals.specs.declared.Part.TheVariants.{Start, Whole, Decimals}
+use Rattle.numerals.specs.declared.scan.Scan.{Scan}
+use Rattle.numerals.specs.declared.scan.Part.{Part}
+use Rattle.numerals.specs.declared.scan.Part.TheVariants.{Start, Whole, Decimals}
 
 -- the amount that the bytes to come complete, by the part of the numeral that the scan is in
 abbrev pub resumed : Part → Scan → List ℕ → Option Amount
@@ -24,19 +23,13 @@ abbrev pub resume_if : Possibly Scan → List ℕ → Option Amount
 resume_if None bs = none
 resume_if (Some c) bs = resume c bs
 
--- the digits so far are not too many, and the number is no longer than they are
-abbrev pub FitsIn : Part → Scan → Type 0
-FitsIn Start c = Unit {0}
-FitsIn Whole c = (c.count ≤ numeral_digits) × (c.number < 10 ^ c.count)
-FitsIn Decimals c = (c.count ≤ numeral_decimals) × (c.number < 10 ^ (numeral_digits + c.count))
-
-abbrev pub Fits : Scan → Type 0
-Fits c = FitsIn c.part c
-
-abbrev pub FitsIf : Possibly Scan → Type 0
-FitsIf None = Unit {0}
-FitsIf (Some c) = Fits c
+-- the number, with one digit more
+abbrev pub digit_more : Scan → ℕ → ℕ
+digit_more c b = c.number * 10 + (b - 48)
 
 -- with one digit more, in a part of the numeral
-abbrev pub further : Part → Scan → ℕ → Scan
-further p c b = record { part = p; minus = c.minus; count = suc c.count; number = c.number * 10 + (b - 48) }
+pub record Further (p : Part) (c : Scan) (b : ℕ) (r : Scan) : Type 0 where
+  pub part : r.part ≡ p
+  pub minus : r.minus ≡ c.minus
+  pub count : r.count ≡ suc c.count
+  pub number : r.number ≡ digit_more c b

@@ -1,16 +1,20 @@
 // Numerals: the key of the amount that bytes spell, read one by one.
 #![tactic(auto)]
 
-ghost use Rattle.std.specs.Prelude.{ℕ, ◌+◌, ◌-◌, ◌*◌, ◌^◌, ◌≤◌, ◌<◌, ◌≡◌, true, List, [], ◌∷◌, ◌++◌, length, ltb};
+ghost use Rattle.std.specs.Prelude.{ℕ, suc, ◌+◌, ◌-◌, ◌*◌, ◌^◌, ◌≤◌, ◌<◌, ◌≡◌, true, List, [], ◌∷◌, ◌++◌, length, ltb};
 ghost use Rattle.std.proofs.Math.Option.{some, none};
 ghost use Rattle.std.proofs.Math.Seq.{slice};
 ghost use Rattle.limits.specs.Limits.{numeral_digits, numeral_decimals};
 ghost use Rattle.xpath.specs.Reading.{is_digit, given, with_sign, amount_of};
-ghost use Rattle.numerals.specs.declared.Part.TheVariants.{Whole, Decimals};
+ghost use Rattle.numerals.specs.declared.scan.Part.TheVariants.{Whole, Decimals};
+ghost use Rattle.numerals.specs.Fits.{FitsIn};
 ghost use Rattle.numerals.specs.Keys.{bias, no_key, key_of};
-ghost use Rattle.numerals.specs.Scans.{resumed, resume, resume_if, FitsIn, Fits, FitsIf, further};
+ghost use Rattle.numerals.specs.Scans.{resumed, resume, resume_if, digit_more, Further};
+
+mod scan;
 
 use limits::Numeral;
+pub use scan::{Part, Scan};
 
 // The key of 0: no numeral has so many ten-thousandths.
 pub const BIAS: usize = 10_000_000_000_000;
@@ -24,26 +28,9 @@ fn keys_agree()
     ensures no_key_value { NO_KEY ≡ no_key }
 {}
 
-// The part of a numeral that its next byte may go on with.
-#[derive(Clone, Copy)]
-pub enum Part {
-    Start,
-    Whole,
-    Decimals,
-}
-
-// What the bytes so far have made: the digits of this part, and the number that all digits make. Where they have made no beginning of a numeral, there is no scan.
-#[derive(Clone, Copy)]
-pub struct Scan {
-    pub part: Part,
-    pub minus: bool,
-    pub count: usize,
-    pub number: usize,
-}
-
 // Before the first byte.
 pub fn begin() -> Scan
-    ensures { Fits result × ((bs : List ℕ) → resume result bs ≡ amount_of bs) }
+    ensures { (bs : List ℕ) → resume result bs ≡ amount_of bs }
 {
     Scan {
         part: Part::Start,
@@ -61,8 +48,8 @@ fn is_digit(b: u8) -> bool
 
 // One digit more, in a part of the numeral.
 fn more(c: Scan, part: Part, b: u8) -> Scan
-    requires { (is_digit b ≡ true) × (c.count < bias) × (c.number < bias) }
-    ensures { result ≡ further part c b }
+    requires { (is_digit b ≡ true) × (c.count < bias) × (c.number < bias) × FitsIn part (suc c.count) (digit_more c b) }
+    ensures { Further part c b result }
 {
     Scan {
         part,
@@ -74,8 +61,8 @@ fn more(c: Scan, part: Part, b: u8) -> Scan
 
 // Behind the point.
 fn in_decimals(c: Scan, b: u8) -> Option<Scan>
-    requires { FitsIn Decimals c }
-    ensures { FitsIf result × ((bs : List ℕ) → resume_if result bs ≡ resumed Decimals c (b ∷ bs)) }
+    requires { c.part ≡ Decimals }
+    ensures { (bs : List ℕ) → resume_if result bs ≡ resumed Decimals c (b ∷ bs) }
 {
     if is_digit(b) && c.count < Numeral::MAX_DECIMALS {
         return Some(more(c, Part::Decimals, b));
@@ -85,8 +72,8 @@ fn in_decimals(c: Scan, b: u8) -> Option<Scan>
 
 // Behind the sign: a digit, or the point behind the last of them.
 fn in_whole(c: Scan, b: u8) -> Option<Scan>
-    requires { FitsIn Whole c }
-    ensures { FitsIf result × ((bs : List ℕ) → resume_if result bs ≡ resumed Whole c (b ∷ bs)) }
+    requires { c.part ≡ Whole }
+    ensures { (bs : List ℕ) → resume_if result bs ≡ resumed Whole c (b ∷ bs) }
 {
     if is_digit(b) {
         if c.count < Numeral::MAX_DIGITS {
@@ -107,7 +94,7 @@ fn in_whole(c: Scan, b: u8) -> Option<Scan>
 
 // The first byte: a minus, or the first digit.
 fn at_start(b: u8) -> Option<Scan>
-    ensures { FitsIf result × ((bs : List ℕ) → resume_if result bs ≡ amount_of (b ∷ bs)) }
+    ensures { (bs : List ℕ) → resume_if result bs ≡ amount_of (b ∷ bs) }
 {
     let c = Scan {
         part: Part::Whole,
@@ -120,8 +107,7 @@ fn at_start(b: u8) -> Option<Scan>
 
 // One byte more.
 pub fn step(c: Scan, b: u8) -> Option<Scan>
-    requires { Fits c }
-    ensures { FitsIf result × ((bs : List ℕ) → resume_if result bs ≡ resume c (b ∷ bs)) }
+    ensures { (bs : List ℕ) → resume_if result bs ≡ resume c (b ∷ bs) }
 {
     match c.part {
         Part::Start => at_start(b),
@@ -132,8 +118,8 @@ pub fn step(c: Scan, b: u8) -> Option<Scan>
 
 // The bytes of a slice from one offset to another, as far as they can still make a numeral.
 pub fn scan_bytes(s: &[u8], from: usize, to: usize, c: Scan) -> Option<Scan>
-    requires { Fits c × (from ≤ to) × (to ≤ length s.now) }
-    ensures { FitsIf result × ((bs : List ℕ) → resume_if result bs ≡ resume c (slice from to s.now ++ bs)) }
+    requires { (from ≤ to) × (to ≤ length s.now) }
+    ensures { (bs : List ℕ) → resume_if result bs ≡ resume c (slice from to s.now ++ bs) }
 {
     let mut r = c;
     for b in &s[from..to] {
@@ -164,7 +150,6 @@ fn key_at_end(c: Scan, decimals: usize) -> usize
 
 // The key of what a scan has read, if it has read a numeral.
 pub fn key(c: Scan) -> usize
-    requires { Fits c }
     ensures { result ≡ key_of (resume c []) }
 {
     match c.part {

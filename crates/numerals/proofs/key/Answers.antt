@@ -1,21 +1,21 @@
 -- `numerals::key` meets its contract.
-use mathlib.Core.Path.{sym, ap, ◌∙◌, subst}
+use mathlib.Core.Path.{sym, ap, ◌∙◌}
 use mathlib.Core.List.{[]}
 use native.Mathlib.Omega.{arith}
 use Rattle.xpath.specs.Reading.{whole_from, decimals_from, amount_of}
 use Rattle.numerals.specs.Keys.{key_of}
-use Rattle.numerals.specs.Scans.{resumed, FitsIn}
-use Rattle.numerals.proofs.Scans.{number_whole}
+use Rattle.numerals.specs.Scans.{resumed}
+use Rattle.numerals.proofs.Scans.{number_whole, part_fits}
 use Rattle.numerals.proofs.key.Goals as goal
 
 pub key_at_end-requires : goal.key_at_end-requires
 key_at_end-requires c =
-    let f = subst (λ p. FitsIn p c.args.c) c.in-Whole.is c.requires in
+    let f = part_fits c.args.c c.in-Whole.is in
     (omega arith, number_whole _ _ f.1 f.0)
 
 pub key_at_end-requires-in-Decimals : goal.key_at_end-requires-in-Decimals
 key_at_end-requires-in-Decimals c =
-    subst (λ p. FitsIn p c.args.c) c.in-Decimals.is c.requires
+    part_fits c.args.c c.in-Decimals.is
 
 pub returns-in-Start : goal.returns-in-Start
 unfolding amount_of

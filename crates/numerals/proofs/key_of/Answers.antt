@@ -9,9 +9,9 @@ use Rattle.numerals.proofs.key_of.Goals as goal
 pub returns-in-None : goal.returns-in-None
 returns-in-None c =
     let a = c.args in
-    ap key_of (scanned (slice a.from a.to a.s.now) c.begin.result None c.begin.ensures.1 c.in-None.ensures.1)
+    ap key_of (scanned (slice a.from a.to a.s.now) c.begin.result None c.begin.ensures c.in-None.ensures)
 
 pub returns-in-Some : goal.returns-in-Some
 returns-in-Some c =
     let a = c.args in
-    c.key.ensures ∙ ap key_of (scanned (slice a.from a.to a.s.now) c.begin.result (Some c.in-Some.c) c.begin.ensures.1 c.in-Some.ensures.1)
+    c.key.ensures ∙ ap key_of (scanned (slice a.from a.to a.s.now) c.begin.result (Some c.in-Some.c) c.begin.ensures c.in-Some.ensures)

@@ -10,27 +10,27 @@ use Rattle.amounts.proofs.keys.node_key.Goals as goal
 use Rattle.amounts.proofs.keys.node_key.Goals.{After-refill-x}
 
 -- with a byte at hand, if one is to come
-filled : (c : After-refill-x) (ns : List Node) (k : Accepts c.args.s.now ns) → Filled c.args.s.now ns c.loop-x.x (c.loop-x.invariant.1 ns k).rest c.refill-x.result
-filled c ns k = let r = c.loop-x.invariant.1 ns k in c.refill-x.ensures c.args.s.now ns r.rest c.requires.0 k r.comes
+filled : (c : After-refill-x) (ns : List Node) (k : Accepts c.args.s.now ns) → Filled c.args.s.now ns c.loop-x.x (c.loop-x.invariant ns k).rest c.refill-x.result
+filled c ns k = let r = c.loop-x.invariant ns k in c.refill-x.ensures c.args.s.now ns r.rest c.requires.0 k r.comes
 
 pub loop-x-init : goal.loop-x-init
-loop-x-init c = (c.begin-c.ensures.0, λ ns k. read_none (c.value_of-x.ensures c.args.s.now ns c.requires.0 k) c.begin-c.ensures.1)
+loop-x-init c = λ ns k. read_none (c.value_of-x.ensures c.args.s.now ns c.requires.0 k) c.begin-c.ensures
 
 pub refill-x-requires : goal.refill-x-requires
 refill-x-requires c =
-    let h = c.requires.0.tabled in let r = c.loop-x.invariant.1 h.nodes h.accepts in
+    let h = c.requires.0.tabled in let r = c.loop-x.invariant h.nodes h.accepts in
     (c.args.s.now, h.nodes, r.rest, c.requires.0, h.accepts, r.comes)
 
 pub returns-then-x : goal.returns-then-x
-returns-then-x c = λ ns k. read_all (c.loop-x.invariant.1 ns k) ((filled (goal.at.returns-then-x c).After-refill-x ns k).empty c.if-x.true) c.key.ensures
+returns-then-x c = λ ns k. read_all (c.loop-x.invariant ns k) ((filled (goal.at.returns-then-x c).After-refill-x ns k).empty c.if-x.true) c.key.ensures
 
 pub scan_bytes-requires : goal.scan_bytes-requires
 scan_bytes-requires c =
     let h = c.requires.0.tabled in let l = c.if-x.false in
-    (c.loop-x.invariant.0, omega arith, (read_filled (c.loop-x.invariant.1 h.nodes h.accepts) (filled (goal.at.scan_bytes-requires c).After-refill-x h.nodes h.accepts)).comes.within)
+    (omega arith, (read_filled (c.loop-x.invariant h.nodes h.accepts) (filled (goal.at.scan_bytes-requires c).After-refill-x h.nodes h.accepts)).comes.within)
 
 pub returns-in_default : goal.returns-in_default
-returns-in_default c = λ ns k. let e = c.in_default.ensures in read_failed (read_filled (c.loop-x.invariant.1 ns k) (filled (goal.at.returns-in_default c).After-refill-x ns k)) e.1
+returns-in_default c = λ ns k. read_failed (read_filled (c.loop-x.invariant ns k) (filled (goal.at.returns-in_default c).After-refill-x ns k)) c.in_default.ensures
 
 pub loop-x-smaller : goal.loop-x-smaller
 loop-x-smaller c =
@@ -40,5 +40,4 @@ loop-x-smaller c =
 
 pub loop-x-preserved : goal.loop-x-preserved
 loop-x-preserved c =
-    let e = c.in-Some.ensures in
-    (e.0, λ ns k. read_more (read_filled (c.loop-x.invariant.1 ns k) (filled (goal.at.loop-x-preserved c).After-refill-x ns k)) e.1 c.spent-x.ensures)
+    λ ns k. read_more (read_filled (c.loop-x.invariant ns k) (filled (goal.at.loop-x-preserved c).After-refill-x ns k)) c.in-Some.ensures c.spent-x.ensures

@@ -1,1 +1,0 @@
--- `numerals::step` meets its contract.
