@@ -3,35 +3,35 @@
 
 mod blocks;
 
-ghost use Rattle.std.specs.Prelude.{List, ◌∷◌, ◌≢◌, ℕ, ◌+◌, ◌≤◌, length};
+ghost use Rattle.std.specs.Prelude.{List, ◌∷◌, ◌≡◌, ◌≢◌, ℕ, length};
 ghost use Rattle.string_order.specs.Ordered.{Ordered, Begins, Agrees};
 
 use blocks::{BLOCK, same_blocks};
 use std::cmp::Ordering;
 
-// How many of `most` bytes are the same, where the first `from` are known to be.
-fn agree_from(x: &[u8], i: usize, y: &[u8], j: usize, most: usize, from: usize) -> usize
-    requires { (i + most ≤ length x.now) × (j + most ≤ length y.now) × Begins x.now i y.now j most from }
-    ensures { Agrees x.now i y.now j most result }
+// How many of the first bytes of two slices are the same, where the first `from` are known to be.
+fn agree_from(x: &[u8], y: &[u8], from: usize) -> usize
+    requires { (length x.now ≡ length y.now) × Begins x.now y.now from }
+    ensures { Agrees x.now y.now result }
 {
-    for k in from..most {
-        if x[i + k] != y[j + k] {
+    for k in from..x.len() {
+        if x[k] != y[k] {
             return k;
         }
     }
-    most
+    x.len()
 }
 
-// How many of `most` bytes are the same in `x` from `i` on and in `y` from `j` on. Strings of a block or less would lose by blocks.
-pub fn agree(x: &[u8], i: usize, y: &[u8], j: usize, most: usize) -> usize
-    requires { (i + most ≤ length x.now) × (j + most ≤ length y.now) }
-    ensures { Agrees x.now i y.now j most result }
+// How many of the first bytes of two slices are the same. Slices of a block or less would lose by blocks.
+pub fn agree(x: &[u8], y: &[u8]) -> usize
+    requires { length x.now ≡ length y.now }
+    ensures { Agrees x.now y.now result }
 {
-    if most <= BLOCK {
-        return agree_from(x, i, y, j, most, 0);
+    if x.len() <= BLOCK {
+        return agree_from(x, y, 0);
     }
-    let k = same_blocks(x, i, y, j, most);
-    agree_from(x, i, y, j, most, k)
+    let k = same_blocks(x, y);
+    agree_from(x, y, k)
 }
 
 // How two strings compare that differ in their first bytes.

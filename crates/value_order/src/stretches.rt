@@ -22,7 +22,7 @@ pub fn look(s: &[u8], x: Reading, c: &[u8], y: Reading) -> ControlFlow<Ordering,
         return ControlFlow::Break(Ordering::Greater);
     }
     let most = (x.to - x.from).min(y.to - y.from);
-    let k = agree(s, x.from, c, y.from, most);
+    let k = agree(&s[x.from..x.from + most], &c[y.from..y.from + most]);
     if k == most {
         return ControlFlow::Continue(k);
     }

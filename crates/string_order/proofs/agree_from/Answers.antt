@@ -3,10 +3,7 @@ use native.Mathlib.Omega.{arith}
 use Rattle.string_order.proofs.Agreement.{begins_more}
 use Rattle.string_order.proofs.agree_from.Goals as goal
 
-pub loop-k-init : goal.loop-k-init
-loop-k-init c = c.requires.2
-
 pub loop-k-preserved : goal.loop-k-preserved
 loop-k-preserved c =
     let a = c.args in let l = c.loop-k in
-    begins_more a.x.now a.i a.y.now a.j a.most l.k l.invariant (omega arith) (omega arith)
+    begins_more a.x.now a.y.now l.k l.invariant (omega arith) (omega arith)

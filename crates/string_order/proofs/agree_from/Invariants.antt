@@ -3,4 +3,4 @@ use Rattle.string_order.specs.Ordered.{Begins}
 use Rattle.string_order.proofs.agree_from.Given as goal
 
 abbrev pub invariant-loop-k : goal.invariant-loop-k
-invariant-loop-k l = Begins l.x l.i l.y l.j l.most l.k
+invariant-loop-k l = Begins l.x l.y l.k

@@ -6,4 +6,4 @@ use Rattle.string_order.specs.Ordered.{block, Common}
 use Rattle.string_order.proofs.blocks.same_block.Given as goal
 
 abbrev pub invariant-loop-k : goal.invariant-loop-k
-invariant-loop-k l = (l.k ≤ block) × (l.all ≡ true → Common l.x l.i l.y l.j l.k)
+invariant-loop-k l = (l.k ≤ block) × (l.all ≡ true → Common l.x l.y l.k)

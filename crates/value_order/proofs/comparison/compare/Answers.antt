@@ -58,12 +58,6 @@ pub returns-in-Break : goal.returns-in-Break
 returns-in-Break c =
     λ ns bs cs k h g. facing_decided (level (goal.at.returns-in-Break c).After-refill-j ns bs cs k h g).0 c.in-Break.o c.in-Break.ensures
 
-pub behind-i-requires : goal.behind-i-requires
-behind-i-requires c = c.in-Continue.ensures.left
-
-pub behind-j-requires : goal.behind-j-requires
-behind-j-requires c = c.in-Continue.ensures.right
-
 pub loop-o-smaller : goal.loop-o-smaller
 loop-o-smaller c =
     let (p, (ns, bs, cs, k, h, g)) = c.requires in let (f, w) = level (goal.at.loop-o-smaller c).After-refill-j ns bs cs k h g in

@@ -45,12 +45,6 @@ look-requires c =
 pub returns-in-Break : goal.returns-in-Break
 returns-in-Break c = λ ns bs k h. facing_decided (level (goal.at.returns-in-Break c).After-refill-i ns bs k h).0 c.in-Break.o c.in-Break.ensures
 
-pub behind-i-requires : goal.behind-i-requires
-behind-i-requires c = c.in-Continue.ensures.left
-
-pub behind-j-requires : goal.behind-j-requires
-behind-j-requires c = c.in-Continue.ensures.right
-
 pub loop-o-smaller : goal.loop-o-smaller
 loop-o-smaller c =
     let (ns, bs, p, k, h) = c.requires.0 in let (f, w) = level (goal.at.loop-o-smaller c).After-refill-i ns bs k h in

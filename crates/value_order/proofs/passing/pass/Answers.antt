@@ -10,12 +10,6 @@ use Rattle.value_order.proofs.passing.pass.Goals as goal
 pub loop-a-init : goal.loop-a-init
 loop-a-init c = λ s ns bs cs p k h g. (along_none h g, omega arith)
 
-pub is_between-requires : goal.is_between-requires
-is_between-requires c = tt
-
-pub is_between-requires-in-loop-a : goal.is_between-requires-in-loop-a
-is_between-requires-in-loop-a c = tt
-
 pub get-a-requires : goal.get-a-requires
 get-a-requires c =
     let (s, ns, bs, cs, p, k, h, g) = c.requires in
@@ -30,9 +24,6 @@ get-b-requires c =
     let r = c.is_between-in-loop-a.ensures c.if-is_between.true in
     (omega arith, node_inside l.right_comes p.annotated k r.1 refl, p.annotated.tabled.room)
 
-pub returns-then-a-i : goal.returns-then-a-i
-returns-then-a-i c = c.loop-a.invariant
-
 pub same_text-requires : goal.same_text-requires
 same_text-requires c =
     let (s, ns, bs, cs, p, k, h, g) = c.requires in
@@ -40,12 +31,6 @@ same_text-requires c =
     let r = c.is_between.ensures c.loop-a-test.true in
     let w = c.is_between-in-loop-a.ensures c.if-is_between.true in
     ((s, p), next_inside l.left_comes p.annotated k r.1 c.get-a.ensures.0, next_inside l.right_comes p.annotated k w.1 c.get-b.ensures.0)
-
-pub returns-then-not-same_text : goal.returns-then-not-same_text
-returns-then-not-same_text c = c.loop-a.invariant
-
-pub past-i-requires : goal.past-i-requires
-past-i-requires c = tt
 
 pub past-j-requires : goal.past-j-requires
 past-j-requires c = tt
@@ -72,9 +57,3 @@ loop-a-preserved c =
     texts_passed p k l (left-between c) (c.is_between-in-loop-a.ensures c.if-is_between.true) c.get-a.ensures.0 c.get-b.ensures.0 c.if-a-i.false
     c.if-b-j.false z c.past-i.ensures c.past-j.ensures in
     (r, omega arith)
-
-pub returns-else-is_between : goal.returns-else-is_between
-returns-else-is_between c = c.loop-a.invariant
-
-pub returns-after-loop-a : goal.returns-after-loop-a
-returns-after-loop-a c = c.loop-a.invariant

@@ -10,6 +10,3 @@ returns-then-get c =
     let a = c.get.ensures.0 in let b = c.get-2.ensures.0 in
     let x = c.get-then-get.ensures.0 in let y = c.get-then-get-2.ensures.0 in
     λ e s ns h k. same_text h k i j (sym a ∙ c.if-get.true ∙ b) (sym x ∙ eqb-true _ _ e ∙ y)
-
-pub returns-else-get : goal.returns-else-get
-returns-else-get c = λ e. absurd (c.if-get.false (eqb-true _ _ e))
