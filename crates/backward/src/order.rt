@@ -14,6 +14,7 @@ use rank_sets::ranges::{Range, ordered};
 use rule_parts::kinds::Operator;
 
 // The range of the first path at node `v` if `i` is 0, and of the second if `i` is 1.
+// `i` stays a number: it is what is added to a column, here and in `range_of`; an enum would be turned back into 0 and 1.
 fn range_at(p: &[u16], n: usize, i: usize, v: usize) -> Range
     requires { (i ≤ 1) × (v < n) × Room n p.now }
     ensures { (result ≡ range_of p.now n i v) × (result.least < word_values) }

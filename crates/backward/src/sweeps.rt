@@ -6,19 +6,21 @@ ghost use Rattle.layout.specs.Sweeps.{LEAST, ABOVE};
 ghost use Rattle.layout.specs.Words.{NONE};
 ghost use Rattle.retracing.specs.Backward.{LinkedBothWays};
 ghost use Rattle.buckets.specs.Buckets.{Buckets};
-ghost use Rattle.retracing.specs.Notes.{Paired};
+ghost use Rattle.retracing.specs.Notes.{column_of};
 ghost use Rattle.backward.specs.Sweeps.{Blank, Blanked, Risen, Fallen, Ranges};
 
 use layout::words::fill;
-use layout::{Part, Sweeps, Table};
+use layout::{Part, Table};
 use machine::Machine;
+use retracing::bounds::Bound;
 use retracing::seeds::seed_rank;
 
-// Nothing is seen, and `x` stands in column `c` and in the next.
-fn blank(p: &mut [u16], n: usize, c: usize, x: usize)
-    requires { Space n p.old × Paired c × (x < word_values) }
-    ensures { Blanked n c x p.old p.new }
+// Nothing is seen, and `x` stands in the columns of the bound, one for each path.
+fn blank(p: &mut [u16], n: usize, bound: Bound, x: usize)
+    requires { Space n p.old × (x < word_values) }
+    ensures { Blanked n (column_of bound) x p.old p.new }
 {
+    let c = bound.column();
     fill(p, n, Part::SEEN, 0);
     fill(p, n, c, x);
     fill(p, n, c + 1, x);
@@ -31,19 +33,19 @@ fn rise(p: &mut [u16], n: usize, m: Machine)
 {
     let mut len = 0;
     for r in 0..n {
-        len = seed_rank(p, n, m, r, len, Sweeps::LEAST, r);
+        len = seed_rank(p, n, m, r, len, Bound::Least, r);
     }
 }
 
 // The ranks from the greatest on. What is noted is one more than a rank.
-// Not one function with `rise`: order, column, word and contract are all others.
+// Not one function with `rise`: order, bound, word and contract are all others.
 fn fall(p: &mut [u16], n: usize, m: Machine)
     requires { Blank n ABOVE 0 p.old × LinkedBothWays n p.old × Buckets n p.old × (m.second < positions) }
     ensures { Fallen m n p.old p.new }
 {
     let mut len = 0;
     for r in (0..n).rev() {
-        len = seed_rank(p, n, m, r, len, Sweeps::ABOVE, r + 1);
+        len = seed_rank(p, n, m, r, len, Bound::Above, r + 1);
     }
 }
 
@@ -52,8 +54,8 @@ pub fn sweep(p: &mut [u16], n: usize, m: Machine)
     requires { Space n p.old × LinkedBothWays n p.old × Buckets n p.old × (m.second < positions) }
     ensures { Ranges m n p.old p.new }
 {
-    blank(p, n, Sweeps::LEAST, Table::NONE);
+    blank(p, n, Bound::Least, Table::NONE);
     rise(p, n, m);
-    blank(p, n, Sweeps::ABOVE, 0);
+    blank(p, n, Bound::Above, 0);
     fall(p, n, m);
 }

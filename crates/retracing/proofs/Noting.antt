@@ -16,7 +16,14 @@ use Rattle.layout.proofs.Frames.{frame_none, frame_then}
 use Rattle.reach.specs.Work.{node_of, Work}
 use Rattle.reach.proofs.Keeping.{Untouched, untouched_beside, untouched_node, untouched_set, untouched_has, untouched_work}
 use Rattle.retracing.specs.Backward.{OfEntry, OfEntries}
-use Rattle.retracing.specs.Notes.{Paired, PutIf, put, skip, Noted, Notes}
+use Rattle.retracing.specs.Notes.{column_of, Paired, PutIf, put, skip, Noted, Notes}
+use Rattle.retracing.specs.declared.bounds.Bound.{Bound}
+use Rattle.retracing.specs.declared.bounds.Bound.TheVariants.{Least, Above}
+
+-- the columns of the bounds
+pub column_paired : (bound : Bound) → Paired (column_of bound)
+column_paired Least = (omega arith, omega arith)
+column_paired Above = (omega arith, omega arith)
 
 -- ── One column ──
 module _ {n c x : ℕ} {A B : ℕ → Type 0} {p q : List ℕ} where
@@ -74,6 +81,10 @@ notes_put {n} {c} {v} l f g =
 -- ── Notes after notes ──
 notes_none : (n c x : ℕ) (p : List ℕ) {A B : ℕ → Type 0} → ((v : ℕ) → ¬ A v) → ((v : ℕ) → ¬ B v) → Notes n c x A B p p
 notes_none n c x p a b = record { frame = frame_none p; first = record { node = λ v l. inr (a v, refl) }; second = record { node = λ v l. inr (b v, refl) } }
+
+-- the same column, said otherwise
+pub notes_in : {n c d x : ℕ} {A B : ℕ → Type 0} {p q : List ℕ} → c ≡ d → Notes n c x A B p q → Notes n d x A B p q
+notes_in {n} {x = x} {A} {B} {p} {q} e g = subst (λ (y : ℕ). Notes n y x A B p q) e g
 
 module _ {n c x : ℕ} {A B C D : ℕ → Type 0} {p q : List ℕ} where
   notes_as : ((v : ℕ) → v < n → A v ↔ C v) → ((v : ℕ) → v < n → B v ↔ D v) → Notes n c x A B p q → Notes n c x C D p q

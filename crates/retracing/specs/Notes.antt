@@ -4,9 +4,16 @@ use Rattle.layout.specs.Sweeps.{LEAST, ABOVE}
 use Rattle.layout.specs.Words.{cell, word, Wrote, Frame}
 use Rattle.machine.specs.declared.Machine.{Machine}
 use Rattle.reach.specs.Work.{Added}
+use Rattle.retracing.specs.declared.bounds.Bound.{Bound}
+use Rattle.retracing.specs.declared.bounds.Bound.TheVariants.{Least, Above}
 use Rattle.retracing.specs.Backward.{New, Ends}
 
--- c is the first of such two columns
+-- the first of such two columns, for each bound of a range
+abbrev pub column_of : Bound → ℕ
+column_of Least = LEAST
+column_of Above = ABOVE
+
+-- c is one of these, or between them
 abbrev pub Paired : ℕ → Type 0
 Paired c = (LEAST ≤ c) × (c ≤ ABOVE)
 

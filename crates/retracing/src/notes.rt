@@ -4,8 +4,9 @@ ghost use Rattle.limits.specs.Limits.{positions, word_values};
 ghost use Rattle.layout.specs.Table.{COLUMNS, Room};
 ghost use Rattle.reach.specs.Work.{Work};
 ghost use Rattle.retracing.specs.Backward.{OfEntry, OfEntries};
-ghost use Rattle.retracing.specs.Notes.{Paired, PutIf, Notes};
+ghost use Rattle.retracing.specs.Notes.{column_of, PutIf, Notes};
 
+use crate::bounds::Bound;
 use bits::has;
 use layout::words::put;
 use reach::list::entry_at;
@@ -21,11 +22,12 @@ fn put_if(p: &mut [u16], n: usize, c: usize, v: usize, b: bool, x: usize)
 }
 
 // The word `x` for the starts in entry `h`: the first path's is position 0.
-fn note_entry(p: &mut [u16], n: usize, second: usize, h: usize, len: usize, c: usize, x: usize)
-    requires { Work n len p.old × (h < len) × (second < positions) × Paired c × (x < word_values) }
-    ensures { Notes n c x (OfEntry p.old n 0 h) (OfEntry p.old n second h) p.old p.new }
+fn note_entry(p: &mut [u16], n: usize, second: usize, h: usize, len: usize, bound: Bound, x: usize)
+    requires { Work n len p.old × (h < len) × (second < positions) × (x < word_values) }
+    ensures { Notes n (column_of bound) x (OfEntry p.old n 0 h) (OfEntry p.old n second h) p.old p.new }
 {
     let e = entry_at(p, n, h, len);
+    let c = bound.column();
     put_if(p, n, c, e.node, has(e.set, 0), x);
     put_if(p, n, c + 1, e.node, has(e.set, second as u16), x);
 }
@@ -37,13 +39,13 @@ pub fn note_entries(
     second: usize,
     from: usize,
     len: usize,
-    c: usize,
+    bound: Bound,
     x: usize,
 )
-    requires { Work n len p.old × (from ≤ len) × (second < positions) × Paired c × (x < word_values) }
-    ensures { Notes n c x (OfEntries p.old n 0 from len) (OfEntries p.old n second from len) p.old p.new }
+    requires { Work n len p.old × (from ≤ len) × (second < positions) × (x < word_values) }
+    ensures { Notes n (column_of bound) x (OfEntries p.old n 0 from len) (OfEntries p.old n second from len) p.old p.new }
 {
     for h in from..len {
-        note_entry(p, n, second, h, len, c, x);
+        note_entry(p, n, second, h, len, bound, x);
     }
 }

@@ -4,5 +4,4 @@ use Rattle.backward.proofs.sweeps.blank.Goals as goal
 
 pub returns : goal.returns
 returns c =
-    let x = c.requires in
-    blanked x.0 x.1 c.fill.ensures c.fill-2.ensures c.fill-3.ensures
+    blanked c.args.bound c.column-c.ensures c.requires.0 c.fill.ensures c.fill-2.ensures c.fill-3.ensures

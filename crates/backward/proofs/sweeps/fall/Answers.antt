@@ -10,7 +10,7 @@ loop-r-init c = let x = c.requires in falling_none x.0 x.1
 pub seed_rank-len-requires : goal.seed_rank-len-requires
 seed_rank-len-requires c =
     let s = c.loop-r.invariant in let x = c.requires in let few = s.added.work.space.few in let l = c.loop-r-test.true in
-    (s.added.work, s.linked, s.closed, spared_buckets ABOVE (omega arith) s.added.spared x.2, omega arith, x.3, (omega arith, omega arith), omega arith)
+    (s.added.work, s.linked, s.closed, spared_buckets ABOVE (omega arith) s.added.spared x.2, omega arith, x.3, omega arith)
 
 pub loop-r-preserved : goal.loop-r-preserved
 loop-r-preserved c =

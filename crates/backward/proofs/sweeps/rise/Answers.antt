@@ -10,7 +10,7 @@ loop-r-init c = (omega arith, rising_none c.requires.0 c.requires.1)
 pub seed_rank-len-requires : goal.seed_rank-len-requires
 seed_rank-len-requires c =
     let s = c.loop-r.invariant.1 in let x = c.requires in let few = s.added.work.space.few in let l = c.loop-r-test.true in
-    (s.added.work, s.linked, s.closed, spared_buckets LEAST (omega arith) s.added.spared x.2, l, x.3, (omega arith, omega arith), omega arith)
+    (s.added.work, s.linked, s.closed, spared_buckets LEAST (omega arith) s.added.spared x.2, l, x.3, omega arith)
 
 pub loop-r-preserved : goal.loop-r-preserved
 loop-r-preserved c =
