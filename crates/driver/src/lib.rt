@@ -1,5 +1,6 @@
 // The driver over a rule's tests: test after test is settled, inner ones first, from the last to the first.
 // Which evaluation it is goes along as an argument, and shows only where `evaluators` answers a comparison.
+// Document, rule and number of nodes go along one by one: in a struct they read `call.entry.document.now` in an `ensures`, and contracts, proofs and code all got longer (tried).
 #![tactic(auto)]
 
 pub mod by_values;

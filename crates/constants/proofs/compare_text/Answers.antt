@@ -2,9 +2,6 @@
 use Rattle.document_spec.specs.Binary.{compared_of}
 use Rattle.constants.proofs.compare_text.Goals as goal
 
-pub value_of-x-requires : goal.value_of-x-requires
-value_of-x-requires c = ((c.args.s.now, c.requires.0), c.requires.1)
-
 pub compare_constant-requires : goal.compare_constant-requires
 compare_constant-requires c =
     let h = c.requires.0 in let ns = h.tabled.nodes in let a = h.tabled.accepts in

@@ -18,17 +18,8 @@ pub loop-lo-init : goal.loop-lo-init
 loop-lo-init c = let x = c.args in (omega arith, λ ns a g. around_all (against ns x.rule.now x.c) x.n (word x.t.now x.n c.column-k.result))
 
 -- ── The node nearest to the middle ──
-pub overflow_sub-mid : goal.overflow_sub-mid
-overflow_sub-mid c = let l = c.loop-lo-test.true in omega arith
-
-pub overflow_add-mid : goal.overflow_add-mid
-overflow_add-mid c = let l = c.loop-lo-test.true in let h = c.loop-lo.invariant.0 in omega arith
-
 pub nearest-v-requires : goal.nearest-v-requires
 nearest-v-requires c = (c.requires.0.tabled.room, subst (λ k. k < COLUMNS) (sym c.column-k.ensures) (column_inside c.args.c))
-
-pub loop-lo-smaller-then-v-n : goal.loop-lo-smaller-then-v-n
-loop-lo-smaller-then-v-n c = let l = c.loop-lo-test.true in omega arith
 
 pub loop-lo-preserved-then-v-n : goal.loop-lo-preserved-then-v-n
 loop-lo-preserved-then-v-n c = let i = c.loop-lo in let l = c.loop-lo-test.true in let h = i.invariant.0 in (omega arith, λ ns a g. around_none (i.invariant.1 ns a g) c.nearest-v.ensures c.if-v-n.true)
@@ -36,31 +27,16 @@ loop-lo-preserved-then-v-n c = let i = c.loop-lo in let l = c.loop-lo-test.true 
 pub get-r-requires : goal.get-r-requires
 get-r-requires c = (subst (λ k. k < COLUMNS) (sym c.column-k.ensures) (column_inside c.args.c), inside c, c.requires.0.tabled.room)
 
-pub compare_value-requires : goal.compare_value-requires
-compare_value-requires c = let p = c.requires in (p.0, (let inside-here : c.nearest-v.result < c.args.n = let w = c.nearest-v.ensures.within in let l = c.if-v-n.false in omega arith in inside-here), p.1)
-
-pub overflow_add-lo : goal.overflow_add-lo
-overflow_add-lo c = let l = c.get-r.ensures.1 in omega arith
-
-pub loop-lo-smaller-in-Less : goal.loop-lo-smaller-in-Less
-loop-lo-smaller-in-Less c = let l = c.loop-lo-test.true in let m = (c.nearest-v.ensures.high (let inside-here : c.nearest-v.result < c.args.n = let w = c.nearest-v.ensures.within in let l = c.if-v-n.false in omega arith in inside-here)).0 in let e = c.get-r.ensures.0 in omega arith
-
 pub loop-lo-preserved-in-Less : goal.loop-lo-preserved-in-Less
 loop-lo-preserved-in-Less c =
     let i = c.loop-lo in let x = c.args in let m = c.nearest-v in
     (i.invariant.0, λ ns a g. around_smaller g m.ensures (let inside-here : c.nearest-v.result < c.args.n = let w = c.nearest-v.ensures.within in let l = c.if-v-n.false in omega arith in inside-here) c.get-r.ensures.0 (i.invariant.1 ns a g) (subst (λ o. ComparesAt (against ns x.rule.now x.c) m.result o) c.in-Less.is (c.compare_value.ensures ns a)))
-
-pub overflow_add-result : goal.overflow_add-result
-overflow_add-result c = let l = c.get-r.ensures.1 in omega arith
 
 pub returns-in-Equal : goal.returns-in-Equal
 returns-in-Equal c =
     let x = c.args in let m = c.nearest-v in let k = c.column-k in
     λ ns a r w. placed_there x.t.now k.ensures
     (placed_same (valued x.rule.now x.c c.column-k.ensures (tree_size c.requires.0.tabled ns a) (tree_small a) r w) m.ensures (let inside-here : c.nearest-v.result < c.args.n = let w = c.nearest-v.ensures.within in let l = c.if-v-n.false in omega arith in inside-here) c.get-r.ensures.0 (subst (λ o. ComparesAt (against ns x.rule.now x.c) m.result o) c.in-Equal.is (c.compare_value.ensures ns a)))
-
-pub loop-lo-smaller : goal.loop-lo-smaller
-loop-lo-smaller c = let l = c.loop-lo-test.true in omega arith
 
 pub loop-lo-preserved : goal.loop-lo-preserved
 loop-lo-preserved c =

@@ -9,9 +9,6 @@ use Rattle.ranks.proofs.Order.{string_order_lem}
 use Rattle.ranks.proofs.Numbering.{numbering_one, ranks_prepared}
 use Rattle.ranks.proofs.number.number.Goals as goal
 
-pub get-u-requires : goal.get-u-requires
-get-u-requires c = let h = c.requires.0.annotated.tabled in let z = h.accepts.legal.some in let e = h.size in (omega arith, omega arith, h.room)
-
 pub loop-i-init : goal.loop-i-init
 loop-i-init c = let x = c.args in λ ns a. numbering_none (compared_of ns) x.n RANK c.get-u.result x.t.now c.get-u.ensures.0
 
@@ -44,6 +41,3 @@ pub returns : goal.returns
 returns c =
     let h = c.requires.0 in let g = c.loop-i.invariant in
     record { within = (numbering_one h g).within; done = λ ns a. numbering_all string_order_lem (g ns a) c.loop-i-test.false }
-
-pub shape_of-t : goal.shape_of-t
-shape_of-t c = (returns c).within.long

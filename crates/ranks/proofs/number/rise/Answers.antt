@@ -11,9 +11,6 @@ returns-then-get c =
     let p = c.requires in
     (omega arith, λ ns a. rises_told ns c.args.v c.args.u Equal (twins_same ns c.args.v c.args.u p.0 a p.1 p.2 (sym c.get.ensures.0 ∙ c.if-get.true ∙ c.get-2.ensures.0)))
 
-pub value_of-x-requires : goal.value_of-x-requires
-value_of-x-requires c = ((c.args.s.now, c.requires.0.annotated), c.requires.2)
-
 pub compare_with-requires : goal.compare_with-requires
 compare_with-requires c =
     let g = c.requires.0.annotated in let h = g.tabled in

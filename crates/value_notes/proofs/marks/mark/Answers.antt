@@ -37,11 +37,6 @@ put-requires-2 c =
     let x = c.requires in let h = x.0.tabled in let z = (told_small h x.1 (let seen-here : (ns : List Node) → Accepts c.args.s.now ns → Seen c.args.s.now ns c.args.v c.look-m.result.texts.first c.look-m.result.texts.last c.look-m.result.note = λ ns a. c.look-m.ensures c.args.s.now ns c.requires.0 a c.requires.1 ((let entry-here : (ns : List Node) → Accepts c.args.s.now ns → IsEntry c.args.s.now ns c.args.v c.read_entry-e.result = λ ns a. c.read_entry-e.ensures ns c.args.v (stands_at c.requires.0.tabled ns a c.requires.1 c.offset-at.ensures) in entry-here) ns a) c.trim-q.ensures in seen-here)).1 in let l = c.put.ensures.long in let r = h.room in
     (omega arith, x.1, omega arith, omega arith)
 
-pub put-requires-3 : goal.put-requires-3
-put-requires-3 c =
-    let x = c.requires in let r = x.0.tabled.room in let z = x.3 in let l = c.put-2.ensures.long in let m = c.put.ensures.long in
-    (omega arith, x.1, omega arith, omega arith)
-
 pub put_note-requires : goal.put_note-requires
 put_note-requires c =
     let x = c.requires in let h = x.0.tabled in let r = h.room in let l = c.put-3.ensures.long in let m = c.put-2.ensures.long in let o = c.put.ensures.long in

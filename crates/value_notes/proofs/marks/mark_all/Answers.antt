@@ -19,9 +19,6 @@ mark-next-requires c =
 pub loop-v-preserved : goal.loop-v-preserved
 loop-v-preserved c = let q = c.mark-next.ensures in filling_step c.loop-v.invariant q.0 q.1 q.2 q.3
 
-pub shape_of-t : goal.shape_of-t
-shape_of-t c = c.loop-v.invariant.noted.long
-
 pub returns : goal.returns
 returns c =
     let g = c.loop-v in let x = c.args in let l = c.loop-v-test.false in
