@@ -32,9 +32,9 @@ pub fn node_key(s: &[u8], t: &[u16], n: usize, v: usize) -> usize
     loop {
         x = refill(t, n, x);
         if x.to <= x.from {
-            return key(c);
+            return key(Some(c));
         }
-        let Some(r) = scan_bytes(s, x.from, x.to, c) else {
+        let Some(r) = scan_bytes(s, x.from, x.to, Some(c)) else {
             return NO_KEY;
         };
         c = r;

@@ -74,6 +74,16 @@ module _ (s : List ℕ) (from to : ℕ) (h : Stands s from to) where
       go true q = ap first_line (tells.0 q ∙ ap (λ (l : List ℕ). l ++ drop (length (key_at s from)) (drop o s)) key_is) ∙ line_first key_line (drop (length (key_at s from)) (drop o s)) ∙ sym key_is
       go false q = λ same. true≢false (sym (tells.1 (behind_line (drop o s)) (sym (first_behind (drop o s)) ∙ ap (λ (l : List ℕ). l ++ behind_line (drop o s)) same)) ∙ q)
 
+  -- as many bytes at o are the line, or are not
+  pub line_same : (o : ℕ) (r : Bool) → o ≤ from → r ≡ pointwise nat_eq (between from to s) (between o (o + (to - from)) s) → Told (key_at s o ≡ key_at s from) r
+  line_same o r le e = line_told o r (e ∙ ap (pointwise nat_eq (between from to s)) same)
+    where
+      long : length (between from to s) ≡ to - from
+      long = ap length line_bytes ∙ omega (arith, stands_length)
+
+      same : between o (o + (to - from)) s ≡ take (length (between from to s)) (between o (length s) s)
+      same = ap₂ take (omega arith ∙ sym long) (sym (between_to_end s o (length s) (omega arith)))
+
   -- ── The way of a search ──
   -- byte i of the line, at a place that is told from either end
   byte_at : (i j : ℕ) → i < length (key_at s from) → j ≡ from + i → get_or s j 0 ≡ get_or (key_at s from) i 0

@@ -40,13 +40,13 @@ pub enum NotAdded {
     Full,
 }
 
-// Whether the line at an offset is the one between two others.
+// Whether the line at an offset is the one between two others. As slices of one length, and not by `starts_with`: most lines that are met differ in their first bytes, which `==` looks at before it calls for the rest.
 #[tactic(auto, using(crate::proofs::Keys::stands_two))]
 fn same_line(s: &[u8], o: usize, from: usize, to: usize) -> bool
     requires { Stands s.now from to × (o ≤ from) × (length s.now ≤ document_bytes) }
     ensures { Told (key_at s.now o ≡ key_at s.now from) result }
 {
-    s[o..].starts_with(&s[from..to])
+    s[from..to] == s[o..o + (to - from)]
 }
 
 // The link at which a search for the line between two offsets begins. Labels of one element differ mostly in their first, middle or last byte.

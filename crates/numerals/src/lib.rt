@@ -105,10 +105,11 @@ fn at_start(b: u8) -> Option<Scan>
     if b == b'-' { Some(c) } else { in_whole(c, b) }
 }
 
-// One byte more.
-pub fn step(c: Scan, b: u8) -> Option<Scan>
-    ensures { (bs : List ℕ) → resume_if result bs ≡ resume c (b ∷ bs) }
+// One byte more; where there is no scan any more, there is none.
+pub fn step(c: Option<Scan>, b: u8) -> Option<Scan>
+    ensures { (bs : List ℕ) → resume_if result bs ≡ resume_if c (b ∷ bs) }
 {
+    let c = c?;
     match c.part {
         Part::Start => at_start(b),
         Part::Whole => in_whole(c, b),
@@ -117,13 +118,13 @@ pub fn step(c: Scan, b: u8) -> Option<Scan>
 }
 
 // The bytes of a slice from one offset to another, as far as they can still make a numeral.
-pub fn scan_bytes(s: &[u8], from: usize, to: usize, c: Scan) -> Option<Scan>
+pub fn scan_bytes(s: &[u8], from: usize, to: usize, c: Option<Scan>) -> Option<Scan>
     requires { (from ≤ to) × (to ≤ length s.now) }
-    ensures { (bs : List ℕ) → resume_if result bs ≡ resume c (slice from to s.now ++ bs) }
+    ensures { (bs : List ℕ) → resume_if result bs ≡ resume_if c (slice from to s.now ++ bs) }
 {
-    let mut r = c;
+    let mut r = c?;
     for b in &s[from..to] {
-        r = step(r, *b)?;
+        r = step(Some(r), *b)?;
     }
     Some(r)
 }
@@ -149,7 +150,7 @@ fn key_at_end(c: Scan, decimals: usize) -> usize
 }
 
 // The key of what a scan has read, if it has read a numeral.
-pub fn key(c: Scan) -> usize
+fn scan_key(c: Scan) -> usize
     ensures { result ≡ key_of (resume c []) }
 {
     match c.part {
@@ -159,13 +160,20 @@ pub fn key(c: Scan) -> usize
     }
 }
 
+// The same, if there is a scan; where there is none, the bytes are no numeral.
+pub fn key(c: Option<Scan>) -> usize
+    ensures { result ≡ key_of (resume_if c []) }
+{
+    match c {
+        Some(scan) => scan_key(scan),
+        None => NO_KEY,
+    }
+}
+
 // The key of the bytes of a slice from one offset to another.
 pub fn key_of(s: &[u8], from: usize, to: usize) -> usize
     requires { (from ≤ to) × (to ≤ length s.now) }
     ensures { result ≡ key_of (amount_of (slice from to s.now)) }
 {
-    match scan_bytes(s, from, to, begin()) {
-        Some(c) => key(c),
-        None => NO_KEY,
-    }
+    key(scan_bytes(s, from, to, Some(begin())))
 }

@@ -1,4 +1,4 @@
--- `numerals::key` meets its contract.
+-- `numerals::scan_key` meets its contract.
 use mathlib.Core.Path.{sym, ap, ◌∙◌}
 use mathlib.Core.List.{[]}
 use native.Mathlib.Omega.{arith}
@@ -6,7 +6,7 @@ use Rattle.xpath.specs.Reading.{whole_from, decimals_from, amount_of}
 use Rattle.numerals.specs.Keys.{key_of}
 use Rattle.numerals.specs.Scans.{resumed}
 use Rattle.numerals.proofs.Scans.{number_whole, part_fits}
-use Rattle.numerals.proofs.key.Goals as goal
+use Rattle.numerals.proofs.scan_key.Goals as goal
 
 pub key_at_end-requires : goal.key_at_end-requires
 key_at_end-requires c =
