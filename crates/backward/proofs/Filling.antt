@@ -17,7 +17,7 @@ use Rattle.retracing.proofs.Noting.{column_paired}
 use Rattle.backward.specs.Sweeps.{Blanked}
 
 -- by the number of the first column
-blanked_at : {n c x : ℕ} {p p₁ p₂ p₃ : List ℕ} → Space n p → Paired c → Filled n SEEN 0 n p p₁ → Filled n c x n p₁ p₂ → Filled n (c + 1) x n p₂ p₃ → Blanked n c x p p₃
+pub blanked_at : {n c x : ℕ} {p p₁ p₂ p₃ : List ℕ} → Space n p → Paired c → Filled n SEEN 0 n p p₁ → Filled n c x n p₁ p₂ → Filled n (c + 1) x n p₂ p₃ → Blanked n c x p p₃
 blanked_at {n} {c} {x} {p} {p₁} {p₂} {p₃} space paired f g h =
     let low : LEAST * n ≤ c * n = mul-le-mul_right n paired.0 in
     record {

@@ -22,11 +22,17 @@ use Rattle.document_lines.specs.declared.rules.Node.{Node}
 use Rattle.document_lines.specs.Nodes.{kind_of, DepthRule, KindRule, KindRead, IsLabel, IsValue}
 use Rattle.label_trees.specs.declared.NotAdded.TheVariants.{Twice, Full}
 use Rattle.label_trees.specs.Trees.{key_at}
+use Rattle.document.specs.declared.Refusal.{Refusal}
 use Rattle.document.specs.declared.nodes.Progress.{Progress}
 use Rattle.document.specs.declared.nodes.Stop.{Stop}
 use Rattle.document.specs.declared.nodes.Stop.TheVariants as stop
 use Rattle.document.specs.Check.{Cursor, Before, Carries, AtKind, AtLabel, AtValue, Reached, Opened, Enterable, Entered, Valued, Stepped, UsedUp, NoWords}
 use Rattle.document.proofs.Runs.{label_stands, label_key, single, before_kind, opened_run, opened_kept, run_twice, run_fresh, run_more}
+
+-- a step by what the value line gives: the verdict is handed on
+abbrev pub step_of : Result Progress Refusal → Result Progress Stop
+step_of (Ok h) = Ok h
+step_of (Err w) = Err (stop.Refused w)
 
 -- the cursor goes forth
 forth : (s : List ℕ) (i j : ℕ) (l : List ℕ) → i ≤ length s → j ≤ length s → drop i s ≡ l ++ drop j s → j ≡ i + length l
@@ -162,8 +168,8 @@ module _ {s : List ℕ} {n v i : ℕ} where
           go Text q r e = tt
 
       -- behind the value line the node is done
-      pub label_behind_value : (t' : List ℕ) → Entered s t i x.kind t' (Ok tt) → (h : Progress) → Valued s n v x j (Ok h) → (h.node ≡ suc v) × Reached s t' n h
-      label_behind_value t' e h q = (
+      pub label_reached : (t' : List ℕ) → Entered s t i x.kind t' (Ok tt) → (h : Progress) → Valued s n v x j (Ok h) → (h.node ≡ suc v) × Reached s t' n h
+      label_reached t' e h q = (
         q.0,
         record {
           cursor = subst (λ w. Cursor s n (4 * w + 1) h.at) (sym q.0) q.3;
@@ -172,6 +178,10 @@ module _ {s : List ℕ} {n v i : ℕ} where
           carries = subst₂ (λ w y. Carries s t' w h.at y.kind) (sym q.0) (sym q.1) (label_carries t' h.at e q.2);
         },
       )
+
+      pub label_behind_value : (t' : List ℕ) → Entered s t i x.kind t' (Ok tt) → LabelRule (kind_of x.kind) the_label → (F : Type 0) (r : Result Progress Refusal) → (AtValue s n v x j → Valued s n v x j r) → Stepped s t' n v F (step_of r)
+      label_behind_value t' e l F (Ok h) f = label_reached t' e h (f (label_on t' e l))
+      label_behind_value t' e l F (Err w) f = f (label_on t' e l)
 
       pub label_twice : (t' : List ℕ) → Entered s t i x.kind t' (Err Twice) → First (DocumentGround s) (duplicate_attribute (4 * v + 4))
       label_twice t' e = go x.kind a.says.kind a.carries e

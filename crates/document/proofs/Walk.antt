@@ -24,6 +24,10 @@ use Rattle.document.specs.declared.nodes.Progress.{Progress}
 use Rattle.document.specs.Check.{Cursor, Labelled, Run, Carries, Reached}
 
 -- ── Words ──
+-- before the first node nothing is held
+pub first_reached : {s t : List ℕ} {n i : ℕ} → Cursor s n 1 i → Reached s t n (record { node = 0; at = i; before = record { depth = 0; kind = Element } })
+first_reached c = record { cursor = c; before = tt; small = omega arith; carries = tt }
+
 -- the words were changed, and hold what they must
 pub reached_still : {s t t' : List ℕ} {n : ℕ} {h : Progress} → Reached s t n h → Carries s t' h.node h.at h.before.kind → Reached s t' n h
 reached_still r c = record { cursor = r.cursor; before = r.before; small = r.small; carries = c }

@@ -2,9 +2,13 @@
 use mathlib.Core.Path.{◌≡◌}
 use Prim.Native.Nat.{ℕ, ◌+◌, ◌*◌, ◌≤◌, ◌<◌}
 use mathlib.Core.Logic.{◌≢◌, inl, inr}
+use mathlib.Core.List.{List}
+use lib.ListN.{length}
 use native.Mathlib.Omega.{arith}
+use native.Mathlib.Nat.{mul-le-mul_right}
 use native.Mathlib.Decide.{dec_le}
 use Rattle.matrices.specs.Matrices.{Apart}
+use Rattle.powers.specs.Blocks.{BlockRoom}
 use Rattle.powers.proofs.Places.{block_before}
 use Rattle.layout.specs.Blocks.{BLOCKS, block_at, down_at, up_at, snippet_at, upper_at}
 
@@ -21,6 +25,10 @@ module _ (n k y k' z i : ℕ) (few : i < 16) where
   -- a larger exponent
   pub power_apart : (j : ℕ) → j < 16 → z < n → k' < k → snippet_at n k y + j ≢ snippet_at n k' z + i
   power_apart j h l r e = let m = block_before n k' k z y r l in omega arith
+
+-- fewer exponents need less room
+pub room_less : (n b c : ℕ) (p q : List ℕ) → c ≤ b → length q ≡ length p → BlockRoom n b p → BlockRoom n c q
+room_less n b c p q h e r = let m : c * n ≤ b * n = mul-le-mul_right n h in record { few = r.few; low = let l = r.low in omega arith; room = let o = r.room in omega arith }
 
 -- ── The matrices that are read and written when y hands down to h, the node above it ──
 module _ (n k y h source low high room : ℕ) (es : source ≡ block_at n (k + 1) y) (el : low ≡ block_at n k y) (eh : high ≡ block_at n k h)

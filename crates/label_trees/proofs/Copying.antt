@@ -21,13 +21,17 @@ holds_same s t u room same h =
           (meets_same h u (λ j p l z. same j l) (key_at s (offset_at t k)) (suc k) (omega arith) (h.met k (omega arith)));
     }
 
--- words in front of more words
-pub copied : (t u : List ℕ) → heads ≤ length t → length t ≤ length u → Copied t u (t ++ drop (length t) u)
-copied t u some more =
-    let same : (j : ℕ) → j < length t → get_or (t ++ drop (length t) u) j 0 ≡ get_or t j 0 = λ j l. get_or-append t (drop (length t) u) 0 j l in
+pub copied : (t u u' : List ℕ) → heads ≤ length t → length t ≤ length u → length u' ≡ length u → ((j : ℕ) → j < length t → get_or u' j 0 ≡ get_or t j 0) → Copied t u u'
+copied t u u' some more long same =
     record {
-      long = omega (arith, length-append t (drop (length t) u), length-drop (length t) u);
+      long = long;
       same = same 0 (omega arith);
       offsets = λ k b. same (heads + 3 * k) b;
-      holds = λ s h. let r = h.room in holds_same s t (t ++ drop (length t) u) (omega (arith, length-append t (drop (length t) u))) (λ j b. same j (omega arith)) h;
+      holds = λ s h. let r = h.room in holds_same s t u' (omega arith) (λ j b. same j (omega arith)) h;
     }
+
+-- words in front of more words
+pub copied_front : (t u : List ℕ) → heads ≤ length t → length t ≤ length u → Copied t u (t ++ drop (length t) u)
+copied_front t u some more =
+    copied t u (t ++ drop (length t) u) some more (omega (arith, length-append t (drop (length t) u), length-drop (length t) u))
+    (λ j l. get_or-append t (drop (length t) u) 0 j l)

@@ -1,11 +1,12 @@
 -- Lines of the text: the bytes of the line at an offset, and when two are the same.
 use Prim.Native.Nat.{ℕ, ◌+◌, ◌-◌, ◌*◌, ◌/◌, ◌%◌, ◌^◌, ◌≤◌, ◌<◌}
 use mathlib.Core.Path.{◌≡◌, refl, sym, ap, ap₂, ◌∙◌, subst}
+use mathlib.Core.Logic.{◌≢◌}
 use mathlib.Core.Bool.{Bool, true, false, true≢false}
 use mathlib.Core.List.{List, ◌++◌}
 use native.Mathlib.Omega.{arith}
-use lib.ListN.{length, get_or, take, drop, length-append, length-drop, get_or-append}
-use lib.Seq.{get_or-drop}
+use lib.ListN.{length, get_or, take, drop, take-append-drop, length-append, length-drop, get_or-append}
+use lib.Seq.{get_or-drop, get_or-take, length-take-le, ext_get_or}
 use Rattle.std.specs.Prelude.{nat_eq}
 use Rattle.std.specs.Cmp.Lexicographic.{pointwise}
 use Rattle.std.specs.List.{between}
@@ -59,6 +60,31 @@ module _ (s : List ℕ) (from to : ℕ) (h : Stands s from to) where
   stands_two = omega (arith, stands_length, ap length key_is, length-append h.label (bytes "\n"), name_some h.label h.name)
 
   -- ── The same line at another offset ──
+  module _ (o : ℕ) (le : o ≤ from) where
+    pub key_same : ((i : ℕ) → i < to - from → get_or s (o + i) 0 ≡ get_or s (from + i) 0) → key_at s o ≡ key_at s from
+    key_same same = ap first_line split ∙ rw key_is (line_first key_line (drop n (drop o s)))
+      where
+        n : ℕ
+        n = to - from
+
+        inside : n ≤ length (drop o s)
+        inside = let i = h.inside in rw length-drop (omega arith)
+
+        front : take n (drop o s) ≡ key_at s from
+        front =
+            ext_get_or 0 (take n (drop o s)) (key_at s from) (length-take-le n (drop o s) inside ∙ omega (arith, stands_length))
+            (λ i l.
+            let m : i < n = rw (length-take-le n (drop o s) inside) at l in
+            get_or-take n (drop o s) i 0 m ∙ get_or-drop o s i 0 ∙ same i m ∙ sym (stands_byte i (omega (arith, m))))
+
+        split : drop o s ≡ (h.label ++ bytes "\n") ++ drop n (drop o s)
+        split = sym (take-append-drop n (drop o s)) ∙ ap (λ (l : List ℕ). l ++ drop n (drop o s)) (front ∙ key_is)
+
+    pub key_other : (i : ℕ) → i < to - from → get_or s (o + i) 0 ≢ get_or s (from + i) 0 → ¬ (key_at s o ≡ key_at s from)
+    key_other i l d e =
+        d
+        (sym (key_byte s o i (rw e (omega (arith, stands_length)))) ∙ ap (λ (k : List ℕ). get_or k i 0) e ∙ stands_byte i (omega arith))
+
   line_bytes : between from to s ≡ key_at s from
   line_bytes = ap (take (to - from)) h.here ∙ take_at (h.label ++ bytes "\n") (drop to s) (to - from) (omega (arith, stands_length, ap length key_is)) ∙ sym key_is
 

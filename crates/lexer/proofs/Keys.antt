@@ -1,9 +1,9 @@
 -- A key stands at an offset exactly if each of its bytes does.
-use Prim.Native.Nat.{ℕ, ◌+◌, ◌≤◌}
+use Prim.Native.Nat.{ℕ, ◌+◌, ◌-◌, ◌≤◌, ◌<◌}
 use mathlib.Core.Path.{◌≡◌, refl, sym, ap, ◌∙◌, subst}
 use mathlib.Core.List.{List, [], ◌∷◌, ◌++◌, append_assoc}
-use lib.ListN.{length, take, drop, length-drop}
-use lib.Seq.{drop-drop}
+use lib.ListN.{length, get_or, take, drop, length-drop, length-append, take-append-drop, get_or-append}
+use lib.Seq.{get_or-drop, get_or-take, drop-drop, ext_get_or, length-take-le}
 use native.Mathlib.Omega.{arith}
 use Rattle.std.specs.Prelude.{Option, Some, None, nat_eq}
 use mathlib.Core.Bool.{Bool, true, false, true≢false}
@@ -16,8 +16,26 @@ use Rattle.lexer.specs.declared.Number.{Number}
 use Rattle.lexer.specs.Reading.{Spans, Ended, numeral_line, Numbered, Behind, NumberedLine}
 
 module _ (s key : List ℕ) (at : ℕ) where
+  pub key_short : length s - at < length key → Ended (λ l. l ≡ key) s at None
+  key_short h l r q e = omega (arith, h, length-drop at s, ap length e, length-append l r, ap length q)
+
+  pub key_differs : (i : ℕ) → i < length key → ¬ (get_or s (at + i) 0 ≡ get_or key i 0) → Ended (λ l. l ≡ key) s at None
+  key_differs i h ne l r q e =
+      ne (sym (get_or-drop at s i 0) ∙ ap (λ (y : List ℕ). get_or y i 0) (e ∙ ap (λ (y : List ℕ). y ++ r) q) ∙ get_or-append key r 0 i h)
+
   pub key_here : length key ≤ length (drop at s) → at ≤ length s → drop at s ≡ key ++ drop (length key) (drop at s) → Ended (λ l. l ≡ key) s at (Some (at + length key))
   key_here n a e = (key, refl, record { inside = omega (arith, n, length-drop at s); spelled = e ∙ ap (λ (y : List ℕ). key ++ y) (drop-drop (length key) at s) })
+
+  pub key_whole : at ≤ length s → length key ≤ length s - at → ((i : ℕ) → i < length key → get_or s (at + i) 0 ≡ get_or key i 0) → Ended (λ l. l ≡ key) s at (Some (at + length key))
+  key_whole a h f =
+      key_here (omega (arith, h, length-drop at s)) a
+      (sym (take-append-drop (length key) (drop at s)) ∙ ap (λ (y : List ℕ). y ++ drop (length key) (drop at s)) front)
+    where
+      n : length (take (length key) (drop at s)) ≡ length key
+      n = length-take-le (length key) (drop at s) (omega (arith, length-drop at s))
+
+      front : take (length key) (drop at s) ≡ key
+      front = ext_get_or 0 (take (length key) (drop at s)) key n (λ i r. get_or-take (length key) (drop at s) i 0 (omega (arith, n)) ∙ get_or-drop at s i 0 ∙ f i (omega (arith, n)))
 
   -- what is behind the offset begins with the key, or does not
   module _ (a : at ≤ length s) (r : Bool) (e : r ≡ pointwise nat_eq key (take (length key) (between at (length s) s))) where

@@ -1,13 +1,14 @@
 -- Bytes that stand at an offset, and what is behind them.
-use Prim.Native.Nat.{ℕ, ◌+◌, ◌-◌, ◌≤◌, ◌<◌}
+use Prim.Native.Nat.{ℕ, suc, ◌+◌, ◌-◌, ◌*◌, ◌^◌, ◌≤◌, ◌<◌}
 use mathlib.Core.Path.{◌≡◌, refl, sym, ap, ap₂, ◌∙◌, subst}
 use mathlib.Core.Bool.{false}
 use mathlib.Core.List.{List, [], ◌∷◌, ◌++◌, map, append_assoc}
 use lib.ListN.{length, get_or, take, drop, length-drop, length-append, take-append-drop, get_or-append, drop_of_length-le}
-use lib.Seq.{get_or-drop, get_or-take, drop-drop, drop-cons, get_or-append_seam, length-take-le, slice, take-add, take-append_seam, drop_at}
-use lib.Dec.{T}
+use lib.Seq.{get_or-drop, get_or-take, drop-drop, drop-cons, get_or-append_seam, length-take-le, slice, slice-cons, slice_empty, take-add, take-append_seam, drop_at}
+use lib.Dec.{T, lit<}
 use native.Mathlib.Omega.{arith}
 use native.Mathlib.Numerals.{add-one}
+use native.Mathlib.Nat.{pow-le-pow_right}
 use Rattle.lists.specs.Numerals.{value_from}
 use native.Mathlib.Decide.{dec_lt}
 use Rattle.lists.proofs.Indices.{all_at, at_all}
@@ -73,9 +74,23 @@ module _ (s : List ℕ) (at i : ℕ) (k : Class) (most : ℕ) (from : at ≤ i) 
       go m p h f (no r) = let z : at + m ≡ i = omega arith in ne (subst (λ x. get_or s x 0 ≡ 10) z h)
 
 -- ── Numerals ──
--- nothing is left to read
-pub reading_end : (l : List ℕ) (i n : ℕ) → length l ≤ i → value_from 10 n (map (λ b. b - 48) (drop i l)) ≡ n
-reading_end l i n h = ap (λ (x : List ℕ). value_from 10 n (map (λ b. b - 48) x)) (drop_of_length-le l h)
+-- reading a byte more: what was read so far, times ten, plus the digit
+pub reading_step : (s : List ℕ) (i j n : ℕ) → i < j → j ≤ length s
+    → value_from 10 n (map (λ b. b - 48) (slice i j s)) ≡ value_from 10 (n * 10 + (get_or s i 0 - 48)) (map (λ b. b - 48) (slice (i + 1) j s))
+reading_step s i j n h k = ap (λ (l : List ℕ). value_from 10 n (map (λ b. b - 48) l)) (slice-cons i j s 0 h k) ∙ ap (λ (m : ℕ). value_from 10 (n * 10 + (get_or s i 0 - 48)) (map (λ b. b - 48) (slice m j s))) (sym (add-one i))
+
+-- nothing is left to read, of a part and of what is behind an index
+pub reading_end : (s : List ℕ) (i j n : ℕ) → i ≡ j → value_from 10 n (map (λ b. b - 48) (slice i j s)) ≡ n
+reading_end s i j n e = ap (λ (m : ℕ). value_from 10 n (map (λ b. b - 48) (slice m j s))) e ∙ ap (λ (l : List ℕ). value_from 10 n (map (λ b. b - 48) l)) (slice_empty j s)
+
+pub reading_over : (l : List ℕ) (i n : ℕ) → length l ≤ i → value_from 10 n (map (λ b. b - 48) (drop i l)) ≡ n
+reading_over l i n h = ap (λ (x : List ℕ). value_from 10 n (map (λ b. b - 48) x)) (drop_of_length-le l h)
+
+pub ten_more : (n d k m : ℕ) → n < 10 ^ k → d < 10 → m ≡ suc k → n * 10 + d < 10 ^ m
+ten_more n d k m h g e = subst (λ x. n * 10 + d < 10 ^ x) (sym e) (omega (arith, h, g))
+
+pub ten_small : (n k : ℕ) → n < 10 ^ k → k ≤ 5 → n < 100000
+ten_small n k h g = omega (arith, h, pow-le-pow_right {n = 10} (lit< tt) g)
 
 -- what stands at an offset, as a slice
 pub slice_of : (s : List ℕ) (i : ℕ) (a r : List ℕ) → i ≤ length s → drop i s ≡ a ++ r → slice i (i + length a) s ≡ a

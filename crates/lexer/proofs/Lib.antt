@@ -1,3 +1,4 @@
+pub mod Passing
 pub mod Classes
 pub mod Laws
 pub mod Numbers

@@ -24,6 +24,7 @@ OnWay t d y x m c =
     ⊎ ((x ≡ NONE) × ((s : ℕ) → Skeleton t d s → Under t s y → s ≡ y))
 
 pub record Climbing (n r y x m c : ℕ) (p : List ℕ) : Type 0 where
+  pub node : (x < n) ⊎ (x ≡ NONE)
   pub child : c < n
   pub proper : 0 < m
   -- each edge leads to a smaller number, so there are at most y of them
@@ -50,6 +51,10 @@ smaller {t} {n} {z} {x} {p} s l e = go (parent_case s z l)
     go (inl (o, none)) = inr (e ∙ none)
     go (inr (i, k)) = inl (omega arith)
 
+node_of : {n z x : ℕ} → z < n → (x < z) ⊎ (x ≡ NONE) → (x < n) ⊎ (x ≡ NONE)
+node_of l (inl i) = inl (omega arith)
+node_of l (inr e) = inr e
+
 low_of : {n z x y : ℕ} (m : ℕ) → n ≤ 4096 → z + m ≤ y → (x < z) ⊎ (x ≡ NONE) → x < n → x + (m + 1) ≤ y
 low_of m few k (inl i) l = omega arith
 low_of m few k (inr e) l = absurd (omega arith)
@@ -59,6 +64,7 @@ module _ {t : Tree} {n : ℕ} {p : List ℕ} (s : Shape t n p) {r y : ℕ} where
   pub climbing_none : {x : ℕ} → y < n → x ≡ word p n PARENT y → Climbing n r y x 1 y p
   climbing_none {x} l e =
       record {
+        node = node_of l (smaller s l e);
         child = l;
         proper = omega arith;
         short = omega arith;
@@ -70,6 +76,7 @@ module _ {t : Tree} {n : ℕ} {p : List ℕ} (s : Shape t n p) {r y : ℕ} where
   climbing_step {x} {m} {c} {z} h l f e =
       let a = h.low l in
       record {
+        node = node_of l (smaller s l e);
         child = l;
         proper = omega arith;
         short = omega arith;
@@ -84,14 +91,14 @@ module _ {t : Tree} {n : ℕ} {p : List ℕ} (s : Shape t n p) {r y : ℕ} where
 -- ── Where the way ends ──
 module _ {n r y x m c : ℕ} {p : List ℕ} (h : Climbing n r y x m c p) where
   -- at a skeleton node
-  pub climbing_met : n ≤ 4096 → y < n → x < n → ((t : Tree) (d : List ℕ) → Group t d n r p → Skeleton t d x) → Ascent n r y x m c p
-  climbing_met few l node met =
+  pub climbing_at : y < n → x < n → ((t : Tree) (d : List ℕ) → Group t d n r p → Skeleton t d x) → Ascent n r y x m c p
+  climbing_at l node met =
       let a = h.short in
       record { node = node; child = h.child; proper = h.proper; short = omega arith; arrives = λ t d g k. go t d g k (h.way t d g) }
     where
       go : (t : Tree) (d : List ℕ) → Group t d n r p → Skeleton t d y → OnWay t d y x m c → Arrives t d y x m c
       go t d g k (inl (i, j)) = ((edge_iff t d g.shape.formed x y m).1 (met t d g, k, h.proper, i), j)
-      go t d g k (inr (none, top)) = absurd (omega arith)
+      go t d g k (inr (none, top)) = let few = g.shape.few in absurd (omega arith)
 
   -- above the root
   pub climbing_top : n ≤ x → Topmost n r y p
@@ -100,3 +107,11 @@ module _ {n r y x m c : ℕ} {p : List ℕ} (h : Climbing n r y x m c p) where
       go : OnWay t d y x m c → (s : ℕ) → Skeleton t d s → Under t s y → s ≡ y
       go (inl (i, (side, j, u))) = let a = child_after g.shape.formed j in let b = j.inside in let e = g.shape.size in absurd (omega arith)
       go (inr (none, top)) = top
+
+  -- where the next node belongs to the skeleton of each group: at it, or above the root if there is none
+  pub climbing_met : y < n → ((t : Tree) (d : List ℕ) → Group t d n r p → Skeleton t d x) → ((x < n) × Ascent n r y x m c p) ⊎ ((x ≡ NONE) × Topmost n r y p)
+  climbing_met l met = go h.node
+    where
+      go : (x < n) ⊎ (x ≡ NONE) → ((x < n) × Ascent n r y x m c p) ⊎ ((x ≡ NONE) × Topmost n r y p)
+      go (inl i) = inl (i, climbing_at l i met)
+      go (inr e) = inr (e, λ t d g. let few = g.shape.few in climbing_top (omega arith) t d g)

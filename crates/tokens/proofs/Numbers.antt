@@ -1,5 +1,5 @@
 -- Numbers: what `tokens::goes_on`, `figures` and `number` conclude is what the machine does with the number of a count.
-use Rattle.std.specs.Prelude.{Ok}
+use Rattle.std.specs.Prelude.{Result, Ok, Err}
 use Prim.Native.Nat.{ℕ, suc, ◌+◌, ◌-◌, ◌*◌, ◌≤◌, ◌<◌}
 use native.Mathlib.Omega.{arith}
 use native.Mathlib.Numerals.{add-one}
@@ -26,8 +26,10 @@ use Rattle.lexer.specs.declared.Class.TheVariants as class
 use Rattle.lexer.specs.Reading.{in_class}
 use Rattle.tokens.specs.declared.Digits.{Digits}
 use Rattle.tokens.specs.declared.read.Tally.{Tally}
+use Rattle.tokens.specs.declared.read.Behind.{Behind}
+use Rattle.tokens.specs.declared.read.Refusal.{Refusal}
 use Rattle.tokens.specs.Tallies.{tallied}
-use Rattle.tokens.specs.Readers.{Back, StuckAt, NumberRead}
+use Rattle.tokens.specs.Readers.{Back, StuckAt, Reading, NumberRead}
 use Rattle.tokens.specs.Numbers.{told, figured, numbered}
 use Rattle.tokens.proofs.Places.{stands_cons, at_end_lem, stuck_end, stuck_at}
 use Rattle.tokens.proofs.Bytes.{and_is}
@@ -172,3 +174,8 @@ module _ (s : List ℕ) where
               kept = refl;
             } in
             (whole, decimal_reading ds ((number_iff ds).0 l).0)
+
+  -- whatever its digits are
+  pub number_reads : (i k : ℕ) (t : Tally) (r : Result Behind Refusal) → NumberRead s i k t r → Reading s number i k t r
+  number_reads i k t (Ok b) h = h.0
+  number_reads i k t (Err e) h = h

@@ -21,6 +21,18 @@ use Rattle.tokens.proofs.Places.{stands_at, at_end_lem, stuck_end, stuck_at, tur
 use Rattle.tokens.proofs.Bytes.{byte_stuck}
 
 module _ (s : List ℕ) where
+  -- ── Any sign ──
+  pub sign_forth : {o : Op} {i j : ℕ} → Signs s o i j → i < j
+  sign_forth {o} h = go o h.long
+    where
+      go : (o : Op) {i j : ℕ} → j ≡ i + length (sign o) → i < j
+      go eq e = omega arith
+      go ne e = omega arith
+      go lt e = omega arith
+      go le e = omega arith
+      go gt e = omega arith
+      go ge e = omega arith
+
   pub equal_sign : {i : ℕ} → Stands s i 61 → Signs s eq i (i + 1)
   unfolding move
   equal_sign {i} h = record {

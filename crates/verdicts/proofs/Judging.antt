@@ -42,12 +42,26 @@ handed_on P e (Ok n) q h = absurd q
 handed_on P e (Err d) q h = subst (λ d. P (number (ground_of d)) (place (ground_of d)) 0) (sym q) h
 
 -- ── What the two checks say by their number ──
+document_accepted : {s : List ℕ} {n p nodes : ℕ} → Document.Checked s n p nodes → n ≡ 0 → (ns : List Node) × Document.Accepts s ns × (nodes ≡ length ns)
+document_accepted {s} {n} {p} {nodes} c z = go (document_judged s)
+  where
+    go : ((r : Refusal) × First (DocumentGround s) r) ⊎ ((ns : List Node) × Document.Accepts s ns) → (ns : List Node) × Document.Accepts s ns × (nodes ≡ length ns)
+    go (inl (r, f)) = let e = (c.refused r f).0 in let h = number_positive r in absurd (omega arith)
+    go (inr (ns, a)) = (ns, a, (c.accepted ns a).2)
+
 document_refused : {s : List ℕ} {n p nodes : ℕ} → Document.Checked s n p nodes → n ≢ 0 → (r : Refusal) × First (DocumentGround s) r × (n ≡ number r) × (p ≡ place r)
 document_refused {s} {n} {p} c z = go (document_judged s)
   where
     go : ((r : Refusal) × First (DocumentGround s) r) ⊎ ((ns : List Node) × Document.Accepts s ns) → (r : Refusal) × First (DocumentGround s) r × (n ≡ number r) × (p ≡ place r)
     go (inl (r, f)) = (r, f, (c.refused r f).0, (c.refused r f).1)
     go (inr (ns, a)) = absurd (z (c.accepted ns a).0)
+
+rule_accepted : {s : List ℕ} {n p : ℕ} → Rule.Checked s n p → n ≡ 0 → (T : Test) × Rule.Accepts s T
+rule_accepted {s} {n} {p} c z = go (rule_judged s)
+  where
+    go : ((r : Refusal) × First (RuleGround s) r) ⊎ ((T : Test) × Rule.Accepts s T) → (T : Test) × Rule.Accepts s T
+    go (inl (r, f)) = let e = (c.refused r f).0 in let h = number_positive r in absurd (omega arith)
+    go (inr a) = a
 
 rule_refused_lem : {s : List ℕ} {n p : ℕ} → Rule.Checked s n p → n ≢ 0 → (r : Refusal) × First (RuleGround s) r × (n ≡ number r) × (p ≡ place r)
 rule_refused_lem {s} {n} {p} c z = go (rule_judged s)
@@ -58,20 +72,34 @@ rule_refused_lem {s} {n} {p} c z = go (rule_judged s)
 
 -- ── The document and the rule ──
 module _ {document rule : List ℕ} where
-  pub by_first : (e : DocumentRefusal.Refusal) → DocumentCheck.Judged document (Err e) → JudgesTexts document rule (number (ground_of (code.Document e))) (place (ground_of (code.Document e))) 0
-  by_first d h =
-      let (r, f, e, g) = document_refused (checked_by document (Err d) h) (positive (code.Document d)) in
+  pub by_first : {n p nodes : ℕ} → Document.Checked document n p nodes → n ≢ 0 → JudgesTexts document rule n p 0
+  by_first c z =
+      let (r, f, e, g) = document_refused c z in
       refused r (let h = document_stage f.applies in omega arith) (λ words marks. by_document document rule words marks r f) e g refl
 
-  module _ {nodes : ℕ} (c : DocumentCheck.Judged document (Ok nodes)) where
-    pub by_second : (e : RuleRefusal.Refusal) → RuleCheck.Judged rule (Err e) → JudgesTexts document rule (number (ground_of (code.Rule e))) (place (ground_of (code.Rule e))) 0
-    by_second d h =
-        let (ns, a, _) = c in
-        let (r, f, e, g) = rule_refused_lem (rule_checked_by rule (Err d) h) (positive (code.Rule d)) in
+  module _ {n p nodes : ℕ} (c : Document.Checked document n p nodes) (z : n ≡ 0) {m q : ℕ} (d : Rule.Checked rule m q) where
+    pub by_second : m ≢ 0 → JudgesTexts document rule m q 0
+    by_second y =
+        let (ns, a, _) = document_accepted c z in
+        let (r, f, e, g) = rule_refused_lem d y in
         refused r (rule_stage f.applies).1 (λ words marks. by_rule document rule words marks ns a r f) e g refl
 
-    pub by_both : {u : Unit {0}} → RuleCheck.Judged rule (Ok u) → JudgesTexts document rule 0 0 nodes
-    by_both (T, b) = let (ns, a, e) = c in accepted ns T a b refl refl (sym e)
+    pub by_both : m ≡ 0 → JudgesTexts document rule 0 0 nodes
+    by_both y =
+        let (ns, a, e) = document_accepted c z in
+        let (T, b) = rule_accepted d y in
+        accepted ns T a b refl refl e
+
+  -- the same, of what the checks hand back
+  pub first_refused : (e : DocumentRefusal.Refusal) → DocumentCheck.Judged document (Err e) → JudgesTexts document rule (number (ground_of (code.Document e))) (place (ground_of (code.Document e))) 0
+  first_refused d h = by_first (checked_by document (Err d) h) (positive (code.Document d))
+
+  module _ {nodes : ℕ} (c : DocumentCheck.Judged document (Ok nodes)) where
+    pub second_refused : (e : RuleRefusal.Refusal) → RuleCheck.Judged rule (Err e) → JudgesTexts document rule (number (ground_of (code.Rule e))) (place (ground_of (code.Rule e))) 0
+    second_refused d h = by_second (checked_by document (Ok nodes) c) refl (rule_checked_by rule (Err d) h) (positive (code.Rule d))
+
+    pub both_accepted : {u : Unit {0}} → RuleCheck.Judged rule (Ok u) → JudgesTexts document rule 0 0 nodes
+    both_accepted {u} h = by_both (checked_by document (Ok nodes) c) refl (rule_checked_by rule (Ok u) h) refl
 
   module _ {n p N : ℕ} (texts : JudgesTexts document rule n p N) (z : n ≡ 0) where
     pub texts_accepted : (ns : List Node) × (T : Test) × Document.Accepts document ns × Rule.Accepts rule T × (N ≡ length ns)

@@ -2,7 +2,7 @@
 use Prim.Native.Nat.{ℕ, ◌<◌}
 use mathlib.Core.Path.{◌≡◌, refl, sym, ap, ◌∙◌, subst}
 use mathlib.Core.Logic.{◌⊎◌, inl, inr, ◌≢◌}
-use mathlib.Core.Bool.{true, false}
+use mathlib.Core.Bool.{Bool, true, false, not, not-not}
 use mathlib.Core.List.{List}
 use lib.ListN.{length}
 use native.Mathlib.Omega.{arith}
@@ -17,6 +17,10 @@ use Rattle.evaluation_spec.proofs.ValuesJudged.{by_texts, by_equality, no_node_l
 use Rattle.evaluation_spec.proofs.Agreement.{number_positive}
 use Rattle.verdicts.specs.Judging.{JudgesValues, JudgesTexts, refused, accepted, JudgesBuffers, Equates, HasNodes}
 use Rattle.verdicts.proofs.Judging.{texts_accepted, Tells, tells_one, buffers}
+
+-- a test with ! in front, told without
+pub undone : (b : Bool) {x : Bool} → not b ≡ x → b ≡ not x
+undone b e = sym (not-not b) ∙ ap not e
 
 -- ── The buffers, where the rule is (P=R) ──
 data Called (document rule : List ℕ) (words marks N n p nodes : ℕ) : Type 0 where

@@ -2,7 +2,7 @@
 use mathlib.Core.Path.{sym, ap, ◌∙◌}
 use Rattle.std.proofs.lemmas.Slice.{between_is}
 use Rattle.lists.specs.Numerals.{reading}
-use Rattle.lexer.proofs.Laws.{reading_end}
+use Rattle.lexer.proofs.Laws.{reading_over}
 use Rattle.lexer.proofs.value.Goals as goal
 
 -- ── What is returned ──
@@ -10,4 +10,4 @@ pub returns : goal.returns
 returns c =
     let a = c.args in
     let l = c.loop-b in
-    sym (reading_end _ l.b-index l.n c.loop-b-test.false) ∙ l.invariant.1 ∙ ap reading (between_is a.s.now a.at a.end)
+    sym (reading_over _ l.b-index l.n c.loop-b-test.false) ∙ l.invariant.1 ∙ ap reading (between_is a.s.now a.at a.end)

@@ -8,7 +8,7 @@ use Rattle.document_lines.specs.Nodes.{Told, kind_of, IsLabel}
 use Rattle.document.specs.Check.{AtLabel, AtValue}
 use Rattle.document.specs.declared.Refusal.TheVariants.{Form}
 use Rattle.document.specs.declared.nodes.Stop.TheVariants.{Refused}
-use Rattle.document.proofs.Steps.{label_form, label_spelled, label_enterable, label_on, label_behind_value, label_twice, label_tree}
+use Rattle.document.proofs.Steps.{label_form, label_spelled, label_enterable, label_on, label_reached, label_twice, label_tree}
 use Rattle.document.proofs.nodes.label_step.Goals as goal
 use Rattle.document.proofs.nodes.label_step.Goals.{In_ok-end, In-Ok}
 
@@ -51,7 +51,7 @@ returns-in_err-value_step-in-Ok-clause-stepped c n a =
 
 pub returns-in_ok-value_step-in-Ok-clause-stepped : goal.returns-in_ok-value_step-in-Ok-clause-stepped
 returns-in_ok-value_step-in-Ok-clause-stepped c n a =
-    label_behind_value a _ (got (goal.at.returns-in_ok-value_step-in-Ok-clause-stepped c).In_ok-end) _ (rw c.in-Ok.is at c.enter.ensures.entered) _
+    label_reached a _ (got (goal.at.returns-in_ok-value_step-in-Ok-clause-stepped c).In_ok-end) _ (rw c.in-Ok.is at c.enter.ensures.entered) _
     (c.in_ok-value_step-in-Ok.ensures n (on (goal.at.returns-in_ok-value_step-in-Ok-clause-stepped c).In-Ok n a))
 
 pub returns-in-Err-Twice-clause-stepped : goal.returns-in-Err-Twice-clause-stepped

@@ -3,14 +3,14 @@ use Prim.Native.Nat.{◌<◌}
 use mathlib.Core.Path.{sym, ◌∙◌, subst}
 use mathlib.Core.Bool.{false≢true}
 use Rattle.group_marks.proofs.Raising.{height, height_less}
-use Rattle.skeletons.proofs.Climbing.{climbing_none, climbing_step, climbing_met, climbing_top}
+use Rattle.skeletons.proofs.Climbing.{climbing_none, climbing_step, climbing_at, climbing_top}
 use Rattle.skeletons.proofs.skeleton.climb.Goals as goal
 
 pub loop-x-init : goal.loop-x-init
 loop-x-init c = let p = c.requires in climbing_none p.0.1 p.2 c.parent-x.ensures.0
 
 pub returns-then-is_skeleton : goal.returns-then-is_skeleton
-returns-then-is_skeleton c = let p = c.requires in climbing_met c.loop-x.invariant p.0.1.few p.2 c.loop-x-test.true (λ t d g. (c.is_skeleton.ensures t d g).0 c.if-is_skeleton.true)
+returns-then-is_skeleton c = let p = c.requires in climbing_at c.loop-x.invariant p.2 c.loop-x-test.true (λ t d g. (c.is_skeleton.ensures t d g).0 c.if-is_skeleton.true)
 
 pub loop-x-smaller : goal.loop-x-smaller
 loop-x-smaller c =
