@@ -30,6 +30,9 @@ module _ (s : List ℕ) where
   blanks_one : (a : ℕ) → a < length s → get_or s a 0 ≡ blank → Blanks (slice a (a + 1) s)
   blanks_one a h e = subst Blanks (sym (slice_one s a h)) (e, tt)
 
+  pub blanks_more : (a b : ℕ) → a ≤ b → b < length s → Blanks (slice a b s) → get_or s b 0 ≡ blank → Blanks (slice a (b + 1) s)
+  blanks_more a b i h p e = blanks_join a b (b + 1) i (omega arith) (omega arith) p (blanks_one b h e)
+
   pub blanks_before : (b c : ℕ) → 0 < b → b ≤ c → b ≤ length s → Blanks (slice b c s) → get_or s (b - 1) 0 ≡ blank → Blanks (slice (b - 1) c s)
   blanks_before b c z j h p e =
       let w : (b - 1) + 1 ≡ b = omega arith in

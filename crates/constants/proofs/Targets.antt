@@ -48,8 +48,12 @@ module _ (ns : List Node) (rule : List ℕ) (v : ℕ) (c : Target) (o : Ordering
   pub compared_text : (w : Span) → c ≡ Text w → Ordered (compared_of ns v) (between rule w) o → ComparesAt (against ns rule c) v o
   compared_text w e h = subst (λ x. ComparesAt (against ns rule x) v o) (sym e) (compares_text (compared_of ns v) (between rule w) o h)
 
-  pub compared_amount : (a k : ℕ) → c ≡ Amount k → a ≡ key_at ns v → o ≡ nat_cmp a k → ComparesAt (against ns rule c) v o
-  compared_amount a k e f h = subst (λ x. ComparesAt (against ns rule x) v o) (sym e) (subst (λ x. Compares ◌<◌ x k o) f (compares_number a k o h))
+  pub compared_amount : (a k : ℕ) → c ≡ Amount k → a ≡ key_at ns v → Compares ◌<◌ a k o → ComparesAt (against ns rule c) v o
+  compared_amount a k e f h = subst (λ x. ComparesAt (against ns rule x) v o) (sym e) (subst (λ x. Compares ◌<◌ x k o) f h)
+
+  -- the same, as std compares them
+  pub compared_key : (a k : ℕ) → c ≡ Amount k → a ≡ key_at ns v → o ≡ nat_cmp a k → ComparesAt (against ns rule c) v o
+  compared_key a k e f h = compared_amount a k e f (compares_number a k o h)
 
 -- ── The ranks ──
 -- k is the column that goes with c

@@ -1,11 +1,12 @@
 -- The lines of a node as keys and runs of bytes.
-use Prim.Native.Nat.{ℕ, ◌+◌, ◌≤◌, ◌<◌}
+use Prim.Native.Nat.{ℕ, suc, ◌+◌, ◌≤◌, ◌<◌}
 use mathlib.Core.Path.{◌≡◌, refl, sym, ap, ◌∙◌, subst}
 use mathlib.Core.Logic.{inl}
 use mathlib.Core.List.{List, [], ◌∷◌, ◌++◌}
 use lib.ListN.{length, get_or, drop, length-append, length-drop}
-use lib.Seq.{get_or-drop}
+use lib.Seq.{drop-cons, get_or-drop}
 use lib.Dec.{T}
+use native.Mathlib.Numerals.{add-one}
 use native.Mathlib.Omega.{arith}
 use Rattle.limits.specs.Limits.{label_bytes, value_bytes}
 use Rattle.lists.specs.Lists.{All}
@@ -15,8 +16,8 @@ use Rattle.lists.proofs.Lists.{all_imp}
 use Rattle.document_spec.specs.Library.{Kind, element, attribute, text, Value, kind_line}
 use Rattle.std.specs.Prelude.{Option, Some, None}
 use Rattle.lexer.specs.declared.Class.TheVariants.{Label, Text}
-use Rattle.lexer.specs.Reading.{Ended, in_class, Run, Behind}
-use Rattle.lexer.proofs.Keys.{no_key}
+use Rattle.lexer.specs.Reading.{Spans, Ended, in_class, Run, Behind}
+use Rattle.lexer.proofs.Keys.{spans_join, behind_key, no_key}
 use Rattle.lexer.proofs.Classes.{between_is, is_between_lem, name_byte, label_byte}
 use Rattle.document_lines.specs.Nodes.{IsLabel, IsValue}
 
@@ -37,8 +38,35 @@ kind_spelled element = refl
 kind_spelled attribute = refl
 kind_spelled text = refl
 
+pub no_letter : {b : ℕ} → ¬ (b ≡ 101) → ¬ (b ≡ 97) → ¬ (b ≡ 116) → (k : Kind) → ¬ (b ≡ letter k)
+no_letter e a t element = e
+no_letter e a t attribute = a
+no_letter e a t text = t
+
 pub kind_none : (s : List ℕ) (i : ℕ) → Ended (λ l. l ≡ bytes "kind=") s i None → (k : Kind) (r : List ℕ) → ¬ (drop i s ≡ kind_line k ++ r)
 kind_none s i h k r e = no_key s (bytes "kind=") i h (letter k ∷ bytes "\n") r (rw kind_spelled at e)
+
+-- at j stand a kind's letter and the LF that ends its line
+pub record KindEnds (s : List ℕ) (j : ℕ) (k : Kind) : Type 0 where
+  pub room : j + 2 ≤ length s
+  pub named : get_or s j 0 ≡ letter k
+  pub ended : get_or s (j + 1) 0 ≡ 10
+
+two_bytes : (s : List ℕ) (j : ℕ) → j + 2 ≤ length s → drop j s ≡ get_or s j 0 ∷ get_or s (j + 1) 0 ∷ drop (j + 2) s
+two_bytes s j h =
+    let e : j + 2 ≡ suc (suc j) = omega arith in
+    rw (e, add-one, drop-cons s j 0 (omega arith), drop-cons s (suc j) 0 (omega arith))
+
+module _ {s : List ℕ} {i j : ℕ} (p : Spans s i (bytes "kind=") j) where
+  -- behind its key a kind line ends so, and only a kind line does
+  pub kind_ends : (k : Kind) (r : List ℕ) → drop i s ≡ kind_line k ++ r → KindEnds s j k
+  kind_ends k r e =
+      let q : drop j s ≡ letter k ∷ 10 ∷ r = behind_key s (bytes "kind=") i j p (letter k ∷ bytes "\n") r (rw kind_spelled at e) in
+      let h : j + 2 ≤ length s = omega (arith, length-drop j s, ap length q) in
+      record { room = h; named = cc (two_bytes s j h); ended = cc (two_bytes s j h) }
+
+  pub kind_line_lem : (k : Kind) → KindEnds s j k → Spans s i (kind_line k) (j + 2)
+  kind_line_lem k h = rw kind_spelled (spans_join p (record { inside = h.room; spelled = cc (two_bytes s j h.room) }))
 
 -- ── Values ──
 abbrev ValueRun : List ℕ → Type 0

@@ -1,15 +1,33 @@
 -- Laws of the rows that become 0.
 use Prim.Native.Nat.{ℕ, suc, ◌+◌, ◌*◌, ◌/◌, ◌%◌, ◌≤◌, ◌<◌}
-use mathlib.Core.Path.{◌≡◌, sym, ap, ◌∙◌}
+use mathlib.Core.Path.{◌≡◌, sym, ap, ◌∙◌, subst}
 use mathlib.Core.Logic.{◌≢◌, ◌⊎◌, inl, inr, ⊎_elim}
 use mathlib.Core.List.{List}
 use native.Mathlib.Nat.{eq-or-lt_of_le, mul-le-mul_right, div-add-mod', div-lt_iff_lt-mul, mod-lt}
 use native.Mathlib.Omega.{arith}
-use lib.ListN.{get_or}
-use Rattle.layout.proofs.Frames.{same_none, same_then, same_wider}
+use lib.ListN.{length, get_or, set}
+use lib.Seq.{get_or-set_same, get_or-set_other}
+use Rattle.layout.proofs.Frames.{frame_none, frame_then, frame_wider, set_frame, same_none, same_then, same_wider}
 use Rattle.matrices.proofs.Drawing.{redrawn_same}
 use Rattle.layout.specs.Blocks.{Rest, rows_at, Aside}
 use Rattle.equalities.specs.Steps.{Zeroed, Cleared, Empty}
+
+-- ── Words from an offset on ──
+pub zeroed_none : (at : ℕ) (p : List ℕ) → Zeroed at 0 p p
+zeroed_none at p = record { frame = frame_none p; zero = λ i h. absurd (omega arith) }
+
+pub zeroed_step : {at k : ℕ} {p q : List ℕ} → Zeroed at k p q → at + k < length p → Zeroed at (k + 1) p (set q (at + k) 0)
+zeroed_step {at} {k} {p} {q} z room = record {
+  frame = frame_then (frame_wider (omega arith) (omega arith) z.frame) (frame_wider (omega arith) (omega arith) (set_frame q (at + k) 0));
+  zero = λ i h. go i (eq-or-lt_of_le (omega arith));
+}
+  where
+    go : (i : ℕ) → (i ≡ k) ⊎ (i < k) → get_or (set q (at + k) 0) (at + i) 0 ≡ 0
+    go i (inl e) = ap (λ (j : ℕ). get_or (set q (at + k) 0) (at + j) 0) e ∙ get_or-set_same q (at + k) 0 0 (omega (arith, z.frame.long))
+    go i (inr h) = get_or-set_other q (at + k) (at + i) 0 0 (omega arith) ∙ z.zero i h
+
+pub zeroed_to : {at k m : ℕ} {p q : List ℕ} → k ≡ m → Zeroed at k p q → Zeroed at m p q
+zeroed_to {at} {p = p} {q} e z = subst (λ (x : ℕ). Zeroed at x p q) e z
 
 -- ── The rows of the blocks ──
 pub cleared_none : (n : ℕ) (p : List ℕ) → Cleared n 0 p p

@@ -1,4 +1,5 @@
 pub mod Keys
+pub mod Words
 pub mod Links
 pub mod Searching
 pub mod Inserting

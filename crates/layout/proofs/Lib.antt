@@ -1,4 +1,5 @@
 pub mod Cells
 pub mod Frames
 pub mod Rest
+pub mod Filling
 pub mod Fitting

@@ -62,6 +62,10 @@ pub byte_one : (b : Bool) → bool_byte b ≡ one b
 byte_one true = refl
 byte_one false = refl
 
+pub byte_small : (b : Bool) → bool_byte b ≤ 1
+byte_small true = omega arith
+byte_small false = omega arith
+
 one_small : (b : Bool) → one b ≤ 1
 one_small true = omega arith
 one_small false = omega arith

@@ -3,13 +3,14 @@ use Prim.Native.Nat.{ℕ, zero-le, suc, ◌+◌, ◌-◌, ◌*◌, ◌^◌, ◌�
 use mathlib.Core.Path.{◌≡◌, refl, sym, ap, ◌∙◌, subst}
 use mathlib.Core.Bool.{Bool, true, false}
 use mathlib.Core.Logic.{◌⊎◌, inl, inr}
-use mathlib.Core.Option.{some}
+use mathlib.Core.Option.{none, some}
 use mathlib.Core.List.{List, [], ◌∷◌, ◌++◌, append-nil}
 use lib.ListN.{length, get_or, take, drop}
-use lib.Seq.{slice, slice-cons, get_or-take, get_or-drop}
+use lib.Seq.{slice, slice_empty, slice-cons, get_or-take, get_or-drop}
 use lib.Dec.{lit<, ltb, leb, eqb}
 use native.Mathlib.Omega.{arith}
-use native.Mathlib.Nat.{pow-le-pow_right, mul-lt-mul_of_pos_right}
+use native.Mathlib.Nat.{pow-le-pow_right, pow-succ', mul_assoc, mul-lt-mul_of_pos_right}
+use native.Mathlib.Numerals.{add-one}
 use borrow.Author.Tests.{ltb-true, leb-true, leb-false, lt-leb, lt-ltb, le-ltb, eq-eqb, ne_eqb}
 use Rattle.std.proofs.lemmas.Nat.{pow-add}
 use Rattle.limits.specs.Limits.{numeral_digits, numeral_decimals}
@@ -135,6 +136,22 @@ module _ (s : List ℕ) (from to : ℕ) (c : Scan) where
   abbrev pub Scanning : ℕ → Scan → Type 0
   Scanning i r = (bs : List ℕ) → resume r (slice i to s ++ bs) ≡ resume c (slice from to s ++ bs)
 
+  pub scanning_none : Scanning from c
+  scanning_none bs = refl
+
+  -- what is left of it, or that nothing is
+  pub scanning_all : (i : ℕ) (r : Possibly Scan) → i ≡ to → ((bs : List ℕ) → resume_if r (slice i to s ++ bs) ≡ resume c (slice from to s ++ bs)) → Scanned r
+  scanning_all i r e g bs = ap (λ (x : List ℕ). resume_if r (x ++ bs)) (sym (slice_empty to s) ∙ ap (λ j. slice j to s) (sym e)) ∙ g bs
+
+  -- one byte more
+  pub scanning_more : (i : ℕ) (r : Scan) (r' : Possibly Scan) → i < to → to ≤ length s → Scanning i r → Steps r.part r (get_or s i 0) r'
+      → (bs : List ℕ) → resume_if r' (slice (i + 1) to s ++ bs) ≡ resume c (slice from to s ++ bs)
+  scanning_more i r r' h l g p bs = rw add-one (p (slice (suc i) to s ++ bs) ∙ ap (λ (x : List ℕ). resume r (x ++ bs)) (sym (slice-cons i to s 0 h l)) ∙ g bs)
+
+  -- what has failed has failed with all bytes to come
+  pub scanning_lost : (i : ℕ) (r : Possibly Scan) → ((bs : List ℕ) → resume_if r bs ≡ none) → ((bs : List ℕ) → resume_if r (slice i to s ++ bs) ≡ resume c (slice from to s ++ bs)) → Scanned r
+  scanning_lost i r n g bs = n bs ∙ sym (n (slice i to s ++ bs)) ∙ g bs
+
   -- byte k of those that are read
   abbrev pub byte : ℕ → ℕ
   byte k = get_or (take (to - from) (drop from s)) k 0
@@ -147,12 +164,13 @@ module _ (s : List ℕ) (from to : ℕ) (c : Scan) where
       let rest = slice (suc (from + k)) to s ++ bs in
       rw e (p rest ∙ ap (λ y. resume r (y ∷ rest)) same ∙ ap (λ (x : List ℕ). resume r (x ++ bs)) (sym (slice-cons (from + k) to s 0 h l)) ∙ g bs)
 
-  pub scanning_more : (k : ℕ) (r r' : Scan) → from + k < to → to ≤ length s → Scanning (from + k) r → Steps r.part r (byte k) (Some r') → Scanning (from + (k + 1)) r'
-  scanning_more k r r' = taken k r (Some r')
+  -- at byte k, as the loop has it
+  pub scanning_on : (k : ℕ) (r r' : Scan) → from + k < to → to ≤ length s → Scanning (from + k) r → Steps r.part r (byte k) (Some r') → Scanning (from + (k + 1)) r'
+  scanning_on k r r' = taken k r (Some r')
 
-  -- what has failed has failed with all bytes to come
-  pub scanning_lost : (k : ℕ) (r : Scan) → from + k < to → to ≤ length s → Scanning (from + k) r → Steps r.part r (byte k) None → Scanned None
-  scanning_lost k r = taken k r None
+  -- a byte at which the scan fails: it has failed with all bytes to come
+  pub scanning_ends : (k : ℕ) (r : Scan) → from + k < to → to ≤ length s → Scanning (from + k) r → Steps r.part r (byte k) None → Scanned None
+  scanning_ends k r = taken k r None
 
 -- a scan of all bytes of a string
 pub scanned : (x : List ℕ) (c : Scan) (r : Possibly Scan) → ((bs : List ℕ) → resume c bs ≡ amount_of bs) → ((bs : List ℕ) → resume_if r bs ≡ resume c (x ++ bs)) → resume_if r [] ≡ amount_of x
@@ -160,6 +178,14 @@ scanned x c r f g = g [] ∙ f (x ++ []) ∙ ap amount_of (append-nil x)
 
 -- ── The end ──
 -- a zero for each decimal that is not there
+pub padded_more : (n k : ℕ) → k < numeral_decimals → n * 10 * 10 ^ (numeral_decimals - (k + 1)) ≡ n * 10 ^ (numeral_decimals - k)
+padded_more n k h =
+    let e : numeral_decimals - k ≡ suc (numeral_decimals - (k + 1)) = omega arith in
+    rw (e, pow-succ') (mul_assoc n 10 (10 ^ (numeral_decimals - (k + 1))))
+
+pub padded_all : (n k : ℕ) → k ≡ numeral_decimals → n ≡ n * 10 ^ (numeral_decimals - k)
+padded_all n k e = rw e (omega arith)
+
 pub padded_small : (n k : ℕ) → k ≤ numeral_decimals → n < 10 ^ (numeral_digits + k) → n * 10 ^ (numeral_decimals - k) < bias
 padded_small n k h l =
     let e : numeral_digits + numeral_decimals ≡ numeral_digits + k + (numeral_decimals - k) = omega arith in

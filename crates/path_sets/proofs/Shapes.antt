@@ -1,7 +1,7 @@
 -- A path's kind tells how it is made, and so where its inner paths stand and that their numbers have room.
 use Prim.Native.Nat.{ℕ, ◌+◌, ◌<◌, ◌≤◌}
 use native.Mathlib.Omega.{arith}
-use Rattle.std.specs.Prelude.{Option, Some}
+use Rattle.std.specs.Prelude.{Option, Some, None}
 use mathlib.Core.Path.{◌≡◌, refl, sym, ap, subst, ◌∙◌}
 use mathlib.Core.Logic.{◌⊎◌, inl, inr, ⊎_elim}
 use mathlib.Core.List.{List, [], ◌∷◌, ◌++◌}
@@ -186,6 +186,10 @@ module _ (s : List ℕ) where
     step_room e (P, j, a, l) = let (t, h) = stepped e P (kind P j a) in let z = ap size h in omega arith
 
 -- ── The paths of a comparison ──
+-- the first path alone
+pub first_of : (s : List ℕ) (at : ℕ) (behind : Option ℕ) → TwoPaths s at behind → TwoPaths s at None
+first_of s at behind (P, R, a) = let l = a.few in (P, empty, record { end = a.end; first = a.first; second = refl; few = omega arith })
+
 module _ (s : List ℕ) (at : ℕ) {behind : Option ℕ} where
   pub path_room : TwoPaths s at behind → Room s at 1
   path_room (P, R, a) = let l = a.few in (P, a.end, a.first, omega arith)

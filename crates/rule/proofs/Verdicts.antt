@@ -101,10 +101,10 @@ module _ (s : List ℕ) where
         earliest q (RuleGround.heavy {o = p} g) e = stage_later (steps p) (nesting o) (omega arith) e
 
     -- ── Reading ends on the way ──
-    stuck_judged : {j : ℕ} → StuckAt s j (test 1) 0 → First (RuleGround s) (unreadable j)
+    pub stuck_judged : {j : ℕ} → StuckAt s j (test 1) 0 → First (RuleGround s) (unreadable j)
     stuck_judged h = first_unread (rule_stops s h.ends) (none_deep h.seen (ap seen_of (h.ends.ends [] (λ t. t.0) [])) h.shallow)
 
-    deep_judged : {j : ℕ} → DeepAt s j (test 1) 0 → First (RuleGround s) (nesting j)
+    pub deep_judged : {j : ℕ} → DeepAt s j (test 1) 0 → First (RuleGround s) (nesting j)
     deep_judged h = first_deep (rule_deep s h.ends (all_imp _ _ (λ k l e. omega arith) h.seen h.shallow))
 
     pub read_judged : (e : Read.Refusal) (r : Result (Unit {0}) Rule.Refusal) → IsErrAnd r (λ d. d ≡ read_refusal e) → RefusedAt s e (test 1) 0 → Judged s r

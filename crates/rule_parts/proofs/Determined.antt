@@ -43,7 +43,7 @@ module _ (s : List ℕ) (x : Symbol) {i j : ℕ} {v : Value x} {ks : List Key} (
   on st = c.comes st (any (x ∷ st)) []
 
   -- the machine is not stuck at the end of what it read: at what is left it goes on, if that is due
-  not_stuck : {m : ℕ} → ¬ StuckAt s m x i
+  pub not_stuck : {m : ℕ} → ¬ StuckAt s m x i
   unfolding any over move rest
   not_stuck {m} h = go (drop j s) (λ st. sym (on st) ∙ h.ends.ends st (any (x ∷ st)) [])
     where
@@ -60,7 +60,7 @@ module _ (s : List ℕ) (x : Symbol) {i j : ℕ} {v : Value x} {ks : List Key} (
   saw [] = refl
   saw (b ∷ w) = refl
 
-  not_deep : {m : ℕ} → Shallow ks → ¬ DeepAt s m x i
+  pub not_deep : {m : ℕ} → Shallow ks → ¬ DeepAt s m x i
   not_deep {m} low h =
       let (t, w, e, d, n) = h.ends.ends [] (any (x ∷ [])) [] in
       let (more, g, l) = answer_grows w t in

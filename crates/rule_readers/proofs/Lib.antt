@@ -1,3 +1,4 @@
+pub mod Calls
 pub mod Tallied
 pub mod Operands
 pub mod Tests

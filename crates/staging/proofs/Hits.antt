@@ -26,13 +26,21 @@ use Rattle.rule_parts.specs.declared.kinds.Operator.{Operator}
 use Rattle.rule_parts.specs.Kinds.{operator}
 use Rattle.constants.specs.declared.Place.{Place}
 use Rattle.constants.specs.declared.Target.TheVariants.{Text, Amount}
-use Rattle.constants.specs.Places.{Compares, against, Placed}
+use Rattle.std.specs.declared.cmp.Ordering.{Ordering}
+use Rattle.constants.specs.Places.{Compares, against, Told, Placed}
 use Rattle.amounts.proofs.Kept.{weighed_some}
-use Rattle.staging.specs.Signs.{ByText}
+use Rattle.staging.specs.Signs.{Stands, ByText}
 use Rattle.staging.specs.Drawing.{Hit, HitsFilled, HitsCleared, Judged}
 use Rattle.staging.proofs.Drawn.{Drawn, drawn_within}
 use Rattle.staging.proofs.Links.{column_ends}
 use Rattle.staging.proofs.Signs.{key, stands_text, stands_amount, amounts_both}
+
+-- ── One node, whose rank r was read ──
+pub hit_none : {n r w : ℕ} {p : Place} {o : Operator} → r ≡ w → n ≤ r → Hit n p o w 0
+hit_none e l = record { none = λ k. refl; some = λ k. absurd (omega arith) }
+
+pub hit_some : {n r w x : ℕ} (p : Place) {o : Operator} (c : Ordering) → r ≡ w → r < n → Told p r c → ((q : Op) → o ≡ operator q → (x ≡ 1) ↔ Stands q c) → Hit n p o w x
+hit_some p c e l h f = record { none = λ k. absurd (omega arith); some = λ k. (c, subst (λ (i : ℕ). Told p i c) e h, f) }
 
 -- ── The loops ──
 abbrev pub Hits : List ℕ → ℕ → ℕ → Place → Operator → ℕ → ℕ → Type 0
@@ -45,6 +53,9 @@ hits_same {n = n} {c = c} {p = p} {o = o} {v = v} {x = x} d l r h = subst (λ (w
 
 pub hits_filled : {n c i : ℕ} {p : Place} {o : Operator} {t t' : List ℕ} → Drawn (Hits t n c p o) ((COLUMNS + HIT) * n) n i t t' → n ≤ i → HitsFilled n c p o t t'
 hits_filled {n} d l = record { within = drawn_within n (COLUMNS + HIT) (COLUMNS + HIT + 1) refl (omega arith) d; done = λ v r. d.done v (omega arith) }
+
+pub hits_cleared : {n i : ℕ} {t t' : List ℕ} → Drawn (λ v x. x ≡ 0) ((COLUMNS + HIT) * n) n i t t' → n ≤ i → HitsCleared n t t'
+hits_cleared {n} d l = record { within = drawn_within n (COLUMNS + HIT) (COLUMNS + HIT + 1) refl (omega arith) d; done = λ v r. d.done v (omega arith) }
 
 -- ── What the hits tell ──
 -- 0 tells that A does not hold

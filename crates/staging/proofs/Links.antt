@@ -9,6 +9,14 @@ use Rattle.layout.specs.Table.{COLUMNS, LEFT, PARENT, RANK}
 use Rattle.layout.specs.Words.{word}
 use Rattle.layout.proofs.Frames.{frame_wider, frame_within}
 use Rattle.staging.specs.Drawing.{Repeated, Copied, RanksCopied}
+use Rattle.staging.proofs.Drawn.{Drawn}
+
+-- x is the word k behind `from`
+abbrev pub Taken : List ℕ → ℕ → ℕ → ℕ → Type 0
+Taken t from k x = x ≡ get_or t (from + k) 0
+
+pub taken_all : {from to size i : ℕ} {t t' : List ℕ} → Drawn (Taken t from) to size i t t' → size ≤ i → Repeated from to size t t'
+taken_all d l = record { frame = d.frame; again = λ k h. d.done k (omega arith) }
 
 -- three columns from LEFT on
 pub links_copied : {n : ℕ} {t t' : List ℕ} → Repeated (LEFT * n) ((COLUMNS + LEFT) * n) (3 * n) t t' → Copied n t t'

@@ -38,6 +38,13 @@ told_not false h = told_yes (λ a. clash (h.1 a))
 pub told_left : {A : Type 0} {r : Bool} → r ≡ false → (r ≡ true) ↔ A → ¬ A
 told_left e h a = clash (sym e ∙ h.1 a)
 
+-- 1 and 0 tell it too
+pub counted_yes : {A : Type 0} {r : Bool} → r ≡ true → (r ≡ true) ↔ A → (◌≡◌ {A = ℕ} 1 1) ↔ A
+counted_yes e h = (λ z. h.0 e, λ a. refl)
+
+pub counted_no : {A : Type 0} {r : Bool} → r ≡ false → (r ≡ true) ↔ A → (◌≡◌ {A = ℕ} 0 1) ↔ A
+counted_no e h = (λ z. absurd (omega arith), λ a. absurd (told_left e h a))
+
 -- ── The sign that an operator stands for ──
 abbrev sign : Operator → Op
 sign Alike = eq
@@ -77,6 +84,14 @@ ranks_amount gt f = refl
 ranks_amount ge f = refl
 
 -- ── How values compare: in one of three ways ──
+abbrev code : Ordering → ℕ
+code Less = 0
+code Equal = 1
+code Greater = 2
+
+pub apart : {A : Type 0} {c d : Ordering} → c ≡ d → ¬ (code c ≡ code d) → A
+apart e f = absurd (f (ap (λ (c : Ordering). code c) e))
+
 same_text : (bs cs : List ℕ) (c : Ordering) → Compares Bytes.Less bs cs c → (c ≡ Equal) ↔ (bs ≡ cs)
 same_text bs cs Less h = (λ e. absurd (cc), λ e. absurd (less_distinct bs cs h e))
 same_text bs cs Equal h = (λ e. h, λ e. refl)

@@ -49,11 +49,14 @@ parts_one {input} {r} {d} {r'} {d'} p q = go p.joined q.joined
     go (inr (e, g)) (inr (f, h)) = (sym e ∙ f, g ∙ sym h)
 
 -- ── The search: no LF is among the first i bytes ──
-record Searched (s : List ℕ) (i : ℕ) : Type 0 where
+pub record Searched (s : List ℕ) (i : ℕ) : Type 0 where
   pub inside : i ≤ length s
   pub none : ¬ Occurs lf (take i s)
 
-searched_more : {s : List ℕ} {i : ℕ} → Searched s i → i < length s → ¬ (get_or s i 0 ≡ lf) → Searched s (i + 1)
+pub searched_none : (s : List ℕ) → Searched s 0
+searched_none s = record { inside = omega arith; none = λ o. o }
+
+pub searched_more : {s : List ℕ} {i : ℕ} → Searched s i → i < length s → ¬ (get_or s i 0 ≡ lf) → Searched s (i + 1)
 searched_more {s} {i} h l n = record { inside = omega arith; none = λ o. new (rw (add-one, take-suc s i 0) at o) }
   where
     new : ¬ Occurs lf (take i s ++ (get_or s i 0 ∷ []))
@@ -61,20 +64,22 @@ searched_more {s} {i} h l n = record { inside = omega arith; none = λ o. new (r
 
 -- no byte before i is an LF
 searched_to : (s : List ℕ) (i : ℕ) → i ≤ length s → ((k : ℕ) → k < i → ¬ (get_or s k 0 ≡ lf)) → Searched s i
-searched_to s zero l f = record { inside = omega arith; none = λ o. o }
+searched_to s zero l f = searched_none s
 searched_to s (suc i) l f = rw (← add-one) (searched_more (searched_to s i (omega arith) (λ k m. f k (omega arith))) (omega arith) (f i (omega arith)))
 
-pub split_found : (s : List ℕ) (i : ℕ) → i < length s → get_or s i 0 ≡ lf → ((k : ℕ) → k < i → ¬ (get_or s k 0 ≡ lf)) → SplitAt s i (i + 1)
-split_found s i l e f = record { ends = h.inside; begins = omega arith; parts = record { one_line = h.none; joined = inl cut } }
+-- the LF that is found ends the rule; where none is, the rule is all
+pub split_found : {s : List ℕ} {i : ℕ} → Searched s i → i < length s → get_or s i 0 ≡ lf → SplitAt s i (i + 1)
+split_found {s} {i} h l e = record { ends = h.inside; begins = omega arith; parts = record { one_line = h.none; joined = inl cut } }
   where
-    h : Searched s i
-    h = searched_to s i (omega arith) f
-
     cut : s ≡ take i s ++ (lf ∷ drop (i + 1) s)
     cut = subst (λ b. s ≡ take i s ++ (b ∷ drop (i + 1) s)) e (rw add-one (split_at s i 0 l))
 
-pub split_none : (s : List ℕ) → ((k : ℕ) → k < length s → ¬ (get_or s k 0 ≡ lf)) → SplitAt s (length s) (length s)
-split_none s f =
-    let l : length s ≤ length s = omega arith in
-    let h = searched_to s (length s) l f in
-    record { ends = l; begins = l; parts = record { one_line = h.none; joined = inr (sym (take_all (length s) s l), drop_of_length-le s l) } }
+pub split_none : {s : List ℕ} {i : ℕ} → Searched s i → length s ≤ i → SplitAt s i i
+split_none {s} {i} h m = record { ends = h.inside; begins = h.inside; parts = record { one_line = h.none; joined = inr (sym (take_all i s m), drop_of_length-le s m) } }
+
+-- the same, of what a search hands back
+pub split_first : (s : List ℕ) (i : ℕ) → i < length s → get_or s i 0 ≡ lf → ((k : ℕ) → k < i → ¬ (get_or s k 0 ≡ lf)) → SplitAt s i (i + 1)
+split_first s i l e f = split_found (searched_to s i (omega arith) f) l e
+
+pub split_all : (s : List ℕ) → ((k : ℕ) → k < length s → ¬ (get_or s k 0 ≡ lf)) → SplitAt s (length s) (length s)
+split_all s f = let l : length s ≤ length s = omega arith in split_none (searched_to s (length s) l f) l

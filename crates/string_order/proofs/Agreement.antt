@@ -6,7 +6,7 @@ use mathlib.Core.List.{List}
 use native.Mathlib.Omega.{arith}
 use native.Mathlib.Decide.{dec_lt}
 use lib.ListN.{length, get_or, take, drop, length-drop}
-use lib.Seq.{slice, take-take, length-take-le, get_or-take, get_or-drop}
+use lib.Seq.{slice, take-take, length-take-le, get_or-take, get_or-drop, ext_get_or}
 use Rattle.std.proofs.lemmas.List.{drop-take}
 use Rattle.string_order.specs.Ordered.{Common, Begins, Agrees}
 
@@ -55,6 +55,16 @@ module _ (x y : List ℕ) where
 
   pub begins_more : (k : ℕ) → Begins x y k → k < length x → get_or x k 0 ≡ get_or y k 0 → Begins x y (k + 1)
   begins_more k a h e = record { within = omega arith; common = common_more k a.common e }
+
+  -- ── And no further one ──
+  pub begins_all : (k : ℕ) → length x ≡ length y → Begins x y k → (k < length x → get_or x k 0 ≢ get_or y k 0) → Agrees x y k
+  begins_all k l a d =
+      let w = a.within in let m = length-take-le k x (omega arith) in let o = length-take-le k y (omega arith) in
+      record {
+        within = w;
+        same = ext_get_or 0 (take k x) (take k y) (omega arith) (λ n z. get_or-take k x n 0 (omega arith) ∙ a.common n (omega arith) ∙ sym (get_or-take k y n 0 (omega arith)));
+        differ = d;
+      }
 
 -- ── What parts that agree say of the whole ──
 module _ (x y : List ℕ) (i j most k : ℕ) (l : i + most ≤ length x) (h : Agrees (part i most x) (part j most y) k) where

@@ -225,6 +225,9 @@ module _ (s : List ℕ) where
           let l = a.few in let n = length-append (steps P) (steps R) in let (j, c) = subst (SecondAt s R) there a.second in
           record { first = P; second = R; first_end_lem = a.end; second_end_lem = j; first_at_lem = a.first; second_at_lem = c; both = refl; tests = refl; few = omega arith; room = r }
 
+      pub compared : TwoNumbered s at behind k → (xs : List Step) × (Ts : List Test) × Pair at b 1 k xs Ts
+      compared (P, R, a, r) = (steps P ++ steps R, path_tests P ++ path_tests R, pair_at_lem P R a r)
+
       pub second_numbered : {f : List ℕ} {p : Next} → TwoNumbered s at behind k → Walks s at 1 k (replicate 16 0) f p → PathRoom s b p.step p.test
       second_numbered (P, R, a, r) u = second_room at b 1 k (pair_at_lem P R a r) u
 

@@ -5,5 +5,6 @@ pub mod Names
 pub mod Numbers
 pub mod Constants
 pub mod Signs
+pub mod Halted
 pub mod FirstBytes
 pub mod Refused

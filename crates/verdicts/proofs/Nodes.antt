@@ -1,16 +1,32 @@
 -- Whether a list has numbers of nodes alone.
-use Prim.Native.Nat.{ℕ, ◌≤◌, ◌<◌}
-use mathlib.Core.Path.{◌≡◌, refl}
+use Prim.Native.Nat.{ℕ, ◌+◌, ◌≤◌, ◌<◌}
+use native.Mathlib.Numerals.{add-one}
+use mathlib.Core.Path.{◌≡◌, refl, sym, ap, ◌∙◌, subst}
 use mathlib.Core.Logic.{◌⊎◌, inl, inr, ◌↔◌}
 use mathlib.Core.Bool.{Bool, true, false, false≢true}
 use mathlib.Core.List.{List, [], ◌∷◌}
-use lib.ListN.{length, get_or}
+use lib.ListN.{length, get_or, drop, drop_of_length-le}
+use lib.Seq.{drop-cons}
 use lib.Dec.{ltb}
 use borrow.Author.Tests.{ltb-true, ltb-false}
 use Rattle.lists.specs.Lists.{All, Occurs}
 use Rattle.lists.proofs.Indices.{all_at, at_all}
 use Rattle.verdicts.specs.Judging.{HasNodes}
 
+-- ── Looked at from the front ──
+-- if those from i on are numbers of nodes, all are
+abbrev pub Behind : ℕ → List ℕ → ℕ → Type 0
+Behind n vs i = All (λ w. w < n) (drop i vs) → All (λ w. w < n) vs
+
+pub behind_more : (n : ℕ) (vs : List ℕ) (i : ℕ) → i < length vs → get_or vs i 0 < n → Behind n vs i → Behind n vs (i + 1)
+behind_more n vs i l h f a =
+    let e : drop i vs ≡ get_or vs i 0 ∷ drop (i + 1) vs = drop-cons vs i 0 l ∙ ap (λ j. get_or vs i 0 ∷ drop j vs) (sym (add-one i)) in
+    f (subst (All (λ w. w < n)) (sym e) (h, a))
+
+pub behind_all : (n : ℕ) (vs : List ℕ) (i : ℕ) → length vs ≤ i → Behind n vs i → All (λ w. w < n) vs
+behind_all n vs i l f = f (subst (All (λ w. w < n)) (sym (drop_of_length-le vs l)) tt)
+
+-- ── Looked at all together ──
 -- all are, or there is one that is not
 abbrev Looked : ℕ → List ℕ → Type 0
 Looked n vs = All (λ w. w < n) vs ⊎ ((w : ℕ) × Occurs w vs × (n ≤ w))

@@ -1,7 +1,7 @@
 -- `constants::compare_value` meets its contract.
 use mathlib.Core.Path.{subst}
 use Rattle.constants.specs.Places.{InRule}
-use Rattle.constants.proofs.Targets.{compared_text, compared_amount}
+use Rattle.constants.proofs.Targets.{compared_text, compared_key}
 use Rattle.constants.proofs.compare_value.Goals as goal
 
 pub compare_text-requires : goal.compare_text-requires
@@ -17,4 +17,4 @@ returns-in-Text c =
 pub returns-in-Amount : goal.returns-in-Amount
 returns-in-Amount c =
     let x = c.args in
-    λ ns a. compared_amount ns x.rule.now x.v x.c c.cmp.result c.node_key.result c.in-Amount.k c.in-Amount.is (c.node_key.ensures ns a) c.cmp.ensures
+    λ ns a. compared_key ns x.rule.now x.v x.c c.cmp.result c.node_key.result c.in-Amount.k c.in-Amount.is (c.node_key.ensures ns a) c.cmp.ensures
