@@ -18,7 +18,7 @@ use Rattle.machine.proofs.Shape.{parent_case}
 
 -- ── The way so far ──
 -- the way has reached x by x's child c, m edges above y, and met no skeleton node before; or it has left the tree and met none
-abbrev OnWay : Tree → List ℕ → ℕ → ℕ → ℕ → ℕ → Type 0
+abbrev pub OnWay : Tree → List ℕ → ℕ → ℕ → ℕ → ℕ → Type 0
 OnWay t d y x m c =
     (Climbed t d x y m × ((side : Bool) × Child t side x c × Under t c y))
     ⊎ ((x ≡ NONE) × ((s : ℕ) → Skeleton t d s → Under t s y → s ≡ y))
@@ -89,6 +89,14 @@ module _ {t : Tree} {n : ℕ} {p : List ℕ} (s : Shape t n p) {r y : ℕ} where
       go t d g (inr (o, k)) = let few = s.few in absurd (omega arith)
 
 -- ── Where the way ends ──
+-- above the root: x is no node, whatever number it is
+pub way_top : {n r y x m c : ℕ} {p : List ℕ} → ((t : Tree) (d : List ℕ) → Group t d n r p → OnWay t d y x m c) → n ≤ x → Topmost n r y p
+way_top {y = y} {x} {m} {c} way end t d g k = go (way t d g)
+  where
+    go : OnWay t d y x m c → (s : ℕ) → Skeleton t d s → Under t s y → s ≡ y
+    go (inl (i, (side, j, u))) = let a = child_after g.shape.formed j in let b = j.inside in let e = g.shape.size in absurd (omega arith)
+    go (inr (none, top)) = top
+
 module _ {n r y x m c : ℕ} {p : List ℕ} (h : Climbing n r y x m c p) where
   -- at a skeleton node
   pub climbing_at : y < n → x < n → ((t : Tree) (d : List ℕ) → Group t d n r p → Skeleton t d x) → Ascent n r y x m c p
@@ -102,11 +110,7 @@ module _ {n r y x m c : ℕ} {p : List ℕ} (h : Climbing n r y x m c p) where
 
   -- above the root
   pub climbing_top : n ≤ x → Topmost n r y p
-  climbing_top end t d g k = go (h.way t d g)
-    where
-      go : OnWay t d y x m c → (s : ℕ) → Skeleton t d s → Under t s y → s ≡ y
-      go (inl (i, (side, j, u))) = let a = child_after g.shape.formed j in let b = j.inside in let e = g.shape.size in absurd (omega arith)
-      go (inr (none, top)) = top
+  climbing_top = way_top h.way
 
   -- where the next node belongs to the skeleton of each group: at it, or above the root if there is none
   pub climbing_met : y < n → ((t : Tree) (d : List ℕ) → Group t d n r p → Skeleton t d x) → ((x < n) × Ascent n r y x m c p) ⊎ ((x ≡ NONE) × Topmost n r y p)
